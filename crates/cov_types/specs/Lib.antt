@@ -1,0 +1,2 @@
+pub mod Coord
+pub mod Seg

@@ -1,0 +1,9 @@
+use crate::seg::Seg;
+
+/// One use of a segment by a member of a coverage.
+#[derive(Clone, Copy, Debug, PartialEq, Eq)]
+pub struct EdgeUse {
+    /// The number of the member, from 0.
+    pub member: u32,
+    pub seg: Seg,
+}

@@ -1,0 +1,18 @@
+//! Coordinates, segments and polygon coverages on a whole-number grid: the types that every other crate
+//! speaks of, and the segments that a coverage uses.
+//!
+//! Its promise: `uses` lists the segments of non-zero length of a coverage, in the order of its members,
+//! polygons, rings and points, and of any set of points each member has an even number of their ends in it.
+#![tactic(auto)]
+
+mod coord;
+mod coverage;
+mod edge_use;
+mod no_memory;
+mod seg;
+
+pub use coord::Coord;
+pub use coverage::{Coverage, Member, Poly, Ring};
+pub use edge_use::EdgeUse;
+pub use no_memory::NoMemory;
+pub use seg::Seg;

@@ -1,0 +1,5 @@
+pub mod Point
+pub mod Segment
+pub mod Ray
+pub mod Parity
+pub mod Contact

@@ -1,0 +1,9 @@
+//! The plane: rational points, segments, the leaning ray and what it crosses.
+//!
+//! Its promise: each definition stands with a law that makes it believable, and none of them knows an
+//! index, a sweep or a graph.
+#![tactic(auto)]
+
+mod contact;
+
+pub use contact::{Badness, Contact};

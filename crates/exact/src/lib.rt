@@ -1,0 +1,2 @@
+//! The algebra of whole numbers that the polygon crates stand on.
+#![tactic(auto)]

@@ -42,10 +42,10 @@ same_from_neither a b h k =
 pub cases_coords : (a b : Coord) → IsTrue (is_before a b) ⊎ ((a ≡ b) ⊎ IsTrue (is_before b a))
 cases_coords a b =
     elim (is_before a b) as (λ t. is_before a b ≡ t → IsTrue (is_before a b) ⊎ ((a ≡ b) ⊎ IsTrue (is_before b a))) [
-      true ↦ λ h. inl h
-    | false ↦ λ h. elim (is_before b a) as (λ t. is_before b a ≡ t → IsTrue (is_before a b) ⊎ ((a ≡ b) ⊎ IsTrue (is_before b a))) [
-        true ↦ λ k. inr (inr k)
-      | false ↦ λ k. inr (inl (same_from_neither a b h k))
+      | true ↦ λ h. inl h
+      | false ↦ λ h. elim (is_before b a) as (λ t. is_before b a ≡ t → IsTrue (is_before a b) ⊎ ((a ≡ b) ⊎ IsTrue (is_before b a))) [
+        | true ↦ λ k. inr (inr k)
+        | false ↦ λ k. inr (inl (same_from_neither a b h k))
       ] refl
     ] refl
 

@@ -9,10 +9,14 @@ mod coord;
 mod coverage;
 mod edge_use;
 mod no_memory;
+mod range;
 mod seg;
+mod shape;
 
-pub use coord::Coord;
+pub use coord::{Coord, LIMIT};
 pub use coverage::{Coverage, Member, Poly, Ring};
 pub use edge_use::EdgeUse;
 pub use no_memory::NoMemory;
+pub use range::in_range;
 pub use seg::Seg;
+pub use shape::formed;

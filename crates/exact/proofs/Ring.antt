@@ -178,3 +178,7 @@ mul_neg x y = by_ring (x ∷ y ∷ []) (Var 0 ⊗ Neg (Var 1)) (Neg (Var 0 ⊗ V
 
 pub neg_mul_neg : (x y : ℤ) → neg_ℤ x *ℤ neg_ℤ y ≡ x *ℤ y
 neg_mul_neg x y = by_ring (x ∷ y ∷ []) (Neg (Var 0) ⊗ Neg (Var 1)) (Var 0 ⊗ Var 1) refl
+
+-- a multiple by a natural, for `omega` at a literal: `omega (arith, lin, pos_times 2 x)`
+pub pos_times : (n : ℕ) (x : ℤ) → (up (pos n *ℤ x) ≡ n * up x) × (down (pos n *ℤ x) ≡ n * down x)
+pos_times n x = omega (arith, product_is (pos n) x)

@@ -4,7 +4,7 @@
 //! A crate above takes a lemma by `use Rattle.exact.proofs.FILE.{NAME}` in its `proofs/`. The files, lowest first:
 //!
 //! - `Ring`: `by_ring` proves an equation of polynomials by computing both sides, `by_one`, `by_two` and `by_three` one that follows
-//!   from equations, by a certificate. Expressions are built of `Var`, `Lit`, `⊕`, `⊖`, `⊗` and `Neg`. The ruleset `lin` gives `omega`
+//!   from equations, by a certificate (`by_equations` from any number). Expressions are built of `Var`, `Lit`, `⊕`, `⊖`, `⊗` and `Neg`. The ruleset `lin` gives `omega`
 //!   sums, differences and comparisons, and leaves each product an unknown. Laws of products: `mul_add`, `add_mul`, `mul_sub`, `sub_mul`,
 //!   `mul_assoc`, `mul_comm`, `mul_left_comm`, `mul_zero`, `mul_one`, `neg_mul`, `mul_neg`, `neg_mul_neg`, `pos_times`.
 //! - `Compare`: the laws of `≤ℤ` and `<ℤ` (`le_trans`, `le_antisymm`, ..), cases (`trichotomy`, `lt_or_ge`, `le_or_gt`, `eq_or_not`,

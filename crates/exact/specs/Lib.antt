@@ -1,1 +1,3 @@
 pub mod Polynomial
+pub mod Bound
+pub mod Laws

@@ -74,7 +74,7 @@ positive_from_weights a b c r p q h zero zero e f w hp hq = absurd (omega arith)
 positive_from_weights a b c r p q h zero (suc n) e f w hp hq =
     let second : pos 0 <ℤ pos h.second = omega (arith, lin) in
     let swapped : form a b c r *ℤ pos (h.first * p.d + h.second * q.d) ≡ pos r.d *ℤ ((pos h.second *ℤ form a b c q) +ℤ (pos h.first *ℤ form a b c p)) =
-        form-between a b c r p q h ∙ ap (λ x. pos r.d *ℤ x) (omega (arith, lin)) in
+    form-between a b c r p q h ∙ ap (λ x. pos r.d *ℤ x) (omega (arith, lin)) in
     mean_positive (form a b c r) (pos (h.first * p.d + h.second * q.d)) (pos r.d) (pos h.second) (form a b c q) (pos h.first) (form a b c p)
     (between_weight r p q h) (d_positive r) second (omega (arith, lin)) swapped hq (omega (arith, lin))
 positive_from_weights a b c r p q h (suc m) n e f w hp hq =

@@ -1,0 +1,4 @@
+pub mod Points
+pub mod Forms
+pub mod Sides
+pub mod Sweeps

@@ -1,0 +1,14 @@
+//! Files and their faults: a trait for what a program does with files, reading a whole file and writing a
+//! whole file over it, and two objects that have it, one on disk and one in memory.
+//!
+//! Its promise: `slurp` answers all that a file holds or a refusal that has its cause, and `spill` leaves
+//! the file with all of the bytes, or at a fault with the first of them; both leave every other file alone.
+#![tactic(auto)]
+
+mod files;
+mod input;
+mod output;
+
+pub use files::{Failed, Files};
+pub use input::{SlurpError, slurp};
+pub use output::{WriteFault, spill};

@@ -1,5 +1,5 @@
 -- The order of coordinates.
-use Rattle.std.proofs.Common.{◌≡◌, ℤ, ◌<ℤ◌, ◌≤ℤ◌, int_lt, ◌&&◌, ◌||◌, not, true, false, ◌⊎◌, IsTrue, inl, inr, refl, arith}
+use Rattle.std.proofs.Common.{◌≡◌, ◌<ℤ◌, true, false, ◌⊎◌, IsTrue, inl, inr, refl, arith}
 use Rattle.std.proofs.lemmas.Int.{ints}
 use Rattle.cov_types.specs.Coord.{is_before}
 use Rattle.cov_types.specs.declared.coord.Coord.{Coord}

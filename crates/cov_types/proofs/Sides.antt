@@ -1,5 +1,5 @@
 -- The sides of a ring by place, and lists of uses that grow by one piece.
-use Rattle.std.proofs.Common.{◌≡◌, ℕ, ◌+◌, ◌<◌, ◌≤◌, List, ◌++◌, [], ◌∷◌, length, get_or, take, drop, min, zip, flat_map, ap, ap₂, sym, ◌∙◌, subst, zero-add, arith, length-append, length-take, length-drop, append_assoc, append-nil}
+use Rattle.std.proofs.Common.{◌≡◌, ℕ, ◌+◌, ◌<◌, ◌≤◌, List, ◌++◌, [], ◌∷◌, length, get_or, take, drop, flat_map, ap, ap₂, sym, ◌∙◌, subst, zero-add, arith, length-append, length-take, length-drop, append_assoc, append-nil}
 use Rattle.std.proofs.lemmas.List.{take_more, take_all, get_or_default, places}
 use Rattle.std.proofs.lemmas.List.Concat.{flat_map-append}
 use Rattle.std.proofs.lemmas.List.FromFn.{get_or-enumerate_from, length-enumerate_from}
@@ -77,13 +77,18 @@ side_all f points shown i start list same h so_far =
     flat_map-take_all f (sides points) i start list (omega (arith, length-sides points, ap length same)) so_far
 
 -- the member that a loop over the members comes to next, numbered from 0
-pub member_more : {X A : Type 0} (f : ℕ × X → List A) (xs : List X) (i : ℕ) (x : X) (list now : List A)
-    → i < length xs → x ≡ get_or xs i x → list ≡ flat_map f (take i (enumerate_from 0 xs)) → now ≡ list ++ f (i, x) → now ≡ flat_map f (take (i + 1) (enumerate_from 0 xs))
-member_more f xs i x list now h at so_far more =
+pub member_more : {X A : Type 0} (f : ℕ × X → List A) (xs shown : List X) (i : ℕ) (x : X) (list now : List A)
+    → shown ≡ xs → i < length shown → x ≡ get_or shown i x
+    → list ≡ flat_map f (take i (enumerate_from 0 xs)) → now ≡ list ++ f (i, x) → now ≡ flat_map f (take (i + 1) (enumerate_from 0 xs))
+member_more {X} f xs shown i x list now same h at so_far more =
+    let inside : i < length xs = omega (arith, ap length same) in
     let within : i < length (enumerate_from 0 xs) = omega (arith, length-enumerate_from 0 xs) in
-    let here = get_or-enumerate_from 0 xs i (i, x) h ∙ ap₂ (λ n y. (n, y)) (zero-add i) (sym at) in
+    let read : get_or xs i x ≡ x = sym (at ∙ ap (λ (l : List X). get_or l i x) same) in
+    let here = get_or-enumerate_from 0 xs i (i, x) inside ∙ ap₂ (λ (n : ℕ) (y : X). (n, y)) (zero-add i) read in
     flat_map-take_more f (enumerate_from 0 xs) i (i, x) [] list now within here so_far more
 
-pub member_all : {X A : Type 0} (f : ℕ × X → List A) (xs : List X) (i : ℕ) (list : List A)
-    → length xs ≤ i → list ≡ flat_map f (take i (enumerate_from 0 xs)) → list ≡ flat_map f (enumerate_from 0 xs)
-member_all f xs i list h so_far = flat_map-take_all f (enumerate_from 0 xs) i [] list (omega (arith, length-enumerate_from 0 xs)) so_far
+-- the members that the loop has come to at its end
+pub member_all : {X A : Type 0} (f : ℕ × X → List A) (xs shown : List X) (i : ℕ) (list : List A)
+    → shown ≡ xs → length shown ≤ i → list ≡ flat_map f (take i (enumerate_from 0 xs)) → list ≡ flat_map f (enumerate_from 0 xs)
+member_all f xs shown i list same h so_far =
+    flat_map-take_all f (enumerate_from 0 xs) i [] list (omega (arith, length-enumerate_from 0 xs, ap length same)) so_far

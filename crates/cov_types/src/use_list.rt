@@ -22,9 +22,7 @@ pub fn uses(alloc: Global, c: &Coverage) -> Result<Vec<EdgeUse>, NoMemory>
     ensures members { IfOk result (λ v. All (λ u. u.member < length c.now) v.items) }
 
     // Of any set of points, each member has an even number of segment ends in it.
-    ensures even {
-        IfOk result (λ v. (inside : Coord → Bool) (member : ℕ) → ends_in inside member v.items % 2 ≡ 0)
-    }
+    ensures even { IfOk result (λ v. (inside : Coord → Bool) (member : ℕ) → ends_in inside member v.items % 2 ≡ 0) }
 {
     let mut list = Vec::new(alloc);
     for (number, member) in c.members.iter().enumerate() {
@@ -56,7 +54,11 @@ fn add_ring(list: &mut Vec<EdgeUse>, member: u32, ring: &Ring) -> Result<(), NoM
 {
     let points = ring.points.as_slice();
     for (i, point) in points.iter().enumerate() {
-        let next = if i + 1 < points.len() { points[i + 1] } else { points[0] };
+        let next = if i + 1 < points.len() {
+            points[i + 1]
+        } else {
+            points[0]
+        };
         add_side(list, member, *point, next)?;
     }
     Ok(())

@@ -5,10 +5,13 @@
 //! the file with all of the bytes, or at a fault with the first of them; both leave every other file alone.
 #![tactic(auto)]
 
+mod disk;
+mod faults;
 mod files;
 mod input;
 mod output;
 
+pub use disk::Disk;
 pub use files::{Failed, Files};
 pub use input::{SlurpError, slurp};
 pub use output::{WriteFault, spill};

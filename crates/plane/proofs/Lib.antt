@@ -5,3 +5,4 @@ pub mod Sweeps
 pub mod Over
 pub mod Same
 pub mod Contacts
+pub mod Examples

@@ -1,3 +1,4 @@
-pub mod Signs
 pub mod Points
 pub mod Forms
+pub mod Sides
+pub mod Sweeps

@@ -2,3 +2,5 @@ pub mod Points
 pub mod Forms
 pub mod Sides
 pub mod Sweeps
+pub mod Meeting
+pub mod Contacts

@@ -2,5 +2,10 @@ pub mod Points
 pub mod Forms
 pub mod Sides
 pub mod Sweeps
-pub mod Meeting
+pub mod Over
+pub mod Same
 pub mod Contacts
+pub mod Meeting
+pub mod Along
+pub mod Middle
+pub mod MeetsBadly

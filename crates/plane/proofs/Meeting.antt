@@ -96,7 +96,7 @@ meeting s t w positive = record {
   x = (turn_of t.lo t.hi s.hi *ℤ s.lo.x) -ℤ (turn_of t.lo t.hi s.lo *ℤ s.hi.x);
   y = (turn_of t.lo t.hi s.hi *ℤ s.lo.y) -ℤ (turn_of t.lo t.hi s.lo *ℤ s.hi.y);
   d = w;
-  positive = positive
+  positive = positive;
 }
 
 -- over plain variables: the difference of two products as a combination
@@ -160,8 +160,8 @@ meeting_end s t w positive e h =
     let d = turn_of t.lo t.hi s.hi in
     let c = turn_of t.lo t.hi s.lo in
     elim h [
-      inl z ↦ inl (mean_first d c s.lo.x s.hi.x (pos w) e z, mean_first d c s.lo.y s.hi.y (pos w) e z)
-    | inr z ↦ inr (mean_second d c s.lo.x s.hi.x (pos w) e z, mean_second d c s.lo.y s.hi.y (pos w) e z)
+      | inl z ↦ inl (mean_first d c s.lo.x s.hi.x (pos w) e z, mean_first d c s.lo.y s.hi.y (pos w) e z)
+      | inr z ↦ inr (mean_second d c s.lo.x s.hi.x (pos w) e z, mean_second d c s.lo.y s.hi.y (pos w) e z)
     ]
 
 meeting_end_of_other : (s t : Seg) (w : ℕ) (positive : 1 ≤ w) → turn_of t.lo t.hi s.hi -ℤ turn_of t.lo t.hi s.lo ≡ pos w
@@ -174,8 +174,8 @@ meeting_end_of_other s t w positive e h =
     let x = ap (λ v. v *ℤ pos 1) (meeting-x s.lo s.hi t.lo t.hi) in
     let y = ap (λ v. v *ℤ pos 1) (meeting-y s.lo s.hi t.lo t.hi) in
     elim h [
-      inl z ↦ inl (x ∙ mean_second a b t.hi.x t.lo.x (pos w) balance z, y ∙ mean_second a b t.hi.y t.lo.y (pos w) balance z)
-    | inr z ↦ inr (x ∙ mean_first a b t.hi.x t.lo.x (pos w) balance z, y ∙ mean_first a b t.hi.y t.lo.y (pos w) balance z)
+      | inl z ↦ inl (x ∙ mean_second a b t.hi.x t.lo.x (pos w) balance z, y ∙ mean_second a b t.hi.y t.lo.y (pos w) balance z)
+      | inr z ↦ inr (x ∙ mean_first a b t.hi.x t.lo.x (pos w) balance z, y ∙ mean_first a b t.hi.y t.lo.y (pos w) balance z)
     ]
 
 meet_once_from : (s t : Seg) → Falls s t → (w : ℕ) → 1 ≤ w → turn_of t.lo t.hi s.hi -ℤ turn_of t.lo t.hi s.lo ≡ pos w → MeetOnce s t
@@ -183,7 +183,7 @@ meet_once_from s t f w positive e = record {
   at = meeting s t w positive;
   only = record { common = (meeting_on s t w positive e f, meeting_on_other s t w positive e f); only = meeting_only s t w positive e };
   is_end = meeting_end s t w positive e;
-  is_end_of_other = meeting_end_of_other s t w positive e
+  is_end_of_other = meeting_end_of_other s t w positive e;
 }
 
 falls_meet : (s t : Seg) → Falls s t → MeetOnce s t
@@ -199,7 +199,7 @@ exchange s t m = record {
   at = m.at;
   only = record { common = (m.only.common.1, m.only.common.0); only = λ q c. m.only.only q (c.1, c.0) };
   is_end = m.is_end_of_other;
-  is_end_of_other = m.is_end
+  is_end_of_other = m.is_end;
 }
 
 -- x and y are of opposite signs, or one of them is 0
@@ -227,10 +227,10 @@ pub opposite_meet : (s t : Seg) → AreOpposite (turn_of s.lo s.hi t.lo) (turn_o
 opposite_meet s t h k n =
     let balance = turns-balance s.lo s.hi t.lo t.hi in
     elim (trichotomy (turn_of s.lo s.hi t.hi) (turn_of s.lo s.hi t.lo)) [
-      inl l ↦ falls_meet s t (falls_if s t h k l)
-    | inr rest ↦ elim rest [
-        inl e ↦ absurd (n (equal_opposite (turn_of s.lo s.hi t.lo) (turn_of s.lo s.hi t.hi) h (sym e)))
-      | inr g ↦ exchange s t (falls_meet t s (falls_if t s k h (omega (arith, lin))))
+      | inl l ↦ falls_meet s t (falls_if s t h k l)
+      | inr rest ↦ elim rest [
+        | inl e ↦ absurd (n (equal_opposite (turn_of s.lo s.hi t.lo) (turn_of s.lo s.hi t.hi) h (sym e)))
+        | inr g ↦ exchange s t (falls_meet t s (falls_if t s k h (omega (arith, lin))))
       ]
     ]
 

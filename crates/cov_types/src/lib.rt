@@ -11,7 +11,7 @@ mod edge_use;
 mod no_memory;
 mod seg;
 
-pub use coord::Coord;
+pub use coord::{Coord, LIMIT};
 pub use coverage::{Coverage, Member, Poly, Ring};
 pub use edge_use::EdgeUse;
 pub use no_memory::NoMemory;

@@ -3,3 +3,4 @@ pub mod Segment
 pub mod Ray
 pub mod Parity
 pub mod Contact
+pub mod Joined

@@ -132,7 +132,8 @@ vanishes values t v = sym (norm_is (value_at values) t) ∙ ap (value (value_at 
 pub by_ring : (values : List ℤ) (s t : Term) → Vanishes (s ⊖ t) → eval values s ≡ eval values t
 by_ring values s t v = let e = vanishes values (s ⊖ t) v in omega (arith, lin)
 
-times_gap : (k x y : ℤ) → x ≡ y → k *ℤ (x -ℤ y) ≡ pos 0
+-- a multiple of the difference of two numbers that are equal
+pub times_gap : (k x y : ℤ) → x ≡ y → k *ℤ (x -ℤ y) ≡ pos 0
 times_gap k x y h = ap (λ z. k *ℤ z) {x = x -ℤ y} {y = pos 0} (omega (arith, lin)) ∙ mul_zero k
 
 -- s - t = k (a - b), and a ≡ b
@@ -160,3 +161,20 @@ by_three values s t k a b l c d m f g v h i j =
     let second = times_gap (eval values l) (eval values c) (eval values d) i in
     let third = times_gap (eval values m) (eval values f) (eval values g) j in
     omega (arith, lin)
+
+-- ---- differences and negations in products
+
+pub mul_sub : (k x y : ℤ) → k *ℤ (x -ℤ y) ≡ (k *ℤ x) -ℤ (k *ℤ y)
+mul_sub k x y = by_ring (k ∷ x ∷ y ∷ []) (Var 0 ⊗ (Var 1 ⊖ Var 2)) (Var 0 ⊗ Var 1 ⊖ Var 0 ⊗ Var 2) refl
+
+pub sub_mul : (x y k : ℤ) → (x -ℤ y) *ℤ k ≡ (x *ℤ k) -ℤ (y *ℤ k)
+sub_mul x y k = by_ring (x ∷ y ∷ k ∷ []) ((Var 0 ⊖ Var 1) ⊗ Var 2) (Var 0 ⊗ Var 2 ⊖ Var 1 ⊗ Var 2) refl
+
+pub neg_mul : (x y : ℤ) → neg_ℤ x *ℤ y ≡ neg_ℤ (x *ℤ y)
+neg_mul x y = by_ring (x ∷ y ∷ []) (Neg (Var 0) ⊗ Var 1) (Neg (Var 0 ⊗ Var 1)) refl
+
+pub mul_neg : (x y : ℤ) → x *ℤ neg_ℤ y ≡ neg_ℤ (x *ℤ y)
+mul_neg x y = by_ring (x ∷ y ∷ []) (Var 0 ⊗ Neg (Var 1)) (Neg (Var 0 ⊗ Var 1)) refl
+
+pub neg_mul_neg : (x y : ℤ) → neg_ℤ x *ℤ neg_ℤ y ≡ x *ℤ y
+neg_mul_neg x y = by_ring (x ∷ y ∷ []) (Neg (Var 0) ⊗ Neg (Var 1)) (Var 0 ⊗ Var 1) refl

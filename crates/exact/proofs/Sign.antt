@@ -6,7 +6,7 @@ use Prim.Native.Nat.{ℕ, ◌*◌, ◌≤◌, ◌<◌}
 use native.Mathlib.Omega.{arith}
 use native.Mathlib.Nat.{mul-pos}
 use Rattle.std.specs.Prelude.{ℤ, pos, negsuc, neg_ℤ, ◌+ℤ◌, ◌-ℤ◌, ◌*ℤ◌, ◌≤ℤ◌, ◌<ℤ◌}
-use Rattle.exact.proofs.Ring.{lin, Var, ◌⊗◌, Neg, by_ring, mul_comm, mul_zero, zero_mul}
+use Rattle.exact.proofs.Ring.{lin, mul_zero, zero_mul, neg_mul, mul_neg, neg_mul_neg}
 use Rattle.exact.proofs.Compare.{lt_or_ge, le_or_gt, trichotomy, lt_excludes_le, lt_excludes_eq, le_antisymm, apart_cases}
 
 -- ---- the sign of a product, from the signs of the factors
@@ -23,15 +23,6 @@ positive_times_positive {x = pos a} {y = pos b} h k =
     omega (arith, lin, mul-pos p q)
 positive_times_positive {x = pos a} {y = negsuc b} h k = absurd k.lt
 positive_times_positive {x = negsuc a} {y} h k = absurd h.lt
-
-pub neg_mul : (x y : ℤ) → neg_ℤ x *ℤ y ≡ neg_ℤ (x *ℤ y)
-neg_mul x y = by_ring (x ∷ y ∷ []) (Neg (Var 0) ⊗ Var 1) (Neg (Var 0 ⊗ Var 1)) refl
-
-pub mul_neg : (x y : ℤ) → x *ℤ neg_ℤ y ≡ neg_ℤ (x *ℤ y)
-mul_neg x y = by_ring (x ∷ y ∷ []) (Var 0 ⊗ Neg (Var 1)) (Neg (Var 0 ⊗ Var 1)) refl
-
-pub neg_mul_neg : (x y : ℤ) → neg_ℤ x *ℤ neg_ℤ y ≡ x *ℤ y
-neg_mul_neg x y = by_ring (x ∷ y ∷ []) (Neg (Var 0) ⊗ Neg (Var 1)) (Var 0 ⊗ Var 1) refl
 
 pub nonneg_times_nonpos : {x y : ℤ} → pos 0 ≤ℤ x → y ≤ℤ pos 0 → (x *ℤ y) ≤ℤ pos 0
 nonneg_times_nonpos {x} {y} h k = omega (arith, lin, mul_neg x y, nonneg_times_nonneg {x = x} {y = neg_ℤ y} h (omega (arith, lin)))

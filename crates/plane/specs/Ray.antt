@@ -12,6 +12,10 @@ sweep p = (pos (2 ^ 30) *ℤ p.x) +ℤ p.y
 abbrev pub sweep_below : Point → Point → Bool
 sweep_below p q = int_lt (sweep p *ℤ pos q.d) (sweep q *ℤ pos p.d)
 
+-- the sweep value grows from lo to hi: so it does on each segment in range
+abbrev pub Rises : Seg → Type 0
+Rises s = sweep (at_coord s.lo) <ℤ sweep (at_coord s.hi)
+
 -- the edge is over p: lo is not past p and hi is, and p is strictly below the edge along the ray
 abbrev pub is_over : Seg → Point → Bool
 is_over e p = not (sweep_below p (at_coord e.lo)) && sweep_below p (at_coord e.hi) && int_lt (side e p) (pos 0)

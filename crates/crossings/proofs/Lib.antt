@@ -1,2 +1,4 @@
 pub mod Sides
-pub mod Identity
+pub mod Windows
+pub mod Tests
+pub mod OneEdge

@@ -1,7 +1,8 @@
--- What happens at one edge along a way that misses it.
+-- The sweep values of an edge and of a way: where two of the four sides are not of one sign, so are the other two.
 use mathlib.Core.List.{List, [], ◌∷◌}
 use Rattle.std.proofs.Common.{◌≡◌, refl, ℤ, pos, neg_ℤ, ◌+ℤ◌, ◌-ℤ◌, ◌*ℤ◌, ◌≤ℤ◌, ◌<ℤ◌, ◌⊎◌, ⊎_elim, arith}
 use Rattle.exact.proofs.Ring.{lin, by_ring, by_one, by_two, Term, Var, Lit, ◌⊕◌, ◌⊖◌, ◌⊗◌, mul_comm}
+use Rattle.crossings.proofs.Sides.{AreOpposite}
 use Rattle.exact.proofs.Compare.{le_of_lt}
 use Rattle.exact.proofs.Sign.{nonneg_times_nonneg, nonneg_times_nonpos, nonpos_times_nonneg, nonpos_times_nonpos, nonneg_factor, nonpos_factor}
 
@@ -40,13 +41,6 @@ rises at_p at_q at_hi at_lo tp tq tl th pd qd h k =
     }
 
 -- ---- in each window of the sweep, two sides that are not of one sign force the other two to be opposite
-
--- the sides are opposite, each to the other
-pub record AreOpposite (at_p at_q at_hi at_lo : ℤ) : Type 0 where
-  pub p : at_p ≤ℤ pos 0
-  pub q : pos 0 ≤ℤ at_q
-  pub hi : at_hi ≤ℤ pos 0
-  pub lo : pos 0 ≤ℤ at_lo
 
 -- both p and q between lo and hi
 pub both_within : (at_p at_q at_hi at_lo pq lp ph lq qh lh : ℤ) → AreRises at_p at_q at_hi at_lo pq lp ph lq qh lh

@@ -1,9 +1,10 @@
 -- Linear forms a·x + b·y + c·d at points, and their signs between two points.
 use mathlib.Core.List.{List, [], ◌∷◌}
 use Rattle.std.proofs.Common.{◌≡◌, refl, sym, ◌∙◌, ap, ℕ, zero, suc, ◌+◌, ◌*◌, ◌≤◌, ◌<◌, ℤ, pos, neg_ℤ, ◌+ℤ◌, ◌-ℤ◌, ◌*ℤ◌, ◌<ℤ◌, ◌≤ℤ◌, arith}
-use Rattle.exact.proofs.Ring.{lin, by_ring, by_one, by_two, by_three, Term, Var, Lit, ◌⊕◌, ◌⊖◌, ◌⊗◌, Neg, mul_zero, zero_mul, mul_comm}
+use Rattle.exact.proofs.Ring.{lin, by_ring, by_two, Term, Var, Lit, ◌⊕◌, ◌⊖◌, ◌⊗◌, Neg, mul_zero, zero_mul, mul_comm}
+use Rattle.exact.proofs.Compare.{le_of_lt}
+use Rattle.exact.proofs.Sign.{nonneg_times_nonneg, positive_times_positive, nonneg_factor, positive_factor}
 use Rattle.plane.specs.Point.{Point, SamePoint, IsBetween, at_coord}
-use Rattle.plane.proofs.Signs.{mul_positive, mul_not_negative, positive_factor, not_negative_factor, cancel}
 use Rattle.plane.proofs.Points.{d_positive}
 
 -- the form with the coefficients a, b, c at a point, times the point's denominator
@@ -35,19 +36,19 @@ form_of_mean a b c rx ry rd px py pd qx qy qd m n h k =
 mean_not_negative : (r w d m p n q : ℤ) → pos 0 <ℤ w → pos 0 <ℤ d → pos 0 ≤ℤ m → pos 0 ≤ℤ n
     → r *ℤ w ≡ d *ℤ ((m *ℤ p) +ℤ (n *ℤ q)) → pos 0 ≤ℤ p → pos 0 ≤ℤ q → pos 0 ≤ℤ r
 mean_not_negative r w d m p n q hw hd hm hn e hp hq =
-    let mp = mul_not_negative m p hm hp in
-    let nq = mul_not_negative n q hn hq in
-    let sum = mul_not_negative d ((m *ℤ p) +ℤ (n *ℤ q)) (omega (arith, lin)) (omega (arith, lin)) in
-    not_negative_factor w r hw (omega (arith, lin, mul_comm r w))
+    let mp = nonneg_times_nonneg hm hp in
+    let nq = nonneg_times_nonneg hn hq in
+    let sum = nonneg_times_nonneg {x = d} {y = (m *ℤ p) +ℤ (n *ℤ q)} (omega (arith, lin)) (omega (arith, lin)) in
+    nonneg_factor w r hw (omega (arith, lin, mul_comm r w))
 
 -- one weight and the value at it are positive
 mean_positive : (r w d m p n q : ℤ) → pos 0 <ℤ w → pos 0 <ℤ d → pos 0 <ℤ m → pos 0 ≤ℤ n
     → r *ℤ w ≡ d *ℤ ((m *ℤ p) +ℤ (n *ℤ q)) → pos 0 <ℤ p → pos 0 ≤ℤ q → pos 0 <ℤ r
 mean_positive r w d m p n q hw hd hm hn e hp hq =
-    let mp = mul_positive m p hm hp in
-    let nq = mul_not_negative n q hn hq in
-    let sum = mul_positive d ((m *ℤ p) +ℤ (n *ℤ q)) hd (omega (arith, lin)) in
-    positive_factor w r hw (omega (arith, lin, mul_comm r w))
+    let mp = positive_times_positive hm hp in
+    let nq = nonneg_times_nonneg hn hq in
+    let sum = positive_times_positive {x = d} {y = (m *ℤ p) +ℤ (n *ℤ q)} hd (omega (arith, lin)) in
+    positive_factor w r (le_of_lt hw) (omega (arith, lin, mul_comm r w))
 
 -- ---- points between two points
 

@@ -1,5 +1,5 @@
-pub mod Signs
 pub mod Points
 pub mod Forms
 pub mod Sides
 pub mod Sweeps
+pub mod Over

@@ -3,8 +3,8 @@ use mathlib.Core.List.{List, [], ◌∷◌}
 use Rattle.std.proofs.Common.{◌≡◌, ◌⊎◌, inl, inr, refl, sym, ◌∙◌, ap, ℕ, ◌+◌, ◌*◌, ◌≤◌, ℤ, pos, negsuc, ◌+ℤ◌, ◌-ℤ◌, ◌*ℤ◌, ◌<ℤ◌, ◌≤ℤ◌, arith}
 use Rattle.exact.proofs.Ring.{lin, by_ring, by_one, by_two, Var, Lit, ◌⊕◌, ◌⊖◌, ◌⊗◌, Neg}
 use Rattle.exact.proofs.Compare.{eq_or_not}
+use Rattle.exact.proofs.Order.{cancel_eq}
 use Rattle.plane.specs.Point.{Point, SamePoint, IsBetween, at_coord}
-use Rattle.plane.proofs.Signs.{mul_positive, mul_not_negative, positive_factor, not_negative_factor, cancel}
 
 -- a denominator is positive
 pub d_positive : (p : Point) → pos 0 <ℤ pos p.d
@@ -21,7 +21,7 @@ same_point-sym p q h = (sym h.0, sym h.1)
 -- p/d = q/e and q/e = r/f
 same_ratio-trans : (p d q e r f : ℤ) → pos 0 <ℤ e → p *ℤ e ≡ q *ℤ d → q *ℤ f ≡ r *ℤ e → p *ℤ f ≡ r *ℤ d
 same_ratio-trans p d q e r f positive h k =
-    cancel e (p *ℤ f) (r *ℤ d) positive
+    cancel_eq e (p *ℤ f) (r *ℤ d) positive
     (by_two (p ∷ d ∷ q ∷ e ∷ r ∷ f ∷ []) (Var 3 ⊗ (Var 0 ⊗ Var 5)) (Var 3 ⊗ (Var 4 ⊗ Var 1))
     (Var 5) (Var 0 ⊗ Var 3) (Var 2 ⊗ Var 1)
     (Var 1) (Var 2 ⊗ Var 5) (Var 4 ⊗ Var 3) refl h k)
@@ -80,7 +80,7 @@ second_between p q = between-sym q q p (first_between q p)
 -- over plain variables: the mean p/d, and r/e is the same number
 moved_mean : (p d r e w mean : ℤ) → pos 0 <ℤ d → p *ℤ e ≡ r *ℤ d → p *ℤ w ≡ d *ℤ mean → r *ℤ w ≡ e *ℤ mean
 moved_mean p d r e w mean positive same h =
-    cancel d (r *ℤ w) (e *ℤ mean) positive
+    cancel_eq d (r *ℤ w) (e *ℤ mean) positive
     (by_two (p ∷ d ∷ r ∷ e ∷ w ∷ mean ∷ []) (Var 1 ⊗ (Var 2 ⊗ Var 4)) (Var 1 ⊗ (Var 3 ⊗ Var 5))
     (Neg (Var 4)) (Var 0 ⊗ Var 3) (Var 2 ⊗ Var 1)
     (Var 3) (Var 0 ⊗ Var 4) (Var 1 ⊗ Var 5) refl same h)

@@ -4,6 +4,8 @@ use Rattle.std.proofs.Common.{◌≡◌, refl, sym, ◌∙◌, ap, ℕ, ◌^◌,
 use borrow.Author.Differences.{product_is}
 use Rattle.exact.proofs.Ring.{lin, by_ring, by_one, by_three, Term, Var, Lit, ◌⊕◌, ◌⊖◌, ◌⊗◌, Neg, mul_one}
 use Rattle.exact.proofs.Compare.{int_lt_is}
+use Rattle.exact.proofs.Order.{cancel_eq}
+use Rattle.exact.proofs.Sign.{positive_times_positive}
 use Rattle.cov_types.specs.declared.coord.Coord.{Coord}
 use Rattle.cov_types.specs.declared.seg.Seg.{Seg}
 use Rattle.cov_types.specs.Coord.{is_before}
@@ -12,7 +14,6 @@ use Rattle.cov_types.proofs.Order.{cases_before, before_by_x, before_by_y, cases
 use Rattle.plane.specs.Point.{Point, SamePoint, IsBetween, at_coord}
 use Rattle.plane.specs.Segment.{IsOn, side}
 use Rattle.plane.specs.Ray.{sweep, sweep_below, Rises}
-use Rattle.plane.proofs.Signs.{cancel, mul_positive}
 use Rattle.plane.proofs.Points.{d_positive, between_by}
 use Rattle.plane.proofs.Forms.{form, form_not_negative-between, form_not_positive-between, form-same}
 use Rattle.plane.proofs.Sides.{side-lo, side-hi}
@@ -138,7 +139,7 @@ weights_sum l h p d = by_ring (l ∷ h ∷ p ∷ d ∷ []) ((Var 1 ⊗ Var 3 ⊖
 same_x : (k lx ly hx hy px py pd qx qy qd : ℤ) → pos 0 <ℤ (at k hx hy -ℤ at k lx ly)
     → side_of lx ly hx hy px py pd ≡ pos 0 → side_of lx ly hx hy qx qy qd ≡ pos 0 → at k px py *ℤ qd ≡ at k qx qy *ℤ pd → px *ℤ qd ≡ qx *ℤ pd
 same_x k lx ly hx hy px py pd qx qy qd positive p q h =
-    cancel (at k hx hy -ℤ at k lx ly) (px *ℤ qd) (qx *ℤ pd) positive
+    cancel_eq (at k hx hy -ℤ at k lx ly) (px *ℤ qd) (qx *ℤ pd) positive
     (by_three (k ∷ lx ∷ ly ∷ hx ∷ hy ∷ px ∷ py ∷ pd ∷ qx ∷ qy ∷ qd ∷ []) (height_term ⊗ (Var 5 ⊗ Var 10)) (height_term ⊗ (Var 8 ⊗ Var 7))
     (Neg (Var 10)) (side_term (Var 5) (Var 6) (Var 7)) (Lit (pos 0))
     (Var 7) (side_term (Var 8) (Var 9) (Var 10)) (Lit (pos 0))
@@ -147,7 +148,7 @@ same_x k lx ly hx hy px py pd qx qy qd positive p q h =
 same_y : (k lx ly hx hy px py pd qx qy qd : ℤ) → pos 0 <ℤ (at k hx hy -ℤ at k lx ly)
     → side_of lx ly hx hy px py pd ≡ pos 0 → side_of lx ly hx hy qx qy qd ≡ pos 0 → at k px py *ℤ qd ≡ at k qx qy *ℤ pd → py *ℤ qd ≡ qy *ℤ pd
 same_y k lx ly hx hy px py pd qx qy qd positive p q h =
-    cancel (at k hx hy -ℤ at k lx ly) (py *ℤ qd) (qy *ℤ pd) positive
+    cancel_eq (at k hx hy -ℤ at k lx ly) (py *ℤ qd) (qy *ℤ pd) positive
     (by_three (k ∷ lx ∷ ly ∷ hx ∷ hy ∷ px ∷ py ∷ pd ∷ qx ∷ qy ∷ qd ∷ []) (height_term ⊗ (Var 6 ⊗ Var 10)) (height_term ⊗ (Var 9 ⊗ Var 7))
     (Var 0 ⊗ Var 10) (side_term (Var 5) (Var 6) (Var 7)) (Lit (pos 0))
     (Neg (Var 0 ⊗ Var 7)) (side_term (Var 8) (Var 9) (Var 10)) (Lit (pos 0))
@@ -163,7 +164,7 @@ on_from_sweep s p rises on_line low high =
     let k = pos (2 ^ 30) in
     let l = at k s.lo.x s.lo.y in
     let h = at k s.hi.x s.hi.y in
-    let gap = mul_positive (h -ℤ l) (pos p.d) (omega (arith, lin)) (d_positive p) in
+    let gap = positive_times_positive {x = h -ℤ l} {y = pos p.d} (omega (arith, lin)) (d_positive p) in
     between_by p (at_coord s.lo) (at_coord s.hi) (h -ℤ l) ((h *ℤ pos p.d) -ℤ at k p.x p.y) (at k p.x p.y -ℤ (l *ℤ pos p.d))
     (omega (arith, lin)) (omega (arith, lin)) (omega (arith, lin, weights_sum l h (at k p.x p.y) (pos p.d)))
     (mean_x k s.lo.x s.lo.y s.hi.x s.hi.y p.x p.y (pos p.d) on_line)

@@ -5,6 +5,7 @@ use Rattle.cov_types.specs.declared.coord.Coord.{Coord}
 use Rattle.cov_types.specs.declared.seg.Seg.{Seg}
 use Rattle.exact.proofs.Ring.{lin, by_two, Term, Var, Lit, ◌⊕◌, ◌⊖◌, ◌⊗◌, mul_one, mul_zero, mul_comm}
 use Rattle.exact.proofs.Compare.{int_tests, le_of_lt, le_cases}
+use Rattle.exact.proofs.Order.{lt_mul, fraction_le_lt_trans, fraction_lt_le_trans}
 use Rattle.exact.proofs.Sign.{nonneg_times_nonneg, nonneg_times_nonpos, nonpos_factor, nonpos_cofactor}
 use Rattle.plane.specs.Point.{Point, at_coord}
 use Rattle.plane.specs.Ray.{sweep, sweep_below, is_over, Rises}
@@ -142,3 +143,69 @@ past_both_test e p q misses pq lp ph lq qh =
     same_tests (int_lt (pos 0) (side_from p q e.hi)) (int_lt (pos 0) (side_from p q e.lo))
     (λ h k. no_past_both e p q _ _ _ _ n misses pq lp ph lq qh (omega (arith, lin, int_tests)) (omega (arith, lin, int_tests)) (omega (arith, lin, int_tests)))
     (λ h k. no_past_both e p q _ _ _ _ t misses pq lp ph lq qh (omega (arith, lin, int_tests)) (omega (arith, lin, int_tests)) (omega (arith, lin, int_tests)))
+
+-- ---- the tests of sweep values
+
+before_is : (p : Point) (v : Coord) → sweep_below p (at_coord v) ≡ true → (sweep p *ℤ pos 1) <ℤ (sweep (at_coord v) *ℤ pos p.d)
+before_is p v h = omega (arith, lin, int_tests)
+
+not_before_is : (p : Point) (v : Coord) → sweep_below p (at_coord v) ≡ false → (sweep (at_coord v) *ℤ pos p.d) ≤ℤ (sweep p *ℤ pos 1)
+not_before_is p v h = omega (arith, lin, int_tests)
+
+-- p before lo is before hi
+before_hi : (e : Seg) (p : Point) → Rises e → sweep_below p (at_coord e.lo) ≡ true → sweep_below p (at_coord e.hi) ≡ true
+before_hi e p up h =
+    let near = before_is p e.lo h in
+    let more = lt_mul (pos p.d) (d_positive p) up in
+    omega (arith, lin, int_tests)
+
+-- p, which is not past q, is before each v that q is before
+before_follows : (p q : Point) (v : Coord) → pos 0 ≤ℤ way_rise p q → sweep_below q (at_coord v) ≡ true → sweep_below p (at_coord v) ≡ true
+before_follows p q v pq h =
+    let near = fraction_le_lt_trans (sweep p) (pos p.d) (sweep q) (pos q.d) (sweep (at_coord v)) (pos 1)
+    (d_positive p) (d_positive q) (omega (arith, lin)) (omega (arith, lin)) (before_is q v h) in
+    omega (arith, lin, int_tests)
+
+-- p before v and q not before it: the way rises
+way_up : (p q : Point) (v : Coord) → sweep_below p (at_coord v) ≡ true → sweep_below q (at_coord v) ≡ false → pos 0 <ℤ way_rise p q
+way_up p q v h k =
+    let near = fraction_lt_le_trans (sweep p) (pos p.d) (sweep (at_coord v)) (pos 1) (sweep q) (pos q.d)
+    (d_positive p) (omega (arith, lin)) (d_positive q) (before_is p v h) (not_before_is q v k) in
+    omega (arith, lin)
+
+not_past_lo : (e : Seg) (p : Point) → sweep_below p (at_coord e.lo) ≡ true → lo_rise e p <ℤ pos 0
+not_past_lo e p h = omega (arith, lin, before_is p e.lo h, mul_one (sweep p))
+
+past_lo : (e : Seg) (p : Point) → sweep_below p (at_coord e.lo) ≡ false → pos 0 ≤ℤ lo_rise e p
+past_lo e p h = omega (arith, lin, not_before_is p e.lo h, mul_one (sweep p))
+
+not_past_hi : (e : Seg) (p : Point) → sweep_below p (at_coord e.hi) ≡ true → pos 0 <ℤ hi_rise e p
+not_past_hi e p h = omega (arith, lin, before_is p e.hi h, mul_one (sweep p))
+
+past_hi : (e : Seg) (p : Point) → sweep_below p (at_coord e.hi) ≡ false → hi_rise e p ≤ℤ pos 0
+past_hi e p h = omega (arith, lin, not_before_is p e.hi h, mul_one (sweep p))
+
+-- ---- the identity of one edge
+
+windows : (e : Seg) (p q : Point) → Misses e p q → Rises e → pos 0 ≤ℤ way_rise p q
+    → AreWindows (sweep_below p (at_coord e.lo)) (sweep_below p (at_coord e.hi)) (sweep_below q (at_coord e.lo)) (sweep_below q (at_coord e.hi))
+    (int_lt (side e p) (pos 0)) (int_lt (side e q) (pos 0)) (int_lt (pos 0) (side_from p q e.hi)) (int_lt (pos 0) (side_from p q e.lo))
+windows e p q misses up pq = record {
+  p_order = before_hi e p up;
+  q_order = before_hi e q up;
+  lo_order = before_follows p q e.lo pq;
+  hi_order = before_follows p q e.hi pq;
+  within = λ p_lo q_hi p_hi q_lo. within_test e p q misses up (past_lo e p p_lo) (le_of_lt (not_past_hi e p p_hi)) (past_lo e q q_lo) (le_of_lt (not_past_hi e q q_hi));
+  past_hi = λ p_lo q_hi p_hi q_lo. past_hi_test e p q misses up pq (past_lo e p p_lo) (not_past_hi e p p_hi) (past_hi e q q_hi);
+  over_lo = λ p_lo q_hi p_hi q_lo. over_lo_test e p q misses up (le_of_lt (not_past_hi e p p_hi)) (not_past_lo e p p_lo) (past_lo e q q_lo) (le_of_lt (not_past_hi e q q_hi));
+  past_both = λ p_lo q_hi p_hi q_lo.
+      past_both_test e p q misses (way_up p q e.hi p_hi q_hi) (le_of_lt (not_past_lo e p p_lo)) (le_of_lt (not_past_hi e p p_hi)) (past_lo e q q_lo) (past_hi e q q_hi)
+}
+
+-- along a way that does not fall in the sweep: over q and passed at hi, as over p and passed at lo
+pub one_edge : (e : Seg) (p q : Point) → Misses e p q → Rises e → (sweep p *ℤ pos q.d) ≤ℤ (sweep q *ℤ pos p.d)
+    → IsSamePair (is_over e q) (passes p q e.hi) (is_over e p) (passes p q e.lo)
+one_edge e p q misses up h =
+    windows_pair (sweep_below p (at_coord e.lo)) (sweep_below p (at_coord e.hi)) (sweep_below q (at_coord e.lo)) (sweep_below q (at_coord e.hi))
+    (int_lt (side e p) (pos 0)) (int_lt (side e q) (pos 0)) (int_lt (pos 0) (side_from p q e.hi)) (int_lt (pos 0) (side_from p q e.lo))
+    (windows e p q misses up (omega (arith, lin)))

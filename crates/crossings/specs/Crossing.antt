@@ -1,11 +1,11 @@
 -- Weighted edges, the sums of those that are over a point, and when such sums balance.
-use Rattle.std.specs.Prelude.{◌≡◌, ℕ, ◌+◌, ◌%◌, Bool, ◌&&◌, not, cond, List, [], ◌∷◌, map, sum_by, Contains, ℤ, pos, ◌+ℤ◌, ◌-ℤ◌, ◌*ℤ◌, ◌<ℤ◌, int_lt}
+use Rattle.std.specs.Prelude.{◌≡◌, ℕ, ◌%◌, Bool, cond, List, [], ◌∷◌, map, sum_by, Contains, ℤ, pos, ◌+ℤ◌}
 use Rattle.cov_types.specs.declared.coord.Coord.{Coord}
 use Rattle.cov_types.specs.declared.edge_use.EdgeUse.{EdgeUse}
 use Rattle.cov_types.specs.declared.seg.Seg.{Seg}
 use Rattle.cov_types.specs.Uses.{ends_inside, ends_in}
-use Rattle.plane.specs.Point.{Point, at_coord}
-use Rattle.plane.specs.Ray.{sweep, is_over}
+use Rattle.plane.specs.Point.{Point}
+use Rattle.plane.specs.Ray.{is_over, Rises}
 
 -- an edge with a whole weight
 pub record WeightedEdge : Type 0 where
@@ -31,7 +31,7 @@ IsBalanced weighted = (passes : Coord → Bool) → int_sum_by (λ w. cond (pass
 
 -- the sweep value rises from lo to hi of each edge
 abbrev pub IsSwept : List Seg → Type 0
-IsSwept edges = (e : Seg) → Contains edges e → sweep (at_coord e.lo) <ℤ sweep (at_coord e.hi)
+IsSwept edges = (e : Seg) → Contains edges e → Rises e
 
 -- of any set of points the edges have an even number of ends in it
 abbrev pub HasEvenEnds : List Seg → Type 0

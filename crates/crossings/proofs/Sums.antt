@@ -86,3 +86,29 @@ module _ {X : Type 0} (seg : X → Seg) (chosen : X → Bool) (items : List X) w
       (λ x. ends_count (chosen x) (passes p q (seg x).lo) (passes p q (seg x).hi)) in
       let none = even (passes p q) in
       omega arith
+
+  clear_parity : (edges : List Seg) → ((x : X) → Contains items x → Contains edges (seg x)) → IsSwept edges → ChosenHaveEvenEnds
+      → (p q : Point) → IsClear edges p q → over_count p % 2 ≡ over_count q % 2
+  clear_parity edges among swept even p q clear =
+      elim (lt_or_ge (sweep q *ℤ pos p.d) (sweep p *ℤ pos q.d)) [
+        | inl down ↦
+          sym (rising_parity q p
+            (λ x i. one_edge (seg x) q p (clear_misses edges q p (clear-sym edges p q clear) (seg x) (among x i)) (swept (seg x) (among x i)) (le_of_lt down)) even)
+        | inr up ↦ rising_parity p q (λ x i. one_edge (seg x) p q (clear_misses edges p q clear (seg x) (among x i)) (swept (seg x) (among x i)) up) even
+      ]
+
+  -- the parity of how many are over a point is the same at joined points
+  pub parity-joined : (edges : List Seg) → ((x : X) → Contains items x → Contains edges (seg x)) → IsSwept edges → ChosenHaveEvenEnds
+      → (p q : Point) → Joined edges p q
+      → count_by (λ x. chosen x && is_over (seg x) p) items % 2 ≡ count_by (λ x. chosen x && is_over (seg x) q) items % 2
+  parity-joined edges among swept even p q j = joined_keep edges (λ r. over_count r % 2) (clear_parity edges among swept even) p q j
+
+-- joined points are held alike by edges with even ends
+pub holds-joined : (edges : List Seg) → IsSwept edges → HasEvenEnds edges → (p q : Point) → Joined edges p q → holds edges p ≡ holds edges q
+holds-joined edges swept even p q j = ap (λ n. n == 1) (parity-joined (λ e. e) (λ e. true) edges edges (λ e i. i) swept even p q j)
+
+-- and by the uses of a member with even ends
+pub member_holds-joined : (uses : List EdgeUse) (member : ℕ) (edges : List Seg) → ((u : EdgeUse) → Contains uses u → Contains edges u.seg) → IsSwept edges
+    → MemberHasEvenEnds uses member → (p q : Point) → Joined edges p q → member_holds uses member p ≡ member_holds uses member q
+member_holds-joined uses member edges among swept even p q j =
+    ap (λ n. n == 1) (parity-joined (λ u. u.seg) (λ u. u.member == member) uses edges among swept even p q j)

@@ -3,3 +3,5 @@ pub mod Forms
 pub mod Sides
 pub mod Sweeps
 pub mod Over
+pub mod Same
+pub mod Contacts

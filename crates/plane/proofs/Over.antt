@@ -122,13 +122,13 @@ over-meets e p rises h =
 -- ---- and back: r is a point of the edge on the ray
 
 -- over plain variables: r/rd and s/d are one sweep value, and l is at most it, or h at least
-low_end : (l r rd s d : ℤ) → pos 0 <ℤ rd → pos 0 ≤ℤ d → (l *ℤ rd) ≤ℤ r → r *ℤ d ≡ s *ℤ rd → (l *ℤ d) ≤ℤ s
+pub low_end : (l r rd s d : ℤ) → pos 0 <ℤ rd → pos 0 ≤ℤ d → (l *ℤ rd) ≤ℤ r → r *ℤ d ≡ s *ℤ rd → (l *ℤ d) ≤ℤ s
 low_end l r rd s d positive nonneg h e =
     cancel_le rd (l *ℤ d) s positive
     (by_le_eq (l ∷ r ∷ rd ∷ s ∷ d ∷ []) (Var 2 ⊗ (Var 0 ⊗ Var 4)) (Var 2 ⊗ Var 3)
     (Var 4) (Var 0 ⊗ Var 2) (Var 1) (Lit (pos 1)) (Var 1 ⊗ Var 4) (Var 3 ⊗ Var 2) refl nonneg h e)
 
-high_end : (h r rd s d : ℤ) → pos 0 <ℤ rd → pos 0 <ℤ d → r <ℤ (h *ℤ rd) → r *ℤ d ≡ s *ℤ rd → s <ℤ (h *ℤ d)
+pub high_end : (h r rd s d : ℤ) → pos 0 <ℤ rd → pos 0 <ℤ d → r <ℤ (h *ℤ rd) → r *ℤ d ≡ s *ℤ rd → s <ℤ (h *ℤ d)
 high_end h r rd s d positive dpos l e =
     cancel_lt rd s (h *ℤ d) (le_of_lt positive)
     (by_lt_eq (h ∷ r ∷ rd ∷ s ∷ d ∷ []) (Var 2 ⊗ Var 3) (Var 2 ⊗ (Var 0 ⊗ Var 4))

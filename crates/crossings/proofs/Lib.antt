@@ -5,3 +5,5 @@ pub mod OneEdge
 pub mod Lists
 pub mod Ways
 pub mod Sums
+pub mod Coverages
+pub mod Meetings

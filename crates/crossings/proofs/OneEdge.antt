@@ -1,9 +1,9 @@
 -- What changes at one edge along a way that misses it: over the far end and passed at hi, as over the near end and passed at lo.
-use mathlib.Core.List.{List, [], ◌∷◌}
-use Rattle.std.proofs.Common.{◌≡◌, refl, sym, ◌∙◌, ap, ℕ, ◌^◌, Bool, true, false, not, ◌&&◌, ℤ, pos, neg_ℤ, ◌+ℤ◌, ◌-ℤ◌, ◌*ℤ◌, ◌≤ℤ◌, ◌<ℤ◌, int_lt, ◌⊎◌, inl, inr, arith}
+use mathlib.Core.List.{[], ◌∷◌}
+use Rattle.std.proofs.Common.{◌≡◌, refl, sym, ◌∙◌, ap, ◌^◌, Bool, true, false, not, ◌&&◌, ℤ, pos, ◌+ℤ◌, ◌-ℤ◌, ◌*ℤ◌, ◌≤ℤ◌, ◌<ℤ◌, int_lt, inl, inr, arith}
 use Rattle.cov_types.specs.declared.coord.Coord.{Coord}
 use Rattle.cov_types.specs.declared.seg.Seg.{Seg}
-use Rattle.exact.proofs.Ring.{lin, by_two, Term, Var, Lit, ◌⊕◌, ◌⊖◌, ◌⊗◌, mul_one, mul_zero, mul_comm}
+use Rattle.exact.proofs.Ring.{lin, by_two, Var, Lit, ◌⊕◌, ◌⊖◌, ◌⊗◌, mul_one, mul_zero, mul_comm}
 use Rattle.exact.proofs.Compare.{int_tests, le_of_lt, le_cases}
 use Rattle.exact.proofs.Order.{lt_mul, fraction_le_lt_trans, fraction_lt_le_trans}
 use Rattle.exact.proofs.Sign.{nonneg_times_nonneg, nonneg_times_nonpos, nonpos_factor, nonpos_cofactor}
@@ -12,7 +12,7 @@ use Rattle.plane.specs.Ray.{sweep, sweep_below, is_over, Rises}
 use Rattle.plane.specs.Segment.{side}
 use Rattle.plane.proofs.Points.{d_positive}
 use Rattle.crossings.specs.Meeting.{side_from}
-use Rattle.crossings.proofs.Sides.{IsTied, Misses, AreOpposite, sides_tie, tied_negated, no_opposite_sides}
+use Rattle.crossings.proofs.Sides.{IsTied, Misses, sides_tie, tied_negated, no_opposite_sides}
 use Rattle.crossings.proofs.Windows.{AreRises, rises, both_within, out_past_hi, in_over_lo, past_both}
 use Rattle.crossings.proofs.Tests.{IsSamePair, AreWindows, windows_pair, same_tests}
 
@@ -88,9 +88,9 @@ no_over_lo e p q at_p at_q at_hi at_lo t misses up ph lp lq qh hq hlo w =
     let rise : pos 0 <ℤ edge_rise e = omega (arith, lin) in
     elim (le_cases lq) [
       | inl past ↦ (
-        let o = in_over_lo at_p at_q at_hi at_lo (way_rise p q) (lo_rise e p) (hi_rise e p) (lo_rise e q) (hi_rise e q) (edge_rise e) r rise ph (le_of_lt lp) past qh hq hlo in
-        no_opposite_sides e p q at_p at_q at_hi at_lo t misses o (omega (arith, lin, o.p, o.hi))
-      )
+          let o = in_over_lo at_p at_q at_hi at_lo (way_rise p q) (lo_rise e p) (hi_rise e p) (lo_rise e q) (hi_rise e q) (edge_rise e) r rise ph (le_of_lt lp) past qh hq hlo in
+          no_opposite_sides e p q at_p at_q at_hi at_lo t misses o (omega (arith, lin, o.p, o.hi))
+          )
       | inr at ↦ none_at_lo at_p at_q at_hi at_lo (way_rise p q) (lo_rise e p) (hi_rise e p) (lo_rise e q) (hi_rise e q) (edge_rise e) r rise lp (sym at) hq hlo w
     ]
 
@@ -199,7 +199,7 @@ windows e p q misses up pq = record {
   past_hi = λ p_lo q_hi p_hi q_lo. past_hi_test e p q misses up pq (past_lo e p p_lo) (not_past_hi e p p_hi) (past_hi e q q_hi);
   over_lo = λ p_lo q_hi p_hi q_lo. over_lo_test e p q misses up (le_of_lt (not_past_hi e p p_hi)) (not_past_lo e p p_lo) (past_lo e q q_lo) (le_of_lt (not_past_hi e q q_hi));
   past_both = λ p_lo q_hi p_hi q_lo.
-      past_both_test e p q misses (way_up p q e.hi p_hi q_hi) (le_of_lt (not_past_lo e p p_lo)) (le_of_lt (not_past_hi e p p_hi)) (past_lo e q q_lo) (past_hi e q q_hi)
+      past_both_test e p q misses (way_up p q e.hi p_hi q_hi) (le_of_lt (not_past_lo e p p_lo)) (le_of_lt (not_past_hi e p p_hi)) (past_lo e q q_lo) (past_hi e q q_hi);
 }
 
 -- along a way that does not fall in the sweep: over q and passed at hi, as over p and passed at lo

@@ -1,15 +1,15 @@
 -- The sides of two segments against each other: one equation ties the four ends, and opposite sides give a common point.
-use mathlib.Core.List.{List, [], ◌∷◌}
-use Rattle.std.proofs.Common.{◌≡◌, refl, sym, ◌∙◌, ap, ℕ, ◌+◌, ◌*◌, ◌≤◌, ℤ, pos, negsuc, neg_ℤ, ◌+ℤ◌, ◌-ℤ◌, ◌*ℤ◌, ◌≤ℤ◌, ◌<ℤ◌, ◌⊎◌, inl, inr, arith}
+use mathlib.Core.List.{[], ◌∷◌}
+use Rattle.std.proofs.Common.{◌≡◌, refl, ◌∙◌, ap, ℕ, ◌+◌, ◌*◌, ◌≤◌, ℤ, pos, negsuc, neg_ℤ, ◌+ℤ◌, ◌-ℤ◌, ◌*ℤ◌, ◌≤ℤ◌, ◌<ℤ◌, inl, inr, arith}
 use Rattle.cov_types.specs.declared.seg.Seg.{Seg}
-use Rattle.exact.proofs.Ring.{lin, by_ring, by_one, by_two, Term, Var, Lit, ◌⊕◌, ◌⊖◌, ◌⊗◌, Neg, mul_comm, mul_one, one_mul, zero_mul}
+use Rattle.exact.proofs.Ring.{lin, by_ring, by_one, Term, Var, Lit, ◌⊕◌, ◌⊖◌, ◌⊗◌, Neg, mul_comm, mul_one, one_mul, zero_mul}
 use Rattle.exact.proofs.Compare.{lt_or_ge}
 use Rattle.exact.proofs.Cast.{pos_nonneg, pos_injective, natural}
 use Rattle.plane.specs.Point.{Point, at_coord, IsBetween}
 use Rattle.plane.specs.Segment.{side, IsOn}
 use Rattle.plane.proofs.Points.{between_by}
 use Rattle.plane.proofs.Forms.{weights_positive}
-use Rattle.crossings.specs.Meeting.{side_from, IsSumOf}
+use Rattle.crossings.specs.Meeting.{side_from, IsMeeting}
 
 -- ---- four points of the plane, over plain variables: the edge from (lx, ly) to (hx, hy), the points (px, py, pd) and (qx, qy, qd)
 
@@ -75,7 +75,7 @@ unfolding side side_from
 sides_tie e p q = record {
   x = tied_x e.lo.x e.lo.y e.hi.x e.hi.y p.x p.y (pos p.d) q.x q.y (pos q.d);
   y = tied_y e.lo.x e.lo.y e.hi.x e.hi.y p.x p.y (pos p.d) q.x q.y (pos q.d);
-  d = tied_d e.lo.x e.lo.y e.hi.x e.hi.y p.x p.y (pos p.d) q.x q.y (pos q.d)
+  d = tied_d e.lo.x e.lo.y e.hi.x e.hi.y p.x p.y (pos p.d) q.x q.y (pos q.d);
 }
 
 negated : (a p b q c h d l : ℤ) → (a *ℤ p) -ℤ (b *ℤ q) ≡ (c *ℤ h) -ℤ (d *ℤ l)
@@ -92,9 +92,9 @@ tied_negated e p q at_p at_q at_hi at_lo t = record {
   x = negated at_q p.x at_p q.x at_lo e.hi.x at_hi e.lo.x t.x;
   y = negated at_q p.y at_p q.y at_lo e.hi.y at_hi e.lo.y t.y;
   d =
-    by_one (at_q ∷ pos p.d ∷ at_p ∷ pos q.d ∷ at_lo ∷ at_hi ∷ [])
-    (Neg (Var 0) ⊗ Var 1 ⊖ Neg (Var 2) ⊗ Var 3) (Neg (Var 4) ⊖ Neg (Var 5))
-    (Lit (negsuc 0)) (Var 0 ⊗ Var 1 ⊖ Var 2 ⊗ Var 3) (Var 4 ⊖ Var 5) refl t.d
+      by_one (at_q ∷ pos p.d ∷ at_p ∷ pos q.d ∷ at_lo ∷ at_hi ∷ [])
+      (Neg (Var 0) ⊗ Var 1 ⊖ Neg (Var 2) ⊗ Var 3) (Neg (Var 4) ⊖ Neg (Var 5))
+      (Lit (negsuc 0)) (Var 0 ⊗ Var 1 ⊖ Var 2 ⊗ Var 3) (Var 4 ⊖ Var 5) refl t.d;
 }
 
 -- ---- opposite sides give a common point
@@ -105,12 +105,6 @@ pub record AreOpposite (at_p at_q at_hi at_lo : ℤ) : Type 0 where
   pub q : pos 0 ≤ℤ at_q
   pub hi : at_hi ≤ℤ pos 0
   pub lo : pos 0 ≤ℤ at_lo
-
--- r is the mean of p and q with the weights m and n, and a point of the edge
-pub record IsMeeting (e : Seg) (p q : Point) (m n : ℕ) (r : Point) : Type 0 where
-  pub sum : IsSumOf r p q m n
-  pub between : IsBetween r p q
-  pub on_edge : IsOn e r
 
 -- the sum of p and q with the weights m and n is that of lo and hi with the weights h and l
 meeting_of_sums : (e : Seg) (p q : Point) (m n h l : ℕ) → 1 ≤ m + n
@@ -124,14 +118,16 @@ meeting_of_sums e p q m n h l w ex ey ed =
     let y = (pos m *ℤ p.y) +ℤ (pos n *ℤ q.y) in
     let d = m * p.d + n * q.d in
     let r : Point = record { x = x; y = y; d = d; positive = positive } in
-    let total : pos d ≡ pos h +ℤ pos l = ap pos ed in
-    (r, record {
-      sum = record { x = refl; y = refl; d = refl };
-      between = record { first = m; second = n; weighted = w; x = mul_comm x (pos d); y = mul_comm y (pos d) };
-      on_edge =
-        between_by r (at_coord e.lo) (at_coord e.hi) (pos 1) (pos h) (pos l) (pos_nonneg h) (pos_nonneg l) (omega (arith, lin))
-        (one_mul x ∙ ex) (one_mul y ∙ ey) (omega (arith, lin, one_mul (pos d), mul_one (pos h), mul_one (pos l)))
-    })
+    let total : pos d ≡ pos h +ℤ pos l = ap pos ed in (
+      r,
+      record {
+        sum = record { x = refl; y = refl; d = refl };
+        between = record { first = m; second = n; weighted = w; x = mul_comm x (pos d); y = mul_comm y (pos d) };
+        on_segment =
+            between_by r (at_coord e.lo) (at_coord e.hi) (pos 1) (pos h) (pos l) (pos_nonneg h) (pos_nonneg l) (omega (arith, lin))
+            (one_mul x ∙ ex) (one_mul y ∙ ey) (omega (arith, lin, one_mul (pos d), mul_one (pos h), mul_one (pos l)));
+      },
+    )
 
 -- over plain variables: the weights without their signs
 unsigned : (m p n q l hi h lo : ℤ) → (m *ℤ p) -ℤ (neg_ℤ n *ℤ q) ≡ (l *ℤ hi) -ℤ (neg_ℤ h *ℤ lo) → (m *ℤ p) +ℤ (n *ℤ q) ≡ (h *ℤ lo) +ℤ (l *ℤ hi)
@@ -167,21 +163,21 @@ pub record Misses (e : Seg) (p q : Point) : Type 0 where
   pub none : (r : Point) → IsBetween r p q → IsOn e r → ⊥
 
 -- tied sides that are opposite and not all 0: those of p and q are not both 0
-gap_of_all : (at_p at_q at_hi at_lo pd qd : ℤ) → (at_q *ℤ pd) -ℤ (at_p *ℤ qd) ≡ at_lo -ℤ at_hi → at_p ≤ℤ pos 0 → pos 0 ≤ℤ at_q
+pub gap_of_all : (at_p at_q at_hi at_lo pd qd : ℤ) → (at_q *ℤ pd) -ℤ (at_p *ℤ qd) ≡ at_lo -ℤ at_hi → at_p ≤ℤ pos 0 → pos 0 ≤ℤ at_q
     → pos 0 <ℤ ((at_q -ℤ at_p) +ℤ (at_lo -ℤ at_hi)) → pos 0 <ℤ (at_q -ℤ at_p)
 gap_of_all at_p at_q at_hi at_lo pd qd d hp hq w =
     elim (lt_or_ge (pos 0) (at_q -ℤ at_p)) [
       | inl positive ↦ positive
       | inr none ↦ (
-        let p_zero : at_p ≡ pos 0 = omega (arith, lin) in
-        let q_zero : at_q ≡ pos 0 = omega (arith, lin) in
-        let p_part = ap (λ x. x *ℤ qd) p_zero ∙ zero_mul qd in
-        let q_part = ap (λ x. x *ℤ pd) q_zero ∙ zero_mul pd in
-        omega (arith, lin)
-      )
+          let p_zero : at_p ≡ pos 0 = omega (arith, lin) in
+          let q_zero : at_q ≡ pos 0 = omega (arith, lin) in
+          let p_part = ap (λ x. x *ℤ qd) p_zero ∙ zero_mul qd in
+          let q_part = ap (λ x. x *ℤ pd) q_zero ∙ zero_mul pd in
+          omega (arith, lin)
+          )
     ]
 
-weight_of_gap : (m n : ℕ) (at_p at_q : ℤ) → at_p ≡ neg_ℤ (pos n) → at_q ≡ pos m → pos 0 <ℤ (at_q -ℤ at_p) → 1 ≤ m + n
+pub weight_of_gap : (m n : ℕ) (at_p at_q : ℤ) → at_p ≡ neg_ℤ (pos n) → at_q ≡ pos m → pos 0 <ℤ (at_q -ℤ at_p) → 1 ≤ m + n
 weight_of_gap m n at_p at_q en em w = omega (arith, lin)
 
 -- so a way that misses an edge has no such sides
@@ -193,4 +189,4 @@ no_opposite_sides e p q at_p at_q at_hi at_lo t misses opposite w =
     let (n, en) = natural (neg_ℤ at_p) (let o = opposite.p in omega (arith, lin)) in
     let en' : at_p ≡ neg_ℤ (pos n) = (let o = en in omega (arith, lin)) in
     let (r, at) = meeting e p q at_p at_q at_hi at_lo m n t opposite en' em (weight_of_gap m n at_p at_q en' em gap) in
-    misses.none r at.between at.on_edge
+    misses.none r at.between at.on_segment

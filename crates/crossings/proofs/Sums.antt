@@ -1,16 +1,16 @@
 -- The law of crossing sums, and its parity form.
-use Rattle.std.proofs.Common.{◌≡◌, refl, sym, ◌∙◌, ap, ℕ, ◌+◌, ◌%◌, ◌==◌, Bool, true, false, not, ◌&&◌, cond, List, [], ◌∷◌, map, sum_by, count_by, Contains, ℤ, pos, ◌+ℤ◌, ◌*ℤ◌, ◌≤ℤ◌, ◌<ℤ◌, ◌⊎◌, inl, inr, arith}
+use Rattle.std.proofs.Common.{◌≡◌, refl, sym, ap, ℕ, ◌+◌, ◌%◌, ◌==◌, Bool, true, false, ◌&&◌, cond, List, sum_by, count_by, Contains, ℤ, pos, ◌+ℤ◌, ◌*ℤ◌, ◌≤ℤ◌, inl, inr, arith}
 use Rattle.cov_types.specs.declared.coord.Coord.{Coord}
 use Rattle.cov_types.specs.declared.edge_use.EdgeUse.{EdgeUse}
 use Rattle.cov_types.specs.declared.seg.Seg.{Seg}
-use Rattle.cov_types.specs.Uses.{ends_inside, ends_in}
+use Rattle.cov_types.specs.Uses.{ends_inside}
 use Rattle.exact.proofs.Ring.{lin}
 use Rattle.exact.proofs.Compare.{le_of_lt, lt_or_ge}
 use Rattle.plane.specs.Point.{Point}
-use Rattle.plane.specs.Ray.{sweep, is_over, Rises}
+use Rattle.plane.specs.Ray.{sweep, is_over}
 use Rattle.plane.specs.Parity.{holds, member_holds}
 use Rattle.plane.specs.Joined.{IsClear, Joined}
-use Rattle.crossings.specs.Crossing.{WeightedEdge, edges_of, int_sum_by, crossing_sum, IsBalanced, IsSwept, HasEvenEnds, MemberHasEvenEnds}
+use Rattle.crossings.specs.Crossing.{WeightedEdge, edges_of, crossing_sum, IsBalanced, IsSwept, HasEvenEnds, MemberHasEvenEnds}
 use Rattle.crossings.proofs.Lists.{contains-map, sums_agree, sum_splits, int_sums_agree}
 use Rattle.crossings.proofs.OneEdge.{passes, one_edge}
 use Rattle.crossings.proofs.Tests.{IsSamePair}
@@ -92,7 +92,7 @@ module _ {X : Type 0} (seg : X → Seg) (chosen : X → Bool) (items : List X) w
   clear_parity edges among swept even p q clear =
       elim (lt_or_ge (sweep q *ℤ pos p.d) (sweep p *ℤ pos q.d)) [
         | inl down ↦
-          sym (rising_parity q p
+            sym (rising_parity q p
             (λ x i. one_edge (seg x) q p (clear_misses edges q p (clear-sym edges p q clear) (seg x) (among x i)) (swept (seg x) (among x i)) (le_of_lt down)) even)
         | inr up ↦ rising_parity p q (λ x i. one_edge (seg x) p q (clear_misses edges p q clear (seg x) (among x i)) (swept (seg x) (among x i)) up) even
       ]

@@ -1,13 +1,12 @@
 -- Ways that meet no edge: joined points are an equivalence, and what each clear step keeps, they share.
 use mathlib.Core.List.{List, [], ◌∷◌}
-use Rattle.std.proofs.Common.{◌≡◌, refl, ◌∙◌, ℕ, ◌+◌, ◌*◌, ◌≤◌, ◌++◌, Contains, ℤ, pos, ◌+ℤ◌, ◌*ℤ◌, ◌<ℤ◌, arith}
+use Rattle.std.proofs.Common.{◌≡◌, refl, ◌∙◌, ◌*◌, ◌++◌, Contains, ℤ, pos, ◌+ℤ◌, ◌*ℤ◌, ◌<ℤ◌, arith}
 use Rattle.cov_types.specs.declared.seg.Seg.{Seg}
 use Rattle.exact.proofs.Ring.{lin, by_one, by_two, Var, Lit, ◌⊕◌, ◌⊗◌}
 use Rattle.exact.proofs.Order.{cancel_eq}
-use Rattle.plane.specs.Point.{Point, SamePoint, IsBetween, at_coord}
-use Rattle.plane.specs.Segment.{IsOn}
+use Rattle.plane.specs.Point.{Point, SamePoint, IsBetween}
 use Rattle.plane.specs.Joined.{IsOff, IsClear, Leads, Joined}
-use Rattle.plane.proofs.Points.{between-sym, between-moved, same_point-sym, first_between, d_positive}
+use Rattle.plane.proofs.Points.{between-sym, between-moved, same_point-sym, first_between}
 use Rattle.plane.proofs.Forms.{weights_positive}
 use Rattle.crossings.proofs.Sides.{Misses}
 
@@ -56,9 +55,10 @@ mean_of_one r d p pd m n w h =
 pub between_one : (r p : Point) → IsBetween r p p → SamePoint r p
 between_one r p h =
     let w = h.weighted in
-    let positive : pos 0 <ℤ (pos h.first +ℤ pos h.second) = omega (arith, lin) in
-    (mean_of_one r.x (pos r.d) p.x (pos p.d) (pos h.first) (pos h.second) positive h.x,
-    mean_of_one r.y (pos r.d) p.y (pos p.d) (pos h.first) (pos h.second) positive h.y)
+    let positive : pos 0 <ℤ (pos h.first +ℤ pos h.second) = omega (arith, lin) in (
+      mean_of_one r.x (pos r.d) p.x (pos p.d) (pos h.first) (pos h.second) positive h.x,
+      mean_of_one r.y (pos r.d) p.y (pos p.d) (pos h.first) (pos h.second) positive h.y,
+    )
 
 pub off_clear : (edges : List Seg) (p : Point) → IsOff edges p → IsClear edges p p
 off_clear edges p off = λ e c r b on. off e c (between-moved r p _ _ (between_one r p b) on)
@@ -79,25 +79,21 @@ joined_off edges p q (r ∷ way, h) = clear_off edges p r h.0
 -- over plain variables: a mean of p/pd and q, and of the same p'/pd' and q
 mean_moved : (r d p pd q qd p' pd' m n : ℤ) → p *ℤ pd' ≡ p' *ℤ pd
     → r *ℤ ((m *ℤ pd) +ℤ (n *ℤ qd)) ≡ d *ℤ ((m *ℤ p) +ℤ (n *ℤ q))
-    → pos 0 <ℤ pd
     → r *ℤ (((m *ℤ pd) *ℤ pd') +ℤ ((n *ℤ pd') *ℤ qd)) ≡ d *ℤ (((m *ℤ pd) *ℤ p') +ℤ ((n *ℤ pd') *ℤ q))
-mean_moved r d p pd q qd p' pd' m n same h positive =
+mean_moved r d p pd q qd p' pd' m n same h =
     by_two (r ∷ d ∷ p ∷ pd ∷ q ∷ qd ∷ p' ∷ pd' ∷ m ∷ n ∷ [])
     (Var 0 ⊗ ((Var 8 ⊗ Var 3) ⊗ Var 7 ⊕ (Var 9 ⊗ Var 7) ⊗ Var 5)) (Var 1 ⊗ ((Var 8 ⊗ Var 3) ⊗ Var 6 ⊕ (Var 9 ⊗ Var 7) ⊗ Var 4))
     (Var 7) (Var 0 ⊗ (Var 8 ⊗ Var 3 ⊕ Var 9 ⊗ Var 5)) (Var 1 ⊗ (Var 8 ⊗ Var 2 ⊕ Var 9 ⊗ Var 4))
     (Var 1 ⊗ Var 8) (Var 2 ⊗ Var 7) (Var 6 ⊗ Var 3) refl h same
-
-moved_weights : (m n d d' : ℕ) → 1 ≤ m + n → 1 ≤ d → 1 ≤ d' → 1 ≤ m * d + n * d'
-moved_weights m n d d' w h k = weights_positive m n d d' w h k
 
 -- a point between p and q is between p', the same point, and q
 pub between-end : (r p p' q : Point) → SamePoint p p' → IsBetween r p q → IsBetween r p' q
 between-end r p p' q same h = record {
   first = h.first * p.d;
   second = h.second * p'.d;
-  weighted = moved_weights h.first h.second p.d p'.d h.weighted p.positive p'.positive;
-  x = mean_moved r.x (pos r.d) p.x (pos p.d) q.x (pos q.d) p'.x (pos p'.d) (pos h.first) (pos h.second) same.0 h.x (d_positive p);
-  y = mean_moved r.y (pos r.d) p.y (pos p.d) q.y (pos q.d) p'.y (pos p'.d) (pos h.first) (pos h.second) same.1 h.y (d_positive p)
+  weighted = weights_positive h.first h.second p.d p'.d h.weighted p.positive p'.positive;
+  x = mean_moved r.x (pos r.d) p.x (pos p.d) q.x (pos q.d) p'.x (pos p'.d) (pos h.first) (pos h.second) same.0 h.x;
+  y = mean_moved r.y (pos r.d) p.y (pos p.d) q.y (pos q.d) p'.y (pos p'.d) (pos h.first) (pos h.second) same.1 h.y;
 }
 
 pub clear-same : (edges : List Seg) (p p' q : Point) → SamePoint p p' → IsClear edges p q → IsClear edges p' q

@@ -1,7 +1,7 @@
 -- The sweep values of an edge and of a way: where two of the four sides are not of one sign, so are the other two.
-use mathlib.Core.List.{List, [], ◌∷◌}
-use Rattle.std.proofs.Common.{◌≡◌, refl, ℤ, pos, neg_ℤ, ◌+ℤ◌, ◌-ℤ◌, ◌*ℤ◌, ◌≤ℤ◌, ◌<ℤ◌, ◌⊎◌, ⊎_elim, arith}
-use Rattle.exact.proofs.Ring.{lin, by_ring, by_one, by_two, Term, Var, Lit, ◌⊕◌, ◌⊖◌, ◌⊗◌, mul_comm}
+use mathlib.Core.List.{[], ◌∷◌}
+use Rattle.std.proofs.Common.{◌≡◌, refl, ℤ, pos, ◌+ℤ◌, ◌-ℤ◌, ◌*ℤ◌, ◌≤ℤ◌, ◌<ℤ◌, arith}
+use Rattle.exact.proofs.Ring.{lin, by_two, Var, Lit, ◌⊕◌, ◌⊖◌, ◌⊗◌, mul_comm}
 use Rattle.crossings.proofs.Sides.{AreOpposite}
 use Rattle.exact.proofs.Compare.{le_of_lt}
 use Rattle.exact.proofs.Sign.{nonneg_times_nonneg, nonneg_times_nonpos, nonpos_times_nonneg, nonpos_times_nonpos, nonneg_factor, nonpos_factor}
@@ -37,7 +37,7 @@ rises at_p at_q at_hi at_lo tp tq tl th pd qd h k =
       from_p = by_two vars ((Var 0 ⊗ pq ⊕ Var 2 ⊗ lp) ⊕ Var 3 ⊗ ph) zero_term (zero_term ⊖ Var 8) sweeps sweeps_end (Var 4) depths depths_end refl h k;
       from_q = by_two vars ((Var 1 ⊗ pq ⊕ Var 2 ⊗ lq) ⊕ Var 3 ⊗ qh) zero_term (zero_term ⊖ Var 9) sweeps sweeps_end (Var 5) depths depths_end refl h k;
       from_lo = by_two vars (Var 3 ⊗ lh) (Var 1 ⊗ lp ⊖ Var 0 ⊗ lq) (zero_term ⊖ Lit (pos 1)) sweeps sweeps_end (Var 6) depths depths_end refl h k;
-      from_hi = by_two vars (Var 2 ⊗ lh) (Var 0 ⊗ qh ⊖ Var 1 ⊗ ph) (zero_term ⊖ Lit (pos 1)) sweeps sweeps_end (Var 7) depths depths_end refl h k
+      from_hi = by_two vars (Var 2 ⊗ lh) (Var 0 ⊗ qh ⊖ Var 1 ⊗ ph) (zero_term ⊖ Lit (pos 1)) sweeps sweeps_end (Var 7) depths depths_end refl h k;
     }
 
 -- ---- in each window of the sweep, two sides that are not of one sign force the other two to be opposite
@@ -55,7 +55,7 @@ both_within at_p at_q at_hi at_lo pq lp ph lq qh lh r rise_lh rise_lp rise_ph ri
       p = hp;
       q = hq;
       hi = nonpos_factor lh at_hi rise_lh (omega (arith, lin, mul_comm lh at_hi, r.from_hi));
-      lo = nonneg_factor lh at_lo rise_lh (omega (arith, lin, mul_comm lh at_lo, r.from_lo))
+      lo = nonneg_factor lh at_lo rise_lh (omega (arith, lin, mul_comm lh at_lo, r.from_lo));
     }
 
 -- from between lo and hi out past hi
@@ -71,7 +71,7 @@ out_past_hi at_p at_q at_hi at_lo pq lp ph lq qh lh r rise_lh rise_pq rise_lp ri
       p = hp;
       q = nonneg_factor ph at_q rise_ph (omega (arith, lin, mul_comm ph at_q, r.from_hi));
       hi = hhi;
-      lo = nonneg_factor ph at_lo rise_ph (omega (arith, lin, mul_comm ph at_lo, r.from_p))
+      lo = nonneg_factor ph at_lo rise_ph (omega (arith, lin, mul_comm ph at_lo, r.from_p));
     }
 
 -- from before lo in between lo and hi
@@ -88,7 +88,7 @@ in_over_lo at_p at_q at_hi at_lo pq lp ph lq qh lh r rise_lh rise_ph rise_lp ris
       p = hp;
       q = hq;
       hi = nonpos_factor lh at_hi rise_lh (omega (arith, lin, mul_comm lh at_hi, r.from_hi));
-      lo = hlo
+      lo = hlo;
     }
 
 -- from before lo out past hi
@@ -104,5 +104,5 @@ past_both at_p at_q at_hi at_lo pq lp ph lq qh lh r rise_pq rise_lp rise_ph rise
       p = nonpos_factor pq at_p rise_pq (omega (arith, lin, mul_comm pq at_p, r.from_p));
       q = nonneg_factor pq at_q rise_pq (omega (arith, lin, mul_comm pq at_q, r.from_q));
       hi = hhi;
-      lo = hlo
+      lo = hlo;
     }

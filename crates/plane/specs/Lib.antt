@@ -7,3 +7,4 @@ pub mod Snapping
 pub mod Noded
 pub mod Laws
 pub mod Examples
+pub mod Joined

@@ -45,9 +45,10 @@ change-holds files i old new c d =
     let put = held-at (set es i (entry_of new)) i within (distinct-set es i (entry_of new) same ∙ d) in
     record {
       here = ap (λ l. held l (entry_at es i).name) is ∙ ap (held (set es i (entry_of new))) (sym same ∙ ap (λ e. e.name) (sym there))
-        ∙ put ∙ ap (λ e. Some e.bytes) there;
+          ∙ put ∙ ap (λ e. Some e.bytes) there;
       others = λ other ne. ap (λ l. held l other) is
-        ∙ held-set-other es i (entry_of new) same other (λ q. ne (q ∙ same)) }
+          ∙ held-set-other es i (entry_of new) same other (λ q. ne (q ∙ same));
+    }
 
 pub change-appends : (files : List ShelfFile) (i : ℕ) (old new : ShelfFile) (piece : List ℕ) → IsChange files i old new
     → IsTrue (are_distinct (map entry_of files)) → new.bytes.items ≡ old.bytes.items ++ piece
@@ -57,10 +58,11 @@ change-appends files i old new piece c d put =
     let now = change-holds files i old new c d in
     let under : i < length es = omega (arith, length-map files entry_of, c.below) in
     let was : held es (entry_at es i).name ≡ Some old.bytes.items = held-at es i under d
-      ∙ ap (λ e. Some e.bytes) (entry-of-at files i old new c) in
+    ∙ ap (λ e. Some e.bytes) (entry-of-at files i old new c) in
     record {
       here = λ bytes e. now.here ∙ ap Some put ∙ ap (λ l. Some (l ++ piece)) (let k : Some old.bytes.items ≡ Some bytes = sym was ∙ e in cc);
-      others = now.others }
+      others = now.others;
+    }
 
 pub change-names : (files : List ShelfFile) (i : ℕ) (old new : ShelfFile) (room : ℕ) → IsChange files i old new
     → SameNames (record { entries = map entry_of files; room = room }) (record { entries = map entry_of (set files i new); room = room })
@@ -70,7 +72,8 @@ change-names files i old new room c =
     record {
       count = ap length is ∙ length-set es i (entry_of new);
       names = λ j. ap (λ l. (entry_at l j).name) is ∙ names-set es i (entry_of new) (same-at files i old new c) j;
-      room = refl }
+      room = refl;
+    }
 
 -- whether the name of the file at a place is this one
 pub named-here : (files : List ShelfFile) (i : ℕ) (file : ShelfFile) (text name : List ℕ) → i < length files

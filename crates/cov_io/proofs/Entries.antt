@@ -35,8 +35,8 @@ held-at (e ∷ es) zero below d = held-front e es e.name (same-name e.name)
 held-at (e ∷ es) (suc i) below d =
     let there = held-at es i (omega arith) (tail-distinct e es d) in
     let apart : (entry_at es i).name ≢ e.name = λ same.
-      let none = head-distinct e es d in
-      let some : is_none (held es e.name) ≡ false = ap (λ n. is_none (held es n)) (sym same) ∙ ap is_none there in cc in
+    let none = head-distinct e es d in
+    let some : is_none (held es e.name) ≡ false = ap (λ n. is_none (held es n)) (sym same) ∙ ap is_none there in cc in
     held-behind e es (entry_at es i).name (other-name e.name (entry_at es i).name apart) ∙ there
 
 -- a file that keeps its name hides no more names than before
@@ -55,10 +55,10 @@ none-set [] i e' same name = refl
 none-set (e ∷ es) zero e' same name =
     ap (λ n. is_none (cond (bytes_eq n name) (Some e'.bytes) (held es name))) same
     ∙ elim (bytes_eq e.name name) as (λ t. is_none (cond t (Some e'.bytes) (held es name)) ≡ is_none (cond t (Some e.bytes) (held es name)))
-      [ true ↦ refl | false ↦ refl ]
+    [ true ↦ refl | false ↦ refl ]
 none-set (e ∷ es) (suc i) e' same name =
     elim (bytes_eq e.name name) as (λ t. is_none (cond t (Some e.bytes) (held (set es i e') name)) ≡ is_none (cond t (Some e.bytes) (held es name)))
-      [ true ↦ refl | false ↦ none-set es i e' same name ]
+    [ true ↦ refl | false ↦ none-set es i e' same name ]
 
 pub distinct-set : (es : List Entry) (i : ℕ) (e' : Entry) → e'.name ≡ (entry_at es i).name
     → are_distinct (set es i e') ≡ are_distinct es

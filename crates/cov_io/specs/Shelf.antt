@@ -37,7 +37,8 @@ shelf_state s = record {
   output = unwrap_or s.output [];
   left = unwrap_or s.left [];
   files = held s.stored.entries;
-  room = s.stored.room }
+  room = s.stored.room;
+}
 
 -- what the file of the current output holds
 abbrev pub output_bytes : Shelved → List ℕ

@@ -20,6 +20,6 @@ pub use disk::Disk;
 pub use fail::{Call, Fail};
 pub use files::{Failed, Files};
 pub use input::{SlurpError, slurp};
+pub use output::{WriteFault, spill};
 pub use shelf::Shelf;
 pub use shelf_file::ShelfFile;
-pub use output::{WriteFault, spill};

@@ -1,4 +1,4 @@
-ghost use Rattle.std.specs.Prelude.{◌≡◌, ◌⊎◌, ◌<◌, ◌≤◌, ◌-◌, ◌||◌, min, true, false, [], map, length, Some, None, IsTrue, IsOk, IfOk, OnOk, OnErr, is_err, is_none, nat_le, if◌then◌else◌, slice_range, take, drop};
+ghost use Rattle.std.specs.Prelude.{◌≡◌, ◌⊎◌, ◌<◌, ◌≤◌, ◌-◌, ◌||◌, min, true, false, [], map, length, Some, None, IsTrue, IsOk, IfOk, OnOk, OnErr, IfSome, IfNone, is_err, is_none, nat_le, if◌then◌else◌, slice_range, take, drop};
 ghost use Rattle.std.specs.Option.{unwrap_or};
 ghost use Rattle.cov_io.specs.Count.{HasCause, one_more};
 ghost use Rattle.cov_io.specs.Contents.{SameFiles, HoldsNow};
@@ -49,13 +49,14 @@ impl Model for Shelf {
     ghost Value = { Shelved };
 
     ghost view = { λ s. record {
-        stored = s.store;
-        planned = s.plan;
-        piece = s.piece;
-        read_faults = s.read_faults;
-        write_faults = s.write_faults;
-        left = option_map (λ c. drop c.at (entry_at s.store.entries c.file).bytes) s.input;
-        output = option_map (λ i. (entry_at s.store.entries i).name) s.output } };
+      stored = s.store;
+      planned = s.plan;
+      piece = s.piece;
+      read_faults = s.read_faults;
+      write_faults = s.write_faults;
+      left = option_map (λ c. drop c.at (entry_at s.store.entries c.file).bytes) s.input;
+      output = option_map (λ i. (entry_at s.store.entries i).name) s.output;
+    } };
 
     ghost invariant = { λ s. (1 ≤ s.piece)
         × ForSome s.input (λ c. c.file < length s.store.entries)
@@ -74,13 +75,14 @@ impl Shelf {
         requires distinct { IsTrue (are_distinct (map entry_of files.items)) }
         requires some { 1 ≤ piece }
         ensures { IfOk result (λ shelf. shelf ≡ record {
-            stored = record { entries = map entry_of files.items; room = room };
-            planned = record { fails = fails.items; opened = 0; read = 0; created = 0; written = 0; closed = 0 };
-            piece = piece;
-            read_faults = 0;
-            write_faults = 0;
-            left = None;
-            output = None }) }
+          stored = record { entries = map entry_of files.items; room = room };
+          planned = record { fails = fails.items; opened = 0; read = 0; created = 0; written = 0; closed = 0 };
+          piece = piece;
+          read_faults = 0;
+          write_faults = 0;
+          left = None;
+          output = None;
+        }) }
     {
         Ok(Shelf {
             store: Store::new(alloc, files, room)?,
@@ -92,17 +94,22 @@ impl Shelf {
             output: None,
         })
     }
+
+    /// What the file of this name holds.
+    pub fn held(&self, name: &str) -> Option<&[u8]>
+        ensures held { IfSome result (λ bytes. held self.now.stored.entries name.now ≡ Some bytes.now) }
+        ensures missing { IfNone result (held self.now.stored.entries name.now ≡ None) }
+    {
+        let file = self.store.find(name)?;
+        Some(self.store.bytes(file))
+    }
 }
 
 // What is left of these bytes after `at` of them.
 fn rest(bytes: &[u8], at: usize) -> &[u8]
     ensures { result.now ≡ drop at bytes.now }
 {
-    if at < bytes.len() {
-        &bytes[at..]
-    } else {
-        &[]
-    }
+    if at < bytes.len() { &bytes[at..] } else { &[] }
 }
 
 // Copies what fits to the front of the buffer, at most `piece` bytes, and answers how many.

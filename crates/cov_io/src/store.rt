@@ -36,7 +36,11 @@ fn with_room(file: ShelfFile, room: usize) -> Result<ShelfFile, AllocError>
 }
 
 impl Store {
-    pub(crate) fn new(alloc: Global, files: Vec<ShelfFile>, room: usize) -> Result<Store, AllocError>
+    pub(crate) fn new(
+        alloc: Global,
+        files: Vec<ShelfFile>,
+        room: usize,
+    ) -> Result<Store, AllocError>
         requires { IsTrue (are_distinct (map entry_of files.items)) }
         ensures { IfOk result (λ s. s ≡ record { entries = map entry_of files.items; room = room }) }
     {
@@ -49,6 +53,7 @@ impl Store {
 
     pub(crate) fn find(&self, name: &str) -> Option<usize>
         ensures found { IfSome result (λ i. (i < length self.now.entries) × ((entry_at self.now.entries i).name ≡ name.now)) }
+        ensures held { IfSome result (λ i. held self.now.entries name.now ≡ Some (entry_at self.now.entries i).bytes) }
         ensures missing { IfNone result (held self.now.entries name.now ≡ None) }
     {
         for i in 0..self.files.len() {
@@ -70,7 +75,8 @@ impl Store {
     // How many bytes the file can take yet.
     pub(crate) fn free(&self, i: usize) -> usize
         requires { i < length self.now.entries }
-        ensures { result ≡ self.now.room - length (entry_at self.now.entries i).bytes }
+        ensures count { result ≡ self.now.room - length (entry_at self.now.entries i).bytes }
+        ensures held { held self.now.entries (entry_at self.now.entries i).name ≡ Some (entry_at self.now.entries i).bytes }
     {
         self.room.saturating_sub(self.files[i].bytes.len())
     }

@@ -1,2 +1,6 @@
 pub mod Rings
 pub mod Parsing
+pub mod Fusing
+pub mod Limits
+pub mod Lexing
+pub mod Readings

@@ -1,0 +1,34 @@
+-- Coverages as lists: members of polygons of rings of points.
+use Rattle.std.specs.Prelude.{◌≤◌, ◌<◌, ◌^◌, List, length, All}
+use Rattle.cov_types.specs.Range.{IsInRange}
+use Rattle.cov_types.specs.declared.coord.Coord.{Coord}
+
+-- each point of the ring, of each ring of the polygon, of each polygon of the member is in range
+abbrev pub IsRingInRange : List Coord → Type 0
+IsRingInRange points = All IsInRange points
+
+abbrev pub IsPolyInRange : List (List Coord) → Type 0
+IsPolyInRange rings = All IsRingInRange rings
+
+abbrev pub IsMemberInRange : List (List (List Coord)) → Type 0
+IsMemberInRange polys = All IsPolyInRange polys
+
+-- every coordinate is in range, and there are fewer than 2 ^ 32 members
+pub record AllInRange (members : List (List (List (List Coord)))) : Type 0 where
+  pub coords : All IsMemberInRange members
+  pub count : length members < 2 ^ 32
+
+-- a ring of three points or more; a polygon of at least a ring, all such; a member of such polygons
+abbrev pub IsRingFormed : List Coord → Type 0
+IsRingFormed points = 3 ≤ length points
+
+abbrev pub IsPolyFormed : List (List Coord) → Type 0
+IsPolyFormed rings = (1 ≤ length rings) × All IsRingFormed rings
+
+abbrev pub IsMemberFormed : List (List (List Coord)) → Type 0
+IsMemberFormed polys = All IsPolyFormed polys
+
+-- the coverage is in range, every polygon has a ring and every ring has three points or more
+pub record IsFormed (members : List (List (List (List Coord)))) : Type 0 where
+  pub in_range : AllInRange members
+  pub shapes : All IsMemberFormed members

@@ -1,7 +1,7 @@
 -- Reading byte by byte is the machine over the tokens that the bytes make.
 use Rattle.std.proofs.Common.{◌≡◌, ℕ, Bool, true, false, cond, List, [], ◌∷◌, ◌++◌, Option, Some, None, option_and_then, option_map, sym, refl, ap, ◌∙◌}
 use Rattle.geo_text.specs.Token.{Token}
-use Rattle.geo_text.specs.Machine.{State, step, run, goes_on, typed_on, ended, begun, ending, beginning, read_byte, read_bytes}
+use Rattle.geo_text.specs.Machine.{State, step, run, goes_on, typed_on, ended, begun, read_bytes}
 use Rattle.geo_text.specs.declared.lexeme.Lexeme.{Lexeme}
 
 -- the tokens of the bytes behind a lexeme that is being typed
@@ -9,8 +9,8 @@ abbrev pub tokens_from : Lexeme → List ℕ → Option (List Token)
 tokens_from lexeme [] = ended lexeme
 tokens_from lexeme (b ∷ bytes) =
     cond (goes_on lexeme b)
-        (option_and_then (λ more. tokens_from more bytes) (typed_on lexeme b))
-        (option_and_then (λ ts. option_and_then (λ (p : Lexeme × List Token). option_map (λ us. ts ++ (p.1 ++ us)) (tokens_from p.0 bytes)) (begun b)) (ended lexeme))
+    (option_and_then (λ more. tokens_from more bytes) (typed_on lexeme b))
+    (option_and_then (λ ts. option_and_then (λ (p : Lexeme × List Token). option_map (λ us. ts ++ (p.1 ++ us)) (tokens_from p.0 bytes)) (begun b)) (ended lexeme))
 
 run_after : (o : Option State) (ys : List Token) (f : State → Option State) → ((s : State) → f s ≡ run s ys) → option_and_then f o ≡ option_and_then (λ s. run s ys) o
 run_after None ys f h = refl
@@ -42,7 +42,7 @@ read_on (Some a) l s xs (Some us) bytes g h = h a ∙ sym (g us)
 through : (o : Option State) (l : Lexeme) (xs : List Token) (lexed : Option (List Token)) (bytes : List ℕ)
     → ((s : State) → read_bytes l s bytes ≡ option_and_then (run s) lexed)
     → option_and_then (λ (p : Lexeme × State). read_bytes p.0 p.1 bytes) (option_and_then (λ after. option_map (λ last. (l, last)) (run after xs)) o)
-      ≡ option_and_then (λ s. option_and_then (λ us. run s (xs ++ us)) lexed) o
+    ≡ option_and_then (λ s. option_and_then (λ us. run s (xs ++ us)) lexed) o
 through None l xs lexed bytes h = refl
 through (Some s) l xs lexed bytes h = read_on (run s xs) l s xs lexed bytes (run-append s xs) h
 
@@ -53,13 +53,13 @@ joined s ts xs (Some us) = sym (run-append s ts (xs ++ us))
 by_cases : (g : Bool) (m : Option Lexeme) (e : Option (List Token)) (n : Option (Lexeme × List Token)) (s : State) (bytes : List ℕ)
     → ((l : Lexeme) (s : State) → read_bytes l s bytes ≡ option_and_then (run s) (tokens_from l bytes))
     → option_and_then (λ (p : Lexeme × State). read_bytes p.0 p.1 bytes)
-        (cond g
-            (option_map (λ more. (more, s)) m)
-            (option_and_then (λ after. option_and_then (λ (p : Lexeme × List Token). option_map (λ last. (p.0, last)) (run after p.1)) n) (option_and_then (run s) e)))
-      ≡ option_and_then (run s)
-        (cond g
-            (option_and_then (λ more. tokens_from more bytes) m)
-            (option_and_then (λ ts. option_and_then (λ (p : Lexeme × List Token). option_map (λ us. ts ++ (p.1 ++ us)) (tokens_from p.0 bytes)) n) e))
+    (cond g
+    (option_map (λ more. (more, s)) m)
+    (option_and_then (λ after. option_and_then (λ (p : Lexeme × List Token). option_map (λ last. (p.0, last)) (run after p.1)) n) (option_and_then (run s) e)))
+    ≡ option_and_then (run s)
+    (cond g
+    (option_and_then (λ more. tokens_from more bytes) m)
+    (option_and_then (λ ts. option_and_then (λ (p : Lexeme × List Token). option_map (λ us. ts ++ (p.1 ++ us)) (tokens_from p.0 bytes)) n) e))
 by_cases true None e n s bytes h = refl
 by_cases true (Some more) e n s bytes h = h more s
 by_cases false m None n s bytes h = refl

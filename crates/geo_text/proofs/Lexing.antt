@@ -1,7 +1,6 @@
 -- The lexemes that bytes make are the tokens that the bytes spell.
-use Rattle.std.proofs.Common.{◌≡◌, ℕ, zero, suc, ◌+◌, ◌-◌, ◌*◌, ◌<◌, ◌≤◌, Bool, true, false, cond, ◌&&◌, ◌||◌, eqb, ltb, leb, IsTrue, List, [], ◌∷◌, ◌++◌, length, map, drop, get_or, Option, Some, None, option_and_then, option_map, ℤ, pos, ◌⊎◌, inl, inr, sym, refl, ap, ◌∙◌, subst, arith, append_assoc, append-nil, codes, zero-lt-suc, eqb-true, eq-eqb, lt-ltb, ltb-true, drop-cons, add-one, lit≤, length-drop, zero-add, ⊎_elim, if◌then◌else◌, ap₂}
+use Rattle.std.proofs.Common.{◌≡◌, ℕ, zero, suc, ◌+◌, ◌-◌, ◌*◌, ◌<◌, ◌≤◌, Bool, true, false, cond, ◌&&◌, ◌||◌, eqb, ltb, List, [], ◌∷◌, ◌++◌, length, map, drop, get_or, Option, Some, None, option_and_then, option_map, ℤ, ◌⊎◌, sym, refl, ap, ◌∙◌, subst, arith, append_assoc, append-nil, codes, zero-lt-suc, eqb-true, eq-eqb, lt-ltb, ltb-true, drop-cons, add-one, lit≤, length-drop, zero-add, ⊎_elim, if◌then◌else◌, ap₂}
 use Rattle.std.specs.Char.{to_ascii_uppercase}
-use Rattle.std.specs.List.{AllByRecursion}
 use Rattle.std.proofs.lemmas.Bool.{and_parts, cond_both, false≢true}
 use Rattle.std.proofs.lemmas.Bool.Decides.{nat_tests}
 use Rattle.geo_text.specs.Token.{Token, Polygon, Number, Open, Close, Comma, is_white, is_digit, IsWhite, AreDigits, number_from, signed, IsNumeral, IsSpelled, is_alike, Spells}
@@ -189,14 +188,14 @@ leaves Close spelling h = subst (λ (bytes : List ℕ). Leaves Close bytes) (sym
 leaves Comma spelling h = subst (λ (bytes : List ℕ). Leaves Comma bytes) (sym h) (leaves_mark Comma 44 refl refl)
 
 -- what a token's first byte is
-abbrev FirstByte : Token → ℕ → Type 0
+abbrev pub FirstByte : Token → ℕ → Type 0
 FirstByte Polygon b = to_ascii_uppercase b ≡ 80
 FirstByte (Number z) b = (is_digit b || eqb b 45) ≡ true
 FirstByte Open b = b ≡ 40
 FirstByte Close b = b ≡ 41
 FirstByte Comma b = b ≡ 44
 
-abbrev Begins : Token → List ℕ → Type 0
+abbrev pub Begins : Token → List ℕ → Type 0
 Begins token spelling = (b : ℕ) × (rest : List ℕ) × (spelling ≡ b ∷ rest) × FirstByte token b
 
 word_begins : (spelling : List ℕ) → map to_ascii_uppercase spelling ≡ codes "POLYGON" → Begins Polygon spelling
@@ -208,7 +207,7 @@ number_begins z spelling negative [] h k e = absurd (omega arith)
 number_begins z spelling false (d ∷ digits) h k e = (d, digits, e, rw k.0 refl)
 number_begins z spelling true (d ∷ digits) h k e = (45, d ∷ digits, e, refl)
 
-begins : (token : Token) (spelling : List ℕ) → IsSpelled token spelling → Begins token spelling
+pub begins : (token : Token) (spelling : List ℕ) → IsSpelled token spelling → Begins token spelling
 begins Polygon spelling h = word_begins spelling h
 begins (Number z) spelling h = number_begins z spelling h.negative h.digits h.some_digit h.each_digit h.spelling
 begins Open spelling h = (40, [], h, refl)
@@ -250,7 +249,7 @@ ends_before l previous token [] spelling rest ts p e h a k =
     let first = begins token spelling k in
     let none : is_alike previous token ≡ false = not_true (is_alike previous token) (λ t. let n : 0 < 0 = a t in omega arith) in
     subst (λ (bytes : List ℕ). tokens_from l (bytes ++ rest) ≡ option_map (λ us. ts ++ us) (tokens_from lexemes.Blank (bytes ++ rest))) (sym first.2)
-        (stops l first.0 (first.1 ++ rest) ts (keeps_apart l previous token first.0 p none first.3) e)
+    (stops l first.0 (first.1 ++ rest) ts (keeps_apart l previous token first.0 p none first.3) e)
 
 ends_white : (bytes : List ℕ) (l : Lexeme) (ts : List Token) → ended l ≡ Some ts → IsWhite bytes → tokens_from l bytes ≡ Some (ts ++ [])
 ends_white [] l ts e h = e ∙ ap Some (sym (append-nil ts))
@@ -358,14 +357,26 @@ behind lexemes.Blank b bytes ts vs k g e w =
     let none : [] ≡ ts = some_equal [] ts e in
     subst (λ (xs : List Token). Lexed lexemes.Blank (xs ++ vs) (b ∷ bytes)) none w
 behind (lexemes.Word n) b bytes ts vs k g e (tokens, same, spelled) =
-    let whole = if_some (eqb n 7) (Polygon ∷ []) ts e in
-    ([], b ∷ bytes, tokens, ap (λ m. drop m (codes "POLYGON")) (sym (eqb-true n 7 whole.0)), refl,
-        ap (λ (xs : List Token). xs ++ vs) (sym whole.1) ∙ ap (λ xs. Polygon ∷ xs) same, spells_apart Polygon b (no_letter b g) tokens bytes spelled)
+    let whole = if_some (eqb n 7) (Polygon ∷ []) ts e in (
+      [],
+      b ∷ bytes,
+      tokens,
+      ap (λ m. drop m (codes "POLYGON")) (sym (eqb-true n 7 whole.0)),
+      refl,
+      ap (λ (xs : List Token). xs ++ vs) (sym whole.1) ∙ ap (λ xs. Polygon ∷ xs) same,
+      spells_apart Polygon b (no_letter b g) tokens bytes spelled,
+    )
 behind (lexemes.Number negative some_digit size) b bytes ts vs k g e (tokens, same, spelled) =
-    let whole = if_some some_digit (Number (signed negative size) ∷ []) ts e in
-    ([], b ∷ bytes, tokens, tt, (λ f. absurd (false≢true (sym f ∙ whole.0))), refl,
-        ap (λ (xs : List Token). xs ++ vs) (sym whole.1) ∙ ap (λ (m : ℕ). Number (signed negative m) ∷ vs) (sym (capped-small size k)) ∙ ap (λ (xs : List Token). Number (signed negative (capped size)) ∷ xs) same,
-        λ z. spells_apart (Number z) b (no_number b z g) tokens bytes spelled)
+    let whole = if_some some_digit (Number (signed negative size) ∷ []) ts e in (
+      [],
+      b ∷ bytes,
+      tokens,
+      tt,
+      (λ f. absurd (false≢true (sym f ∙ whole.0))),
+      refl,
+      ap (λ (xs : List Token). xs ++ vs) (sym whole.1) ∙ ap (λ (m : ℕ). Number (signed negative m) ∷ vs) (sym (capped-small size k)) ∙ ap (λ (xs : List Token). Number (signed negative (capped size)) ∷ xs) same,
+      λ z. spells_apart (Number z) b (no_number b z g) tokens bytes spelled,
+    )
 
 abbrev Known : List ℕ → Type 0
 Known bytes = (l : Lexeme) (us : List Token) → IsCapped l → tokens_from l bytes ≡ Some us → Lexed l us bytes
@@ -378,23 +389,39 @@ begins_digit : (b : ℕ) (bytes : List ℕ) (vs : List Token) → Known bytes �
 begins_digit b bytes vs known w e =
     let h = known (lexemes.Number false true (b - 48)) vs (digit_small b w) e in
     let digits = h.0 in
-    let z = signed false (number_from 0 (b ∷ digits)) in
-    (Number z ∷ h.2,
-        h.6 ∙ ap (λ (n : ℕ). Number (signed false (capped (number_from n digits))) ∷ map limited h.2) (sym (zero-add (b - 48))),
-        ([], b ∷ digits, h.1, tt, no_previous (Number z),
-            record { negative = false; digits = b ∷ digits; some_digit = zero-lt-suc (length digits); each_digit = (w, h.3); spelling = refl; value_is = refl },
-            ap (λ xs. b ∷ xs) h.5, h.7 z))
+    let z = signed false (number_from 0 (b ∷ digits)) in (
+      Number z ∷ h.2,
+      h.6 ∙ ap (λ (n : ℕ). Number (signed false (capped (number_from n digits))) ∷ map limited h.2) (sym (zero-add (b - 48))),
+      (
+        [],
+        b ∷ digits,
+        h.1,
+        tt,
+        no_previous (Number z),
+        record { negative = false; digits = b ∷ digits; some_digit = zero-lt-suc (length digits); each_digit = (w, h.3); spelling = refl; value_is = refl },
+        ap (λ xs. b ∷ xs) h.5,
+        h.7 z,
+      ),
+    )
 
 begins_minus : (b : ℕ) (bytes : List ℕ) (vs : List Token) → Known bytes → b ≡ 45 → tokens_from (lexemes.Number true false 0) bytes ≡ Some vs → Lexed lexemes.Blank vs (b ∷ bytes)
 begins_minus b bytes vs known w e =
     let h = known (lexemes.Number true false 0) vs (omega arith) e in
     let digits = h.0 in
-    let z = signed true (number_from 0 digits) in
-    (Number z ∷ h.2,
-        h.6 ∙ ap (λ (y : ℤ). Number y ∷ map limited h.2) (sym (limit-signed true (number_from 0 digits))),
-        ([], b ∷ digits, h.1, tt, no_previous (Number z),
-            record { negative = true; digits = digits; some_digit = h.4 refl; each_digit = h.3; spelling = ap (λ c. c ∷ digits) w; value_is = refl },
-            ap (λ xs. b ∷ xs) h.5, h.7 z))
+    let z = signed true (number_from 0 digits) in (
+      Number z ∷ h.2,
+      h.6 ∙ ap (λ (y : ℤ). Number y ∷ map limited h.2) (sym (limit-signed true (number_from 0 digits))),
+      (
+        [],
+        b ∷ digits,
+        h.1,
+        tt,
+        no_previous (Number z),
+        record { negative = true; digits = digits; some_digit = h.4 refl; each_digit = h.3; spelling = ap (λ c. c ∷ digits) w; value_is = refl },
+        ap (λ xs. b ∷ xs) h.5,
+        h.7 z,
+      ),
+    )
 
 begins_letter : (b : ℕ) (bytes : List ℕ) (vs : List Token) → Known bytes → to_ascii_uppercase b ≡ 80 → tokens_from (lexemes.Word 1) bytes ≡ Some vs → Lexed lexemes.Blank vs (b ∷ bytes)
 begins_letter b bytes vs known w e =
@@ -403,9 +430,11 @@ begins_letter b bytes vs known w e =
 
 begins_mark : (token : Token) (mark b : ℕ) (bytes : List ℕ) (vs : List Token) → Known bytes → ((next : Token) → is_alike (Some token) next ≡ false) → is_alike None token ≡ false → limited token ≡ token → IsSpelled token (mark ∷ []) → b ≡ mark → tokens_from lexemes.Blank bytes ≡ Some vs → Lexed lexemes.Blank (token ∷ vs) (b ∷ bytes)
 begins_mark token mark b bytes vs known apart first same spelled w e =
-    let h = known lexemes.Blank vs tt e in
-    (token ∷ h.0, ap₂ (λ (t : Token) (ts : List Token). t ∷ ts) (sym same) h.1,
-        ([], mark ∷ [], bytes, tt, (λ t. absurd (false≢true (sym first ∙ t))), spelled, ap (λ c. c ∷ bytes) w, spells_after token apart h.0 bytes h.2))
+    let h = known lexemes.Blank vs tt e in (
+      token ∷ h.0,
+      ap₂ (λ (t : Token) (ts : List Token). t ∷ ts) (sym same) h.1,
+      ([], mark ∷ [], bytes, tt, (λ t. absurd (false≢true (sym first ∙ t))), spelled, ap (λ c. c ∷ bytes) w, spells_after token apart h.0 bytes h.2),
+    )
 
 begins_some : (b : ℕ) (bytes : List ℕ) (vs : List Token) → Known bytes → (p : Lexeme × List Token) → begun b ≡ Some p → tokens_from p.0 bytes ≡ Some vs → Lexed lexemes.Blank (p.1 ++ vs) (b ∷ bytes)
 begins_some b bytes vs known =
@@ -433,20 +462,27 @@ goes (lexemes.Word n) b bytes us known k g e =
 goes (lexemes.Number negative some_digit size) b bytes us known k g e =
     let next = capped (10 * size + (b - 48)) in
     let typed = chosen (is_digit b) (lexemes.Number negative true next) (λ more. tokens_from more bytes) us e in
-    let h = known (lexemes.Number negative true next) us (omega arith) typed.1 in
-    (b ∷ h.0, h.1, h.2, (typed.0, h.3), (λ _. zero-lt-suc (length h.0)), ap (λ xs. b ∷ xs) h.5,
-        h.6 ∙ ap (λ (n : ℕ). Number (signed negative n) ∷ map limited h.2) (capped-from h.0 next (10 * size + (b - 48)) (capped-capped (10 * size + (b - 48)))), h.7)
+    let h = known (lexemes.Number negative true next) us (omega arith) typed.1 in (
+      b ∷ h.0,
+      h.1,
+      h.2,
+      (typed.0, h.3),
+      (λ _. zero-lt-suc (length h.0)),
+      ap (λ xs. b ∷ xs) h.5,
+      h.6 ∙ ap (λ (n : ℕ). Number (signed negative n) ∷ map limited h.2) (capped-from h.0 next (10 * size + (b - 48)) (capped-capped (10 * size + (b - 48)))),
+      h.7,
+    )
 
 by_byte : (g : Bool) (l : Lexeme) (b : ℕ) (bytes : List ℕ) (us : List Token) → Known bytes → IsCapped l → goes_on l b ≡ g
     → cond g
-        (option_and_then (λ more. tokens_from more bytes) (typed_on l b))
-        (option_and_then (λ ts. option_and_then (λ (p : Lexeme × List Token). option_map (λ us. ts ++ (p.1 ++ us)) (tokens_from p.0 bytes)) (begun b)) (ended l)) ≡ Some us
+    (option_and_then (λ more. tokens_from more bytes) (typed_on l b))
+    (option_and_then (λ ts. option_and_then (λ (p : Lexeme × List Token). option_map (λ us. ts ++ (p.1 ++ us)) (tokens_from p.0 bytes)) (begun b)) (ended l)) ≡ Some us
     → Lexed l us (b ∷ bytes)
 by_byte true l b bytes us known k g e = goes l b bytes us known k g e
 by_byte false l b bytes us known k g e =
     let o = opened l b bytes us (ended l) (begun b) refl refl e in
     subst (λ (xs : List Token). Lexed l xs (b ∷ bytes)) o.all_is
-        (behind l b bytes o.ts (o.begins_as.1 ++ o.vs) k g o.ended_is (begins_some b bytes o.vs known o.begins_as o.begun_is o.rest_is))
+    (behind l b bytes o.ts (o.begins_as.1 ++ o.vs) k g o.ended_is (begins_some b bytes o.vs known o.begins_as o.begun_is o.rest_is))
 
 lexed : (bytes : List ℕ) → Known bytes
 lexed [] lexemes.Blank us k e = ([], sym (some_equal [] us e), tt)
@@ -454,9 +490,16 @@ lexed [] (lexemes.Word n) us k e =
     let whole = if_some (eqb n 7) (Polygon ∷ []) us e in
     ([], [], [], ap (λ m. drop m (codes "POLYGON")) (sym (eqb-true n 7 whole.0)), refl, sym whole.1, tt)
 lexed [] (lexemes.Number negative some_digit size) us k e =
-    let whole = if_some some_digit (Number (signed negative size) ∷ []) us e in
-    ([], [], [], tt, (λ f. absurd (false≢true (sym f ∙ whole.0))), refl,
-        sym whole.1 ∙ ap (λ (m : ℕ). Number (signed negative m) ∷ []) (sym (capped-small size k)), λ z. tt)
+    let whole = if_some some_digit (Number (signed negative size) ∷ []) us e in (
+      [],
+      [],
+      [],
+      tt,
+      (λ f. absurd (false≢true (sym f ∙ whole.0))),
+      refl,
+      sym whole.1 ∙ ap (λ (m : ℕ). Number (signed negative m) ∷ []) (sym (capped-small size k)),
+      λ z. tt,
+    )
 lexed (b ∷ bytes) l us k e = by_byte (goes_on l b) l b bytes us (lexed bytes) k refl e
 
 -- the tokens that the lexemes of a file make are spelled by it

@@ -4,3 +4,4 @@ pub mod Fusing
 pub mod Limits
 pub mod Lexing
 pub mod Readings
+pub mod Formed

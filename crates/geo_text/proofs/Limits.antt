@@ -1,11 +1,11 @@
 -- To read a size no further than one past the range changes nothing.
-use Rattle.std.proofs.Common.{◌≡◌, ℕ, zero, suc, ◌+◌, ◌-◌, ◌*◌, ◌≤◌, ◌<◌, min, Bool, true, false, cond, List, [], ◌∷◌, ◌++◌, map, Option, Some, None, option_and_then, ℤ, pos, negsuc, neg_ℤ, refl, ap, ◌∙◌, sym, subst, leb, arith}
+use Rattle.std.proofs.Common.{◌≡◌, ℕ, zero, suc, ◌+◌, ◌-◌, ◌*◌, ◌≤◌, min, Bool, true, false, cond, List, [], ◌∷◌, ◌++◌, map, Option, Some, None, option_and_then, ℤ, pos, negsuc, neg_ℤ, refl, ap, ◌∙◌, sym, leb, arith}
 use Rattle.std.proofs.lemmas.Bool.Decides.{nat_tests}
 use Rattle.std.proofs.lemmas.Int.{ints}
 use Rattle.geo_text.specs.Token.{Token, Polygon, Number, Open, Close, Comma, signed, number_from}
 use Rattle.geo_text.specs.Machine.{State, step, step_at, run, is_in_range, capped}
 use Rattle.geo_text.specs.declared.place.Place.{Place}
-use Rattle.geo_text.specs.declared.place.Place.TheVariants.{Outside, Word, RingStart, PositionStart, SecondNumber, PositionEnd, RingEnd}
+use Rattle.geo_text.specs.declared.place.Place.TheVariants.{PositionStart, SecondNumber, PositionEnd}
 
 -- a number whose size is read no further
 abbrev pub limit : ℤ → ℤ

@@ -1,11 +1,13 @@
 -- The machine over tokens reads what the grammar has, and nothing else.
-use Rattle.std.proofs.Common.{◌≡◌, ℕ, ◌<◌, Bool, true, false, cond, List, [], ◌∷◌, ◌++◌, length, map, flat_map, Option, Some, None, option_and_then, ℤ, sym, refl, ap, ◌∙◌, subst, arith, append_assoc, append-nil, zero-lt-suc}
+use Rattle.std.proofs.Common.{◌≡◌, Bool, true, false, cond, List, [], ◌∷◌, ◌++◌, map, flat_map, Option, Some, None, option_and_then, ℤ, sym, refl, ap, ◌∙◌, subst, arith, append_assoc, append-nil, zero-lt-suc, All}
 use Rattle.std.specs.List.{AllByRecursion}
+use Rattle.std.proofs.lemmas.List.Elements.{All-from_recursion, recursion_from_All}
+use Rattle.cov_types.specs.Range.{IsInRange}
 use Rattle.cov_types.specs.declared.coord.Coord.{Coord}
 use Rattle.geo_text.specs.Token.{Token, Polygon, Number, Open, Close, Comma}
-use Rattle.geo_text.specs.Grammar.{separated, bracketed, position, ring, polygon, file}
-use Rattle.geo_text.specs.Machine.{State, step, run, start, members_at, is_in_range, is_ring}
-use Rattle.geo_text.specs.Reading.{IsInRange, IsRing, IsPolygon, points, member}
+use Rattle.geo_text.specs.Grammar.{position, ring, polygon, file}
+use Rattle.geo_text.specs.Machine.{State, run, start, members_at, is_in_range, is_ring}
+use Rattle.geo_text.specs.Reading.{IsRing, IsPolygon, points, member}
 use Rattle.geo_text.specs.declared.place.Place.{Place}
 use Rattle.geo_text.specs.declared.place.Place.TheVariants.{Outside, Word, RingStart, PositionStart, SecondNumber, PositionEnd, RingEnd}
 use Rattle.geo_text.proofs.Rings.{is_in_range-true, in_range, is_ring-true, is_ring-long, is_ring-closed}
@@ -32,8 +34,8 @@ run_ring : (ps : List Coord) → IsRing ps → (ms : List (List (List (List Coor
 run_ring [] h ms rs rest = absurd (omega (arith, h.long))
 run_ring (p ∷ ps) h ms rs rest =
     ap (λ ts. run (at PositionStart ms rs []) (position p ++ ts)) (append_assoc (flat_map (λ q. Comma ∷ position q) ps) (Close ∷ []) rest)
-    ∙ run_position p h.in_range.0 ms rs [] (flat_map (λ q. Comma ∷ position q) ps ++ Close ∷ rest)
-    ∙ run_positions ps h.in_range.1 ms rs (p ∷ []) (Close ∷ rest)
+    ∙ run_position p (recursion_from_All IsInRange (p ∷ ps) h.in_range).0 ms rs [] (flat_map (λ q. Comma ∷ position q) ps ++ Close ∷ rest)
+    ∙ run_positions ps (recursion_from_All IsInRange (p ∷ ps) h.in_range).1 ms rs (p ∷ []) (Close ∷ rest)
     ∙ close_ring (p ∷ ps) h ms rs rest
 
 run_rings : (rings : List (List Coord)) → AllByRecursion IsRing rings → (ms : List (List (List (List Coord)))) (rs : List (List Coord)) (rest : List Token) → run (at RingEnd ms rs []) (flat_map (λ r. Comma ∷ ring r) rings ++ rest) ≡ run (at RingEnd ms (rs ++ map points rings) []) rest
@@ -50,8 +52,8 @@ run_polygon (r ∷ rings) h ms rest =
     let more = flat_map (λ q. Comma ∷ ring q) rings in
     let regroup : ((ring r ++ more) ++ Close ∷ []) ++ rest ≡ ring r ++ (more ++ Close ∷ rest) = simp append_assoc in
     ap (λ ts. run (at RingStart ms [] []) ts) regroup
-    ∙ run_ring r h.each_ring.0 ms [] (more ++ Close ∷ rest)
-    ∙ run_rings rings h.each_ring.1 ms (points r ∷ []) (Close ∷ rest)
+    ∙ run_ring r (recursion_from_All IsRing (r ∷ rings) h.each_ring).0 ms [] (more ++ Close ∷ rest)
+    ∙ run_rings rings (recursion_from_All IsRing (r ∷ rings) h.each_ring).1 ms (points r ∷ []) (Close ∷ rest)
 
 run_file : (polygons : List (List (List Coord))) → AllByRecursion IsPolygon polygons → (ms : List (List (List (List Coord)))) → run (at Outside ms [] []) (file polygons) ≡ Some (at Outside (ms ++ map member polygons) [] [])
 run_file [] h ms = ap (λ xs. Some (at Outside xs [] [])) (sym (append-nil ms))
@@ -61,8 +63,8 @@ run_file (rings ∷ polygons) h ms =
     ∙ ap (λ xs. Some (at Outside xs [] [])) (append_assoc ms (member rings ∷ []) (map member polygons))
 
 -- the machine reads the tokens of polygons
-pub run-file : (polygons : List (List (List Coord))) → AllByRecursion IsPolygon polygons → run start (file polygons) ≡ Some (record start { members = map member polygons })
-run-file polygons h = run_file polygons h []
+pub run-file : (polygons : List (List (List Coord))) → All IsPolygon polygons → run start (file polygons) ≡ Some (record start { members = map member polygons })
+run-file polygons h = run_file polygons (recursion_from_All IsPolygon polygons h) []
 
 -- ---- what the machine reads, the grammar has: what is left to come at each place, up to the coverage c
 
@@ -131,7 +133,7 @@ after_word ms ts c w =
     let r = w.2 in
     let rs = r.4 in
     let f = rs.4 in
-    ((r.0 ∷ rs.0) ∷ f.0, (record { some_ring = zero-lt-suc _; each_ring = (r.2, rs.2) }, f.1), file_text r.0 rs.0 f.0 ts w.0 r.1 rs.1 w.1 r.3 rs.3 f.2, f.3 ∙ append_assoc ms (member (r.0 ∷ rs.0) ∷ []) (map member f.0))
+    ((r.0 ∷ rs.0) ∷ f.0, (record { some_ring = zero-lt-suc _; each_ring = All-from_recursion IsRing (r.0 ∷ rs.0) (r.2, rs.2) }, f.1), file_text r.0 rs.0 f.0 ts w.0 r.1 rs.1 w.1 r.3 rs.3 f.2, f.3 ∙ append_assoc ms (member (r.0 ∷ rs.0) ∷ []) (map member f.0))
 
 ring_text : (p : Coord) (ps : List Coord) (ts a b : List Token) → ts ≡ position p ++ a → a ≡ flat_map (λ q. Comma ∷ position q) ps ++ Close ∷ b → Open ∷ ts ≡ ring (p ∷ ps) ++ b
 ring_text p ps ts a b e1 e2 =
@@ -143,7 +145,7 @@ ring_opens ms rs ts c w =
     let more = w.4 in
     let ps = w.0 ∷ more.0 in
     let e : is_ring ps ≡ true = more.3 in
-    (ps, more.1, record { long = is_ring-long ps e; closed = is_ring-closed ps e; in_range = (w.2, more.2) }, ring_text w.0 more.0 ts w.1 more.1 w.3 more.4, more.5)
+    (ps, more.1, record { long = is_ring-long ps e; closed = is_ring-closed ps e; in_range = All-from_recursion IsInRange ps (w.2, more.2) }, ring_text w.0 more.0 ts w.1 more.1 w.3 more.4, more.5)
 
 first_number : (ms : Members) (rs : List (List Coord)) (qs : List Coord) (x : ℤ) (ts : List Token) (c : Members) → is_in_range x ≡ true → SecondRest ms rs qs x ts c → PositionRest ms rs qs (Number x ∷ ts) c
 first_number ms rs qs x ts c h w = (record { x = x; y = w.0 }, w.1, in_range x w.0 h w.2, ap (λ xs. Number x ∷ xs) w.3, w.4)
@@ -151,10 +153,14 @@ first_number ms rs qs x ts c h w = (record { x = x; y = w.0 }, w.1, in_range x w
 next_position : (ms : Members) (rs : List (List Coord)) (qs : List Coord) (ts : List Token) (c : Members) → PositionRest ms rs qs ts c → PositionsRest ms rs qs (Comma ∷ ts) c
 next_position ms rs qs ts c w =
     let more = w.4 in
-    let regroup : (qs ++ w.0 ∷ []) ++ more.0 ≡ qs ++ w.0 ∷ more.0 = append_assoc qs (w.0 ∷ []) more.0 in
-    (w.0 ∷ more.0, more.1, (w.2, more.2), subst (λ (xs : List Coord). is_ring xs ≡ true) regroup more.3,
-        ap (λ xs. Comma ∷ xs) (w.3 ∙ ap (λ xs. position w.0 ++ xs) more.4),
-        subst (λ (xs : List Coord). RingsRest ms (rs ++ points xs ∷ []) more.1 c) regroup more.5)
+    let regroup : (qs ++ w.0 ∷ []) ++ more.0 ≡ qs ++ w.0 ∷ more.0 = append_assoc qs (w.0 ∷ []) more.0 in (
+      w.0 ∷ more.0,
+      more.1,
+      (w.2, more.2),
+      subst (λ (xs : List Coord). is_ring xs ≡ true) regroup more.3,
+      ap (λ xs. Comma ∷ xs) (w.3 ∙ ap (λ xs. position w.0 ++ xs) more.4),
+      subst (λ (xs : List Coord). RingsRest ms (rs ++ points xs ∷ []) more.1 c) regroup more.5,
+    )
 
 ring_closes : (ms : Members) (rs : List (List Coord)) (qs : List Coord) (ts : List Token) (c : Members) → is_ring qs ≡ true → RingsRest ms (rs ++ points qs ∷ []) ts c → PositionsRest ms rs qs (Close ∷ ts) c
 ring_closes ms rs qs ts c h w =
@@ -164,10 +170,13 @@ ring_closes ms rs qs ts c h w =
 next_ring : (ms : Members) (rs : List (List Coord)) (ts : List Token) (c : Members) → RingRest ms rs ts c → RingsRest ms rs (Comma ∷ ts) c
 next_ring ms rs ts c w =
     let more = w.4 in
-    let regroup : (rs ++ points w.0 ∷ []) ++ map points more.0 ≡ rs ++ points w.0 ∷ map points more.0 = append_assoc rs (points w.0 ∷ []) (map points more.0) in
-    (w.0 ∷ more.0, more.1, (w.2, more.2),
-        ap (λ xs. Comma ∷ xs) (w.3 ∙ ap (λ xs. ring w.0 ++ xs) more.3 ∙ sym (append_assoc (ring w.0) (flat_map (λ r. Comma ∷ ring r) more.0) (Close ∷ more.1))),
-        subst (λ (xs : List (List Coord)). FileRest (ms ++ (xs ∷ []) ∷ []) more.1 c) regroup more.4)
+    let regroup : (rs ++ points w.0 ∷ []) ++ map points more.0 ≡ rs ++ points w.0 ∷ map points more.0 = append_assoc rs (points w.0 ∷ []) (map points more.0) in (
+      w.0 ∷ more.0,
+      more.1,
+      (w.2, more.2),
+      ap (λ xs. Comma ∷ xs) (w.3 ∙ ap (λ xs. ring w.0 ++ xs) more.3 ∙ sym (append_assoc (ring w.0) (flat_map (λ r. Comma ∷ ring r) more.0) (Close ∷ more.1))),
+      subst (λ (xs : List (List Coord)). FileRest (ms ++ (xs ∷ []) ∷ []) more.1 c) regroup more.4,
+    )
 
 polygon_closes : (ms : Members) (rs : List (List Coord)) (ts : List Token) (c : Members) → FileRest (ms ++ (rs ∷ []) ∷ []) ts c → RingsRest ms rs (Close ∷ ts) c
 polygon_closes ms rs ts c w = ([], ts, tt, refl, subst (λ (xs : List (List Coord)). FileRest (ms ++ (xs ∷ []) ∷ []) ts c) (sym (append-nil rs)) w)
@@ -196,5 +205,7 @@ sound RingEnd ms rs qs (Close ∷ ts) f c e h = λ eq. polygon_closes ms rs ts c
 sound place ms rs qs ts f c e h = absurd (none_some f e)
 
 -- what the machine reads is a file of polygons
-pub file-run : (ts : List Token) (f : State) (c : Members) → run start ts ≡ Some f → members_at f.place f ≡ Some c → (polygons : List (List (List Coord))) × AllByRecursion IsPolygon polygons × (ts ≡ file polygons) × (c ≡ map member polygons)
-file-run ts f c e h = sound Outside [] [] [] ts f c e h refl refl
+pub file-run : (ts : List Token) (f : State) (c : Members) → run start ts ≡ Some f → members_at f.place f ≡ Some c → (polygons : List (List (List Coord))) × All IsPolygon polygons × (ts ≡ file polygons) × (c ≡ map member polygons)
+file-run ts f c e h =
+    let read = sound Outside [] [] [] ts f c e h refl refl in
+    (read.0, All-from_recursion IsPolygon read.0 read.1, read.2, read.3)

@@ -1,13 +1,13 @@
 -- The coverage that the machine finds is the one that the bytes are read as.
-use Rattle.std.proofs.Common.{◌≡◌, ℕ, List, map, Option, Some, None, option_and_then, sym, refl, ap, ◌∙◌, subst}
+use Rattle.std.proofs.Common.{◌≡◌, ℕ, List, Option, Some, None, option_and_then, sym, refl, ap, ◌∙◌, subst}
 use Rattle.cov_types.specs.declared.coord.Coord.{Coord}
 use Rattle.geo_text.specs.Token.{Token, Spells}
 use Rattle.geo_text.specs.Grammar.{file}
-use Rattle.geo_text.specs.Reading.{Reads, IsFile, member}
+use Rattle.geo_text.specs.Reading.{Reads}
 use Rattle.geo_text.specs.Machine.{State, run, start, read_bytes, members_at, coverage_of}
 use Rattle.geo_text.specs.declared.lexeme.Lexeme.TheVariants.{Blank}
 use Rattle.geo_text.proofs.Fusing.{tokens_from, read_bytes_is}
-use Rattle.geo_text.proofs.Limits.{limited, run-limited}
+use Rattle.geo_text.proofs.Limits.{run-limited}
 use Rattle.geo_text.proofs.Lexing.{tokens_from-file, spelled-tokens_from}
 use Rattle.geo_text.proofs.Parsing.{run-file, file-run}
 
@@ -25,10 +25,10 @@ pub coverage_of-reads : (bytes : List ℕ) (c : List (List (List (List Coord))))
 coverage_of-reads bytes c (polygons, is_file, same) =
     let tokens = file polygons in
     ap (option_and_then (λ (s : State). members_at s.place s))
-        (read_bytes_is bytes Blank start
-        ∙ ap (option_and_then (run start)) (tokens_from-file tokens bytes is_file.spelled)
-        ∙ run-limited tokens start
-        ∙ run-file polygons is_file.each_polygon)
+    (read_bytes_is bytes Blank start
+    ∙ ap (option_and_then (run start)) (tokens_from-file tokens bytes is_file.spelled)
+    ∙ run-limited tokens start
+    ∙ run-file polygons is_file.each_polygon)
     ∙ ap Some (sym same)
 
 pub reads-coverage_of : (bytes : List ℕ) (c : List (List (List (List Coord)))) → coverage_of bytes ≡ Some c → Reads bytes c

@@ -1,12 +1,12 @@
 -- The tests of the machine say what the reading asks of rings and numbers.
-use Rattle.std.proofs.Common.{◌≡◌, ℕ, suc, zero, ◌-◌, ◌<◌, ◌≤◌, Bool, true, false, ◌&&◌, List, [], ◌∷◌, length, get_or, slice_get, Some, None, ℤ, pos, neg_ℤ, ◌≤ℤ◌, int_le, int_eq, leb, sym, refl, ap, ◌∙◌, subst, arith, leb-true, le-leb, le_of_suc-le-suc}
-use Rattle.std.specs.List.{AllByRecursion}
+use Rattle.std.proofs.Common.{◌≡◌, ℕ, suc, zero, ◌-◌, ◌<◌, ◌≤◌, true, List, [], ◌∷◌, length, get_or, slice_get, Some, ℤ, pos, neg_ℤ, ◌≤ℤ◌, int_eq, leb, sym, refl, ap, ◌∙◌, arith, leb-true, le-leb, le_of_suc-le-suc}
 use Rattle.std.proofs.lemmas.Bool.{and_parts, and_from}
 use Rattle.std.proofs.lemmas.Bool.Decides.{Decides-int_eq}
 use Rattle.std.proofs.lemmas.Int.{ints}
+use Rattle.cov_types.specs.Range.{IsInRange}
 use Rattle.cov_types.specs.declared.coord.Coord.{Coord}
 use Rattle.geo_text.specs.Machine.{is_in_range, is_ring, same_coord, origin}
-use Rattle.geo_text.specs.Reading.{IsInRange, IsRing, IsRingLong, IsRingClosed}
+use Rattle.geo_text.specs.Reading.{IsRingLong, IsRingClosed}
 
 pub is_in_range-true : (z : ℤ) → (neg_ℤ (pos 16777216)) ≤ℤ z → z ≤ℤ pos 16777216 → is_in_range z ≡ true
 is_in_range-true z low high = grind (arith, ints)
@@ -46,7 +46,7 @@ some_equal x y e = cc
 pub is_ring-true : (ps : List Coord) → IsRingLong ps → IsRingClosed ps → is_ring ps ≡ true
 is_ring-true ps long closed =
     and_from (leb 4 (length ps)) (same_coord (get_or ps (length ps - 1) origin) (get_or ps 0 origin)) (le-leb 4 (length ps) long)
-        (same_coord-refl _ _ (some_equal _ _ (sym (slice_get_at ps (length ps - 1) origin (omega arith)) ∙ closed ∙ slice_get_at ps 0 origin (omega arith))))
+    (same_coord-refl _ _ (some_equal _ _ (sym (slice_get_at ps (length ps - 1) origin (omega arith)) ∙ closed ∙ slice_get_at ps 0 origin (omega arith))))
 
 pub is_ring-long : (ps : List Coord) → is_ring ps ≡ true → IsRingLong ps
 is_ring-long ps e = leb-true 4 (length ps) (and_parts (leb 4 (length ps)) (same_coord (get_or ps (length ps - 1) origin) (get_or ps 0 origin)) e).0

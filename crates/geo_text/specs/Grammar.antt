@@ -1,5 +1,5 @@
 -- The tokens of a file of polygons (OGC 06-103r4, 7.2.2).
-use Rattle.std.specs.Prelude.{ℕ, List, [], ◌∷◌, ◌++◌, flat_map}
+use Rattle.std.specs.Prelude.{List, [], ◌∷◌, ◌++◌, flat_map}
 use Rattle.cov_types.specs.declared.coord.Coord.{Coord}
 use Rattle.geo_text.specs.Token.{Token, Polygon, Number, Open, Close, Comma}
 

@@ -1,8 +1,9 @@
 -- How the reader goes over the bytes: a lexeme that is being typed, and a parser that takes whole tokens.
-use Rattle.std.specs.Prelude.{ℕ, ◌+◌, ◌-◌, ◌*◌, ◌≤◌, min, Bool, true, false, ◌&&◌, ◌||◌, if◌then◌else◌, ◌==◌, nat_lt, nat_le, is_some, int_le, List, [], ◌∷◌, ◌++◌, length, get_or, slice_index, Option, Some, None, option_map, option_and_then, ℤ, pos, neg_ℤ, codes}
+use Rattle.std.specs.Prelude.{ℕ, ◌+◌, ◌-◌, ◌*◌, ◌≤◌, min, Bool, true, false, ◌&&◌, ◌||◌, if◌then◌else◌, ◌==◌, nat_lt, nat_le, int_le, List, [], ◌∷◌, ◌++◌, length, get_or, slice_index, Option, Some, None, option_map, option_and_then, ℤ, pos, neg_ℤ, codes}
 use Rattle.std.specs.Char.{to_ascii_uppercase}
 use Rattle.std.specs.Ordering.{int_eq}
 use Rattle.cov_types.specs.declared.coord.Coord.{Coord}
+use Rattle.cov_types.specs.declared.coord.TheConstants.{LIMIT}
 use Rattle.geo_text.specs.Token.{Token, Polygon, Number, Open, Close, Comma, is_white, is_digit, signed}
 use Rattle.geo_text.specs.Reading.{points}
 use Rattle.geo_text.specs.declared.lexeme.Lexeme.{Lexeme}
@@ -18,7 +19,7 @@ pub record State : Type 0 where
   pub positions : List Coord
 
 abbrev pub is_in_range : ℤ → Bool
-is_in_range n = int_le (neg_ℤ (pos 16777216)) n && int_le n (pos 16777216)
+is_in_range n = int_le (neg_ℤ LIMIT) n && int_le n LIMIT
 
 abbrev pub same_coord : Coord → Coord → Bool
 same_coord a b = int_eq a.x b.x && int_eq a.y b.y

@@ -1,6 +1,6 @@
 -- What a text is read as.
-use Rattle.std.specs.Prelude.{◌≡◌, ℕ, ◌-◌, ◌<◌, ◌≤◌, Option, None, List, [], ◌∷◌, length, map, take, slice_get, pos, neg_ℤ, ◌≤ℤ◌}
-use Rattle.std.specs.List.{AllByRecursion}
+use Rattle.std.specs.Prelude.{◌≡◌, ℕ, ◌-◌, ◌<◌, ◌≤◌, None, List, [], ◌∷◌, length, map, take, slice_get, All}
+use Rattle.cov_types.specs.Range.{IsInRange}
 use Rattle.cov_types.specs.declared.coord.Coord.{Coord}
 use Rattle.geo_text.specs.Token.{Spells}
 use Rattle.geo_text.specs.Grammar.{file}
@@ -13,25 +13,21 @@ IsRingLong positions = 4 ≤ length positions
 abbrev pub IsRingClosed : List Coord → Type 0
 IsRingClosed positions = slice_get positions (length positions - 1) ≡ slice_get positions 0
 
-pub record IsInRange (c : Coord) : Type 0 where
-  pub left : (neg_ℤ (pos 16777216)) ≤ℤ c.x
-  pub right : c.x ≤ℤ pos 16777216
-  pub bottom : (neg_ℤ (pos 16777216)) ≤ℤ c.y
-  pub top : c.y ≤ℤ pos 16777216
-
+-- a ring of the file: closed, of four positions or more, all in range
 pub record IsRing (positions : List Coord) : Type 0 where
   pub long : IsRingLong positions
   pub closed : IsRingClosed positions
-  pub in_range : AllByRecursion IsInRange positions
+  pub in_range : All IsInRange positions
 
+-- a polygon of the file: a ring or more
 pub record IsPolygon (rings : List (List Coord)) : Type 0 where
   pub some_ring : 0 < length rings
-  pub each_ring : AllByRecursion IsRing rings
+  pub each_ring : All IsRing rings
 
 -- the bytes are a file of these polygons of rings of positions
 pub record IsFile (bytes : List ℕ) (polygons : List (List (List Coord))) : Type 0 where
   pub spelled : Spells None (file polygons) bytes
-  pub each_polygon : AllByRecursion IsPolygon polygons
+  pub each_polygon : All IsPolygon polygons
 
 -- the points of a ring are its positions without the last, which repeats the first
 abbrev pub points : List Coord → List Coord

@@ -1,6 +1,6 @@
 -- The tokens of a well-known text and how bytes spell them (OGC 06-103r4, 7.2). That numbers are whole, and where
 -- white space is needed, is this project's own.
-use Rattle.std.specs.Prelude.{◌≡◌, ℕ, ◌+◌, ◌-◌, ◌*◌, ◌<◌, Bool, true, false, ◌&&◌, ◌||◌, if◌then◌else◌, ◌==◌, nat_le, IsTrue, List, [], ◌∷◌, ◌++◌, length, map, fold, Option, Some, None, ℤ, pos, neg_ℤ, codes}
+use Rattle.std.specs.Prelude.{◌≡◌, ℕ, ◌+◌, ◌-◌, ◌*◌, ◌<◌, Bool, true, false, ◌&&◌, ◌||◌, if◌then◌else◌, ◌==◌, nat_le, IsTrue, List, [], ◌∷◌, ◌++◌, length, map, fold, Option, Some, ℤ, pos, neg_ℤ, codes}
 use Rattle.std.specs.Char.{to_ascii_uppercase}
 use Rattle.std.specs.List.{AllByRecursion}
 

@@ -14,7 +14,9 @@ pub(crate) enum Lexeme {
     /// None: white space, a bracket or a comma came last.
     Blank,
     /// The word, and how many of its letters came.
-    Word { typed: u8 },
+    Word {
+        typed: u8,
+    },
     /// A number: whether a digit came, and the size that they write, no more than one past the range.
     Number {
         negative: bool,

@@ -8,5 +8,8 @@ mod lexeme;
 mod parser;
 mod place;
 mod reader;
+#[cfg(test)]
+mod tests;
 
 pub use error::{TextError, TextFault};
+pub use reader::read_text;

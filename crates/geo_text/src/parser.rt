@@ -4,13 +4,10 @@ ghost use Rattle.geo_text.specs.Machine.{step, start, is_ring, is_in_range, cove
 
 use crate::error::{TextError, TextFault};
 use crate::place::Place;
-use cov_types::{Coord, Coverage, Member, Poly, Ring};
+use cov_types::{Coord, Coverage, LIMIT, Member, Poly, Ring};
 use std::alloc::Global;
 use std::marker::Model;
 use std::mem;
-
-/// The greatest size of a coordinate.
-const LIMIT: i32 = 16_777_216;
 
 /// Takes the tokens of a file, one after the other, and keeps what they are read as.
 #[derive(Drop)]
@@ -29,14 +26,12 @@ impl Model for Parser {
 
     ghost Value = { State };
 
-    ghost view = {
-        λ p. record {
-            place = p.place;
-            members = p.members.items;
-            rings = p.rings.items;
-            positions = p.positions.items;
-        }
-    };
+    ghost view = { λ p. record {
+      place = p.place;
+      members = p.members.items;
+      rings = p.rings.items;
+      positions = p.positions.items;
+    } };
 }
 
 /// That there are four positions or more, and that the last is the first again.

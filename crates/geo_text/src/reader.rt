@@ -1,5 +1,8 @@
 ghost use Rattle.std.specs.Prelude.{◌≡◌, ◌≤◌, ℕ, length, List, IsErrOf, OnOk, IfOk, Some, None};
 ghost use Rattle.geo_text.specs.Machine.{ending, beginning, read_byte, coverage_of, IsCapped};
+ghost use Rattle.geo_text.specs.Reading.{Reads};
+ghost use Rattle.cov_types.specs.Coverage.{IsFormed};
+ghost use Rattle.cov_types.specs.declared.coord.Coord.{Coord};
 
 use crate::error::{TextError, TextFault};
 use crate::lexeme::{Lexeme, is_digit, is_white};
@@ -86,4 +89,17 @@ fn read_all(alloc: Global, bytes: &[u8]) -> Result<Coverage, TextError>
     }
     end(lexeme, &mut parser)?;
     parser.finish()
+}
+
+/// Reads a text of polygons; each is a member of the coverage.
+pub fn read_text(alloc: Global, bytes: &[u8]) -> Result<Coverage, TextError>
+    requires { length bytes.now ≤ 67108864 }
+    ensures read { IfOk result (λ c. Reads bytes.now c) }
+    ensures formed { IfOk result IsFormed }
+    ensures unread { IsErrOf result (TextError.Fault TextFault.Unread)
+        → (c : List (List (List (List Coord)))) → Reads bytes.now c → ⊥ }
+    // A file has at most one reading.
+    ensures one { (c d : List (List (List (List Coord)))) → Reads bytes.now c → Reads bytes.now d → c ≡ d }
+{
+    read_all(alloc, bytes)
 }

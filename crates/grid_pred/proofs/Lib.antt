@@ -1,1 +1,2 @@
 mod Wide
+mod Derived

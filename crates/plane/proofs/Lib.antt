@@ -5,6 +5,7 @@ pub mod Sweeps
 pub mod Over
 pub mod Same
 pub mod Contacts
+pub mod Examples
 pub mod Meeting
 pub mod Along
 pub mod Middle

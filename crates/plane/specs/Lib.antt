@@ -3,3 +3,5 @@ pub mod Segment
 pub mod Ray
 pub mod Parity
 pub mod Contact
+pub mod Laws
+pub mod Examples

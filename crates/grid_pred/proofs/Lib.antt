@@ -1,2 +1,2 @@
 mod Wide
-mod Derived
+mod Order

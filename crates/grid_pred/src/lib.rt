@@ -5,8 +5,10 @@
 #![tactic(auto)]
 
 mod incidence;
+mod meeting;
 mod orientation;
 
 pub use incidence::on_segment;
+pub use meeting::{meets_badly, relation};
 pub use orientation::turn;
 pub use plane::{Badness, Contact};

@@ -1,2 +1,3 @@
 mod Wide
 mod Order
+mod BySides

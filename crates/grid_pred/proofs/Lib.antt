@@ -1,1 +1,3 @@
 mod Wide
+mod Vectors
+mod Small

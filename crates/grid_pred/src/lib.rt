@@ -5,6 +5,8 @@
 #![tactic(auto)]
 
 mod orientation;
+mod ray;
 
 pub use orientation::turn;
 pub use plane::{Badness, Contact};
+pub use ray::{over, over_mid, over_upper};

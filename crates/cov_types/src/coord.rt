@@ -1,3 +1,9 @@
+ghost use Rattle.std.specs.Prelude.{IsTrue, ◌↔◌};
+ghost use Rattle.cov_types.specs.Range.{IsInRange};
+
+/// The greatest number that a coordinate in range may have, in grid units; the least is its negative.
+pub const LIMIT: i32 = 16_777_216;
+
 /// A grid point: its place in grid units, ordered by x, then y.
 #[derive(Clone, Copy, Debug, PartialEq, Eq, PartialOrd, Ord, Hash)]
 pub struct Coord {
@@ -5,5 +11,11 @@ pub struct Coord {
     pub y: i32,
 }
 
-/// The greatest number that a coordinate may have, in grid units; the least is its negative.
-pub const LIMIT: i32 = 16_777_216;
+impl Coord {
+    /// Whether both numbers lie from -LIMIT to LIMIT.
+    pub fn is_in_range(self) -> bool
+        ensures { IsTrue result ↔ IsInRange self }
+    {
+        -LIMIT <= self.x && self.x <= LIMIT && -LIMIT <= self.y && self.y <= LIMIT
+    }
+}

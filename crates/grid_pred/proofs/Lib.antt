@@ -1,3 +1,4 @@
 mod Wide
 mod Vectors
 mod Small
+mod Order

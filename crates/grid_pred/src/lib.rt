@@ -4,9 +4,13 @@
 //! Its promise: each answer is the one that the definitions of the plane give, with no rounding.
 #![tactic(auto)]
 
+mod incidence;
+mod meeting;
 mod orientation;
 mod ray;
 
+pub use incidence::on_segment;
+pub use meeting::{meets_badly, relation};
 pub use orientation::turn;
 pub use plane::{Badness, Contact};
 pub use ray::{over, over_mid, over_upper};

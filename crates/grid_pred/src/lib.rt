@@ -8,6 +8,8 @@ mod incidence;
 mod meeting;
 mod orientation;
 mod ray;
+#[cfg(test)]
+mod ray_tests;
 
 pub use incidence::on_segment;
 pub use meeting::{meets_badly, relation};

@@ -29,8 +29,8 @@ not_before a b h k = absurd (let e = ap not k in cc)
 pub le_from : (a b : Coord) → IsInRange a → IsInRange b → IsTrue (partial_le partial_cmp-value.it a b) → sweep (at_coord a) ≤ℤ sweep (at_coord b)
 le_from a b ra rb h =
     elim (lt_or_ge (sweep (at_coord b)) (sweep (at_coord a))) [
-      | inl l ↦ absurd (not_before a b (sym (le_is a b) ∙ h) (before-sweep b a rb ra l))
-      | inr g ↦ g
+      inl l ↦ absurd (not_before a b (sym (le_is a b) ∙ h) (before-sweep b a rb ra l))
+    | inr g ↦ g
     ]
 
 pub le_to : (a b : Coord) → IsInRange a → IsInRange b → sweep (at_coord a) ≤ℤ sweep (at_coord b) → IsTrue (partial_le partial_cmp-value.it a b)

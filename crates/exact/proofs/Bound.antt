@@ -1,11 +1,11 @@
 -- Numbers between -m and m, and how large the value of an expression can be.
 use Prim.Native.Nat.{ℕ, zero, suc, ◌+◌, ◌*◌, ◌^◌, ◌≤◌, ◌<◌}
-use mathlib.Core.Path.{◌≡◌, refl, sym, ap, ◌∙◌}
+use mathlib.Core.Path.{◌≡◌, refl}
 use mathlib.Core.List.{List, [], ◌∷◌}
 use native.Mathlib.Omega.{arith}
 use mir.Syntax.{Width}
 use mir.Val.{hbits}
-use Rattle.std.specs.Prelude.{ℤ, pos, negsuc, neg_ℤ, ◌+ℤ◌, ◌-ℤ◌, ◌*ℤ◌, ◌≤ℤ◌, ◌<ℤ◌, unsigned_abs, FitsSigned}
+use Rattle.std.specs.Prelude.{ℤ, pos, neg_ℤ, ◌+ℤ◌, ◌-ℤ◌, ◌*ℤ◌, ◌≤ℤ◌, unsigned_abs, FitsSigned}
 use Rattle.exact.specs.Polynomial.{value_at, eval_at}
 use Rattle.exact.specs.Bound.{bound_of, bound_at}
 pub use Rattle.exact.specs.Bound.{IsWithin, AreWithin, bound}

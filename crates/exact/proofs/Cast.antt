@@ -1,13 +1,11 @@
 -- The naturals among the whole numbers, and the numbers that fit a width.
-use Prim.Native.Nat.{ℕ, zero, suc, ◌+◌, ◌*◌, ◌^◌, ◌≤◌, ◌<◌}
-use mathlib.Core.Path.{◌≡◌, refl, sym, ap}
+use Prim.Native.Nat.{ℕ, suc, ◌+◌, ◌*◌, ◌^◌, ◌≤◌, ◌<◌}
+use mathlib.Core.Path.{◌≡◌, refl}
 use mathlib.Core.Logic.{◌⊎◌, inl, inr, ◌↔◌}
 use native.Mathlib.Omega.{arith}
-use lib.Dec.{lit≤, lit<}
-use lib.Pow.{pow_pos}
-use mir.Syntax.{Width, w8, w16, w32, w64, w128}
+use mir.Syntax.{Width, w32, w64, w128}
 use mir.Val.{hbits}
-use Rattle.std.specs.Prelude.{ℤ, pos, negsuc, neg_ℤ, ◌+ℤ◌, ◌-ℤ◌, ◌*ℤ◌, ◌≤ℤ◌, ◌<ℤ◌, unsigned_abs, FitsSigned}
+use Rattle.std.specs.Prelude.{ℤ, pos, negsuc, neg_ℤ, ◌+ℤ◌, ◌*ℤ◌, ◌≤ℤ◌, ◌<ℤ◌, unsigned_abs, FitsSigned}
 use borrow.Author.Differences.{fits_in, fits_out, back_is, small_is, read_fits, abs_is}
 use Rattle.exact.proofs.Ring.{lin}
 

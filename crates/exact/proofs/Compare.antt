@@ -1,9 +1,9 @@
 -- The order of ℤ: its laws, its cases, and the tests `int_lt`, `int_le` and `int_eq`.
 use Prim.Native.Nat.{◌+◌, ◌<◌, ◌≤◌}
-use mathlib.Core.Path.{◌≡◌, refl, sym, ap, subst, ◌∙◌}
+use mathlib.Core.Path.{◌≡◌, refl, sym}
 use mathlib.Core.Logic.{◌⊎◌, inl, inr, ⊎_elim, ◌↔◌}
 use native.Mathlib.Omega.{arith}
-use Rattle.std.specs.Prelude.{ℤ, pos, neg_ℤ, ◌+ℤ◌, ◌-ℤ◌, ◌≤ℤ◌, ◌<ℤ◌, Bool, true, false, not, IsTrue, IsFalse, int_lt, int_le}
+use Rattle.std.specs.Prelude.{ℤ, pos, ◌≤ℤ◌, ◌<ℤ◌, Bool, true, false, not, IsTrue, IsFalse, int_lt, int_le}
 use borrow.Author.Differences.{up, down, lt_T, le_T, lt_not, le_not, lt-true, lt-false, le-true, le-false, true-lt, false-lt, true-le, false-le, lt_in, le_in, true_is_lt, false_is_lt, true_is_le, false_is_le}
 use Rattle.std.specs.Ordering.{int_eq}
 use Rattle.std.proofs.lemmas.Bool.Decides.{Decides-int_eq}

@@ -1,11 +1,10 @@
 -- The order of ℤ under products: factors multiplied and cancelled, certificates, fractions compared.
-use mathlib.Core.Path.{◌≡◌, refl, sym, ap, ◌∙◌}
-use mathlib.Core.Logic.{◌⊎◌, inl, inr, ⊎_elim}
+use mathlib.Core.Path.{◌≡◌, refl, sym, ◌∙◌}
 use mathlib.Core.List.{List, [], ◌∷◌}
 use native.Mathlib.Omega.{arith}
-use Rattle.std.specs.Prelude.{ℤ, pos, neg_ℤ, ◌+ℤ◌, ◌-ℤ◌, ◌*ℤ◌, ◌≤ℤ◌, ◌<ℤ◌}
-use Rattle.exact.proofs.Ring.{lin, Term, Var, Lit, ◌⊕◌, ◌⊖◌, ◌⊗◌, Neg, eval, Vanishes, vanishes, by_ring, by_two, times_gap, mul_comm, sub_mul, mul_sub}
-use Rattle.exact.proofs.Compare.{lt_excludes_eq, le_of_eq, le_of_lt}
+use Rattle.std.specs.Prelude.{ℤ, pos, ◌-ℤ◌, ◌*ℤ◌, ◌≤ℤ◌, ◌<ℤ◌}
+use Rattle.exact.proofs.Ring.{lin, Term, Var, ◌⊕◌, ◌⊖◌, ◌⊗◌, eval, Vanishes, vanishes, by_two, times_gap, mul_comm, sub_mul, mul_sub}
+use Rattle.exact.proofs.Compare.{lt_excludes_eq, le_of_lt}
 use Rattle.exact.proofs.Sign.{nonneg_times_nonneg, positive_times_positive, nonpos_times_nonneg, negative_times_positive, nonneg_factor, positive_factor, zero_factor}
 
 -- ---- an inequality times a factor

@@ -162,6 +162,29 @@ by_three values s t k a b l c d m f g v h i j =
     let third = times_gap (eval values m) (eval values f) (eval values g) j in
     omega (arith, lin)
 
+-- the sum of k (a - b) over a list of (k, a, b), and that each a ≡ b
+abbrev pub combination : List (Term × Term × Term) → Term
+combination [] = Lit (pos 0)
+combination (e ∷ es) = e.0 ⊗ (e.1 ⊖ e.2) ⊕ combination es
+
+abbrev pub AreEqual : List ℤ → List (Term × Term × Term) → Type 0
+AreEqual values [] = Unit {0}
+AreEqual values (e ∷ es) = (eval values e.1 ≡ eval values e.2) × AreEqual values es
+
+combination_zero : (values : List ℤ) (es : List (Term × Term × Term)) → AreEqual values es → eval values (combination es) ≡ pos 0
+combination_zero values [] h = refl
+combination_zero values (e ∷ es) h =
+    let first = times_gap (eval values e.0) (eval values e.1) (eval values e.2) h.0 in
+    let rest = combination_zero values es h.1 in
+    omega (arith, lin)
+
+-- s - t is the combination of any number of equations: `by_equations values s t ((k, a, b) ∷ (l, c, d) ∷ []) refl (h, (i, tt))`
+pub by_equations : (values : List ℤ) (s t : Term) (es : List (Term × Term × Term)) → Vanishes (s ⊖ t ⊖ combination es) → AreEqual values es → eval values s ≡ eval values t
+by_equations values s t es v h =
+    let e = vanishes values (s ⊖ t ⊖ combination es) v in
+    let sum = combination_zero values es h in
+    omega (arith, lin)
+
 -- ---- differences and negations in products
 
 pub mul_sub : (k x y : ℤ) → k *ℤ (x -ℤ y) ≡ (k *ℤ x) -ℤ (k *ℤ y)
@@ -178,3 +201,7 @@ mul_neg x y = by_ring (x ∷ y ∷ []) (Var 0 ⊗ Neg (Var 1)) (Neg (Var 0 ⊗ V
 
 pub neg_mul_neg : (x y : ℤ) → neg_ℤ x *ℤ neg_ℤ y ≡ x *ℤ y
 neg_mul_neg x y = by_ring (x ∷ y ∷ []) (Neg (Var 0) ⊗ Neg (Var 1)) (Var 0 ⊗ Var 1) refl
+
+-- a multiple by a natural, for `omega` at a literal: `omega (arith, lin, pos_times 2 x)`
+pub pos_times : (n : ℕ) (x : ℤ) → (up (pos n *ℤ x) ≡ n * up x) × (down (pos n *ℤ x) ≡ n * down x)
+pos_times n x = omega (arith, product_is (pos n) x)

@@ -1,11 +1,10 @@
 -- Signs of products and of their factors.
-use mathlib.Core.Path.{◌≡◌, refl, sym, ap, ◌∙◌}
+use mathlib.Core.Path.{◌≡◌, sym, ap, ◌∙◌}
 use mathlib.Core.Logic.{◌⊎◌, inl, inr, ⊎_elim, ◌↔◌}
-use mathlib.Core.List.{List, [], ◌∷◌}
-use Prim.Native.Nat.{ℕ, ◌*◌, ◌≤◌, ◌<◌}
+use Prim.Native.Nat.{◌<◌}
 use native.Mathlib.Omega.{arith}
 use native.Mathlib.Nat.{mul-pos}
-use Rattle.std.specs.Prelude.{ℤ, pos, negsuc, neg_ℤ, ◌+ℤ◌, ◌-ℤ◌, ◌*ℤ◌, ◌≤ℤ◌, ◌<ℤ◌}
+use Rattle.std.specs.Prelude.{ℤ, pos, negsuc, neg_ℤ, ◌+ℤ◌, ◌*ℤ◌, ◌≤ℤ◌, ◌<ℤ◌}
 use Rattle.exact.proofs.Ring.{lin, mul_zero, zero_mul, neg_mul, mul_neg, neg_mul_neg}
 use Rattle.exact.proofs.Compare.{lt_or_ge, le_or_gt, trichotomy, lt_excludes_le, lt_excludes_eq, le_antisymm, apart_cases}
 
@@ -76,8 +75,8 @@ product_zero x y e =
     ⊎_elim
     (λ (h : x <ℤ pos 0). inr (le_antisymm (nonpos_cofactor x y h (omega (arith, lin))) (nonneg_cofactor x y h (omega (arith, lin)))))
     (⊎_elim
-      inl
-      (λ (h : pos 0 <ℤ x). inr (le_antisymm (nonpos_factor x y h (omega (arith, lin))) (nonneg_factor x y h (omega (arith, lin))))))
+    inl
+    (λ (h : pos 0 <ℤ x). inr (le_antisymm (nonpos_factor x y h (omega (arith, lin))) (nonneg_factor x y h (omega (arith, lin))))))
     (trichotomy x (pos 0))
 
 pub product_zero_is : (x y : ℤ) → (x *ℤ y ≡ pos 0) ↔ ((x ≡ pos 0) ⊎ (y ≡ pos 0))
@@ -123,8 +122,8 @@ same_signs x y h =
     ⊎_elim
     (λ (n : x <ℤ pos 0). inr (n, negative_cofactor x y (omega (arith, lin)) h))
     (⊎_elim
-      (λ (e : x ≡ pos 0). absurd (lt_excludes_eq h (sym (ap (λ z. z *ℤ y) e ∙ zero_mul y))))
-      (λ (p : pos 0 <ℤ x). inl (p, positive_factor x y (omega (arith, lin)) h)))
+    (λ (e : x ≡ pos 0). absurd (lt_excludes_eq h (sym (ap (λ z. z *ℤ y) e ∙ zero_mul y))))
+    (λ (p : pos 0 <ℤ x). inl (p, positive_factor x y (omega (arith, lin)) h)))
     (trichotomy x (pos 0))
 
 pub opposite_signs : (x y : ℤ) → (x *ℤ y) <ℤ pos 0 → ((pos 0 <ℤ x) × (y <ℤ pos 0)) ⊎ ((x <ℤ pos 0) × (pos 0 <ℤ y))
@@ -132,6 +131,6 @@ opposite_signs x y h =
     ⊎_elim
     (λ (n : x <ℤ pos 0). inr (n, positive_cofactor x y (omega (arith, lin)) h))
     (⊎_elim
-      (λ (e : x ≡ pos 0). absurd (lt_excludes_eq h (ap (λ z. z *ℤ y) e ∙ zero_mul y)))
-      (λ (p : pos 0 <ℤ x). inl (p, negative_factor x y (omega (arith, lin)) h)))
+    (λ (e : x ≡ pos 0). absurd (lt_excludes_eq h (ap (λ z. z *ℤ y) e ∙ zero_mul y)))
+    (λ (p : pos 0 <ℤ x). inl (p, negative_factor x y (omega (arith, lin)) h)))
     (trichotomy x (pos 0))

@@ -7,7 +7,6 @@ use lib.IntN.{ℤ, pos, negsuc, neg_ℤ, ◌+ℤ◌, ◌-ℤ◌, ◌*ℤ◌}
 infixl 6 ◌⊕◌
 infixl 6 ◌⊖◌
 infixl 7 ◌⊗◌
-
 -- an expression: a numbered variable, a literal, a sum, a difference, a product, a negation
 pub data Term : Type 0 where
   Var : ℕ → Term

@@ -7,8 +7,10 @@
 mod incidence;
 mod meeting;
 mod orientation;
+mod ray;
 
 pub use incidence::on_segment;
 pub use meeting::{meets_badly, relation};
 pub use orientation::turn;
 pub use plane::{Badness, Contact};
+pub use ray::{over, over_mid, over_upper};

@@ -2,3 +2,4 @@ mod Wide
 mod Vectors
 mod Small
 mod Order
+mod BySides

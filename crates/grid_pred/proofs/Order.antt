@@ -29,8 +29,8 @@ not_before a b h k = absurd (let e = ap not k in cc)
 pub le_from : (a b : Coord) → IsInRange a → IsInRange b → IsTrue (partial_le partial_cmp-value.it a b) → sweep (at_coord a) ≤ℤ sweep (at_coord b)
 le_from a b ra rb h =
     elim (lt_or_ge (sweep (at_coord b)) (sweep (at_coord a))) [
-      inl l ↦ absurd (not_before a b (sym (le_is a b) ∙ h) (before-sweep b a rb ra l))
-    | inr g ↦ g
+      | inl l ↦ absurd (not_before a b (sym (le_is a b) ∙ h) (before-sweep b a rb ra l))
+      | inr g ↦ g
     ]
 
 pub le_to : (a b : Coord) → IsInRange a → IsInRange b → sweep (at_coord a) ≤ℤ sweep (at_coord b) → IsTrue (partial_le partial_cmp-value.it a b)
@@ -39,6 +39,16 @@ le_to a b ra rb h = le_is a b ∙ after (is_before b a) (λ k. absurd (let l = s
     after : (t : Bool) → (IsTrue t → ⊥) → IsTrue (not t)
     after true n = absurd (n refl)
     after false n = refl
+
+pub lt_from : (a b : Coord) → IsInRange a → IsInRange b → IsTrue (partial_lt partial_cmp-value.it a b) → sweep (at_coord a) <ℤ sweep (at_coord b)
+lt_from a b ra rb h = sweep-before a b ra rb (sym (lt_is a b) ∙ h)
+
+pub not_lt_from : (a b : Coord) → IsInRange a → IsInRange b → partial_lt partial_cmp-value.it a b ≡ false → sweep (at_coord b) ≤ℤ sweep (at_coord a)
+not_lt_from a b ra rb h =
+    elim (lt_or_ge (sweep (at_coord a)) (sweep (at_coord b))) [
+      | inl l ↦ absurd (let before = before-sweep a b ra rb l in let e = lt_is a b in cc)
+      | inr g ↦ g
+    ]
 
 -- a number of 128 bits is 0 where its bits are
 pub zero_from_bits : (z : ℤ) → FitsSigned w128 z → of_z w128 z ≡ 0 → z ≡ pos 0

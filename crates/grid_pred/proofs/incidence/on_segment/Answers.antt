@@ -11,9 +11,10 @@ returns-then-turn-ne0 c =
 
 pub returns-then-le : goal.returns-then-le
 returns-then-le c =
-    let on_line = sym c.turn.ensures ∙ zero_from_bits c.turn.result (search rules) c.if-turn-ne0.false in
-    (λ h. on_segment_from c.args.s c.args.p c.requires.segment c.requires.point on_line (sym c.le.ensures ∙ c.if-le.true) (sym c.le-then-le.ensures ∙ h),
-    λ on. c.le-then-le.ensures ∙ on_segment_high c.args.s c.args.p c.requires.segment c.requires.point on)
+    let on_line = sym c.turn.ensures ∙ zero_from_bits c.turn.result (search rules) c.if-turn-ne0.false in (
+      λ h. on_segment_from c.args.s c.args.p c.requires.segment c.requires.point on_line (sym c.le.ensures ∙ c.if-le.true) (sym c.le-then-le.ensures ∙ h),
+      λ on. c.le-then-le.ensures ∙ on_segment_high c.args.s c.args.p c.requires.segment c.requires.point on,
+    )
 
 pub returns-else-le : goal.returns-else-le
 returns-else-le c =

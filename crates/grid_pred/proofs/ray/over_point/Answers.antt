@@ -1,9 +1,7 @@
-use Rattle.std.proofs.Common.{◌≡◌, ◌∙◌, ap, pos, ◌<ℤ◌, ◌≤ℤ◌, int_lt, FitsSigned, arith, rules}
+use Rattle.std.proofs.Common.{◌∙◌, ap, pos, ◌<ℤ◌, ◌≤ℤ◌, int_lt, FitsSigned, arith, rules}
 use Rattle.std.proofs.lemmas.Int.{ints, to_z-of_z}
 use mir.Syntax.{w128}
-use Rattle.plane.specs.Point.{Point}
-use Rattle.grid_pred.specs.Ray.{Writes}
-use Rattle.grid_pred.proofs.Vectors.{Leads, not_over-before_lo, not_over-past_hi, over-by_side}
+use Rattle.grid_pred.proofs.Vectors.{not_over-before_lo, not_over-past_hi, over-by_side}
 use Rattle.grid_pred.proofs.ray.over_point.Goals as goal
 
 pub returns-then-before_lo : goal.returns-then-before_lo

@@ -14,9 +14,10 @@ IsSegBetween a b s = ((s.lo ≡ a) × (s.hi ≡ b)) ⊎ ((s.lo ≡ b) × (s.hi �
 abbrev pub is_seg_before : Seg → Seg → Bool
 is_seg_before s t = is_before s.lo t.lo || (not (is_before t.lo s.lo) && is_before s.hi t.hi)
 
--- what `cmp` answers of two coordinates, and of two segments
+-- what `cmp` answers of two coordinates
 abbrev pub coord_cmp : Coord → Coord → Ordering
 coord_cmp a b = ordering_then (int_cmp a.x b.x) (int_cmp a.y b.y)
 
+-- what `cmp` answers of two segments
 abbrev pub seg_cmp : Seg → Seg → Ordering
 seg_cmp s t = ordering_then (coord_cmp s.lo t.lo) (coord_cmp s.hi t.hi)

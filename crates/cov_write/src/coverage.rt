@@ -1,4 +1,4 @@
-ghost use Rattle.std.specs.Prelude.{◌≡◌, ◌++◌, ◌<◌, length, take, OnOk, IfOk};
+ghost use Rattle.std.specs.Prelude.{◌≡◌, ◌++◌, take, OnOk, IfOk};
 ghost use Rattle.cov_write.specs.Written.{separated, position_text, ring_text, polygon_text, member_line, coverage_text};
 
 use crate::written::{Written, append_separated};
@@ -59,7 +59,8 @@ fn append_member_line(out: &mut Vec<u8>, member: &Member) -> Result<(), NoMemory
     Ok(())
 }
 
-/// The coverage, one line for each member.
+/// The coverage as text, one line for each member, polygons and rings in the order of their lists.
+/// It fails only where there is no memory for the text.
 pub fn text_of(alloc: Global, c: &Coverage) -> Result<Vec<u8>, NoMemory>
     ensures { IfOk result (λ v. v.items ≡ coverage_text c.now) }
 {

@@ -7,3 +7,4 @@ pub mod Ways
 pub mod Sums
 pub mod Coverages
 pub mod Meetings
+pub mod Beside

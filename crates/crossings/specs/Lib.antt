@@ -1,3 +1,4 @@
 pub mod Crossing
 pub mod Meeting
 pub mod Laws
+pub mod Across

@@ -45,12 +45,12 @@ sweep_sum_term = (slope ⊗ Var 0 ⊕ Var 1) ⊕ (slope ⊗ Var 2 ⊕ Var 3)
 abbrev rise_term : Term
 rise_term = (slope ⊗ Var 2 ⊕ Var 3) ⊖ (slope ⊗ Var 0 ⊕ Var 1)
 
-sweep-upper : (e : Seg) → sweep (upper e) ≡ pos (2 ^ 63) *ℤ sweep_sum e
+pub sweep-upper : (e : Seg) → sweep (upper e) ≡ pos (2 ^ 63) *ℤ sweep_sum e
 unfolding sweep
 sweep-upper e =
     by_ring (coordinates e) (slope ⊗ (half ⊗ (Var 0 ⊕ Var 2) ⊖ Lit (pos 1)) ⊕ (half ⊗ (Var 1 ⊕ Var 3) ⊕ slope)) (half ⊗ sweep_sum_term) refl
 
-sweep-lower : (e : Seg) → sweep (lower e) ≡ pos (2 ^ 63) *ℤ sweep_sum e
+pub sweep-lower : (e : Seg) → sweep (lower e) ≡ pos (2 ^ 63) *ℤ sweep_sum e
 unfolding sweep
 sweep-lower e =
     by_ring (coordinates e) (slope ⊗ (half ⊗ (Var 0 ⊕ Var 2) ⊕ Lit (pos 1)) ⊕ (half ⊗ (Var 1 ⊕ Var 3) ⊖ slope)) (half ⊗ sweep_sum_term) refl
@@ -58,11 +58,11 @@ sweep-lower e =
 abbrev side_term : Term → Term → Term
 side_term x y = (Var 2 ⊖ Var 0) ⊗ (y ⊖ Var 1 ⊗ Lit (pos (2 ^ 64))) ⊖ (Var 3 ⊖ Var 1) ⊗ (x ⊖ Var 0 ⊗ Lit (pos (2 ^ 64)))
 
-side-upper : (e : Seg) → side e (upper e) ≡ rise e
+pub side-upper : (e : Seg) → side e (upper e) ≡ rise e
 unfolding sweep side
 side-upper e = by_ring (coordinates e) (side_term (half ⊗ (Var 0 ⊕ Var 2) ⊖ Lit (pos 1)) (half ⊗ (Var 1 ⊕ Var 3) ⊕ slope)) rise_term refl
 
-side-lower : (e : Seg) → side e (lower e) ≡ neg_ℤ (rise e)
+pub side-lower : (e : Seg) → side e (lower e) ≡ neg_ℤ (rise e)
 unfolding sweep side
 side-lower e = by_ring (coordinates e) (side_term (half ⊗ (Var 0 ⊕ Var 2) ⊕ Lit (pos 1)) (half ⊗ (Var 1 ⊕ Var 3) ⊖ slope)) (Neg rise_term) refl
 

@@ -8,3 +8,4 @@ pub mod Sums
 pub mod Coverages
 pub mod Meetings
 pub mod Beside
+pub mod Across

@@ -83,7 +83,7 @@ module _ {X : Type 0} (seg : X → Seg) (chosen : X → Bool) (items : List X) w
       (λ x i. pair_counts (chosen x) (is_over (seg x) q) (passes p q (seg x).hi) (is_over (seg x) p) (passes p q (seg x).lo) (same x i)) in
       let ends = sum_splits (λ x. cond (chosen x) (ends_inside (passes p q) (seg x)) 0)
       (λ x. cond (chosen x && passes p q (seg x).lo) 1 0) (λ x. cond (chosen x && passes p q (seg x).hi) 1 0) items
-      (λ x. ends_count (chosen x) (passes p q (seg x).lo) (passes p q (seg x).hi)) in
+      (λ x i. ends_count (chosen x) (passes p q (seg x).lo) (passes p q (seg x).hi)) in
       let none = even (passes p q) in
       omega arith
 

@@ -4,3 +4,5 @@ pub mod Ray
 pub mod Parity
 pub mod Contact
 pub mod Joined
+pub mod Laws
+pub mod Examples

@@ -8,4 +8,4 @@ pub mod Sums
 pub mod Coverages
 pub mod Meetings
 pub mod Beside
-pub mod Across
+pub mod Changes

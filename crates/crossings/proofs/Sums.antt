@@ -10,7 +10,7 @@ use Rattle.plane.specs.Point.{Point}
 use Rattle.plane.specs.Ray.{sweep, is_over}
 use Rattle.plane.specs.Parity.{holds, member_holds}
 use Rattle.plane.specs.Joined.{IsClear, Joined}
-use Rattle.crossings.specs.Crossing.{WeightedEdge, edges_of, crossing_sum, IsBalanced, IsSwept, HasEvenEnds, MemberHasEvenEnds}
+use Rattle.crossings.specs.Crossing.{WeightedEdge, edges_of, crossing_sum, IsBalanced, IsSwept, HaveEvenEnds, MemberHasEvenEnds}
 use Rattle.crossings.proofs.Lists.{contains-map, sums_agree, sum_splits, int_sums_agree}
 use Rattle.crossings.proofs.OneEdge.{passes, one_edge}
 use Rattle.crossings.proofs.Tests.{IsSamePair}
@@ -104,7 +104,7 @@ module _ {X : Type 0} (seg : X → Seg) (chosen : X → Bool) (items : List X) w
   parity-joined edges among swept even p q j = joined_keep edges (λ r. over_count r % 2) (clear_parity edges among swept even) p q j
 
 -- joined points are held alike by edges with even ends
-pub holds-joined : (edges : List Seg) → IsSwept edges → HasEvenEnds edges → (p q : Point) → Joined edges p q → holds edges p ≡ holds edges q
+pub holds-joined : (edges : List Seg) → IsSwept edges → HaveEvenEnds edges → (p q : Point) → Joined edges p q → holds edges p ≡ holds edges q
 holds-joined edges swept even p q j = ap (λ n. n == 1) (parity-joined (λ e. e) (λ e. true) edges edges (λ e i. i) swept even p q j)
 
 -- and by the uses of a member with even ends

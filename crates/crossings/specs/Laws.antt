@@ -1,15 +1,17 @@
 -- The laws of joined points and of crossing sums.
-use Rattle.std.specs.Prelude.{◌≡◌, ℕ, List, map, Contains, unsigned_abs}
+use Rattle.std.specs.Prelude.{◌≡◌, ◌↔◌, ℕ, ◌%◌, List, map, Contains, ◌+ℤ◌, unsigned_abs}
 use Rattle.cov_types.specs.declared.coord.Coord.{Coord}
 use Rattle.cov_types.specs.declared.edge_use.EdgeUse.{EdgeUse}
 use Rattle.cov_types.specs.declared.seg.Seg.{Seg}
 use Rattle.cov_types.specs.Coverage.{AllInRange}
+use Rattle.cov_types.specs.Range.{IsSegInRange}
 use Rattle.cov_types.specs.Uses.{uses_of}
 use Rattle.plane.specs.Point.{Point, at_coord, SamePoint}
-use Rattle.plane.specs.Segment.{side, IsEnd}
+use Rattle.plane.specs.Segment.{side, IsEnd, upper, lower}
 use Rattle.plane.specs.Parity.{holds, member_holds}
-use Rattle.plane.specs.Joined.{IsOff, Joined}
-use Rattle.crossings.specs.Crossing.{WeightedEdge, edges_of, crossing_sum, IsBalanced, IsSwept, HasEvenEnds, MemberHasEvenEnds}
+use Rattle.plane.specs.Joined.{IsOff, IsClear, Joined}
+use Rattle.crossings.specs.Across.{MeetInEnds, AllMeetInEnds, times, member_times, weight_of}
+use Rattle.crossings.specs.Crossing.{WeightedEdge, edges_of, crossing_sum, IsBalanced, IsSwept, HaveEvenEnds, MemberHasEvenEnds}
 use Rattle.crossings.specs.Meeting.{side_from, IsOpposite, IsStrictlyOpposite, AreZero, IsMeeting}
 
 -- ---- joined is an equivalence on the points off the edges
@@ -55,7 +57,7 @@ CrossingSumLaw = (weighted : List WeightedEdge) → IsSwept (edges_of weighted) 
 
 -- edges with even ends hold joined points alike
 abbrev pub ParityLaw : Type 0
-ParityLaw = (edges : List Seg) → IsSwept edges → HasEvenEnds edges → (p q : Point) → Joined edges p q → holds edges p ≡ holds edges q
+ParityLaw = (edges : List Seg) → IsSwept edges → HaveEvenEnds edges → (p q : Point) → Joined edges p q → holds edges p ≡ holds edges q
 
 -- a member whose uses have even ends holds points alike that are joined round all the edges
 abbrev pub MemberLaw : Type 0
@@ -66,3 +68,24 @@ MemberLaw = (uses : List EdgeUse) (member : ℕ) (edges : List Seg) → ((u : Ed
 abbrev pub CoverageLaw : Type 0
 CoverageLaw = (members : List (List (List (List Coord)))) → AllInRange members → (p q : Point) → Joined (map (λ u. u.seg) (uses_of members)) p q
     → (member : ℕ) → member_holds (uses_of members) member p ≡ member_holds (uses_of members) member q
+
+-- ---- across an edge
+
+-- where the edges of a list meet e in ends alone, none of them comes between the side points of e
+abbrev pub BesideLaw : Type 0
+BesideLaw = (e : Seg) (edges : List Seg) → IsSegInRange e → ((f : Seg) → Contains edges f → IsSegInRange f × MeetInEnds e f) → IsClear edges (lower e) (upper e)
+
+-- where they are e or meet e in ends alone, the side points of e are held alike exactly where e occurs an even number of times
+abbrev pub AcrossLaw : Type 0
+AcrossLaw = (e : Seg) (edges : List Seg) → IsSegInRange e → AllMeetInEnds e edges
+    → (holds edges (lower e) ≡ holds edges (upper e)) ↔ (times e edges % 2 ≡ 0)
+
+-- and by a member, exactly where it uses e an even number of times
+abbrev pub MemberAcrossLaw : Type 0
+MemberAcrossLaw = (e : Seg) (uses : List EdgeUse) (member : ℕ) → IsSegInRange e → AllMeetInEnds e (map (λ u. u.seg) uses)
+    → (member_holds uses member (lower e) ≡ member_holds uses member (upper e)) ↔ (member_times e uses member % 2 ≡ 0)
+
+-- the crossing sum below e is that above it and the weights of e
+abbrev pub SumAcrossLaw : Type 0
+SumAcrossLaw = (e : Seg) (weighted : List WeightedEdge) → IsSegInRange e → AllMeetInEnds e (edges_of weighted)
+    → crossing_sum weighted (lower e) ≡ crossing_sum weighted (upper e) +ℤ weight_of e weighted

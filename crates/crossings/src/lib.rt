@@ -5,10 +5,12 @@
 //! a call that does nothing ensures.
 #![tactic(auto)]
 
+mod across;
 mod crossing;
 mod joined;
 mod meeting;
 
+pub use across::across_law;
 pub use crossing::{coverage_law, crossing_sum_law, parity_law};
 pub use joined::joined_law;
 pub use meeting::{cross_law, opposite_sides_law};

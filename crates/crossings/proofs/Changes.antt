@@ -12,6 +12,7 @@ use Rattle.plane.specs.Point.{Point, at_coord}
 use Rattle.plane.specs.Segment.{side, upper, lower}
 use Rattle.plane.specs.Ray.{sweep, sweep_below, is_over, Rises}
 use Rattle.plane.specs.Parity.{holds, member_holds}
+use Rattle.plane.specs.Joined.{IsClear}
 use Rattle.plane.proofs.Over.{IsOver, over-is}
 use Rattle.plane.proofs.Sweeps.{rises-in_range}
 use Rattle.crossings.specs.Across.{MeetInEnds, AllMeetInEnds, is_same_seg, times, member_times, weight_of}
@@ -43,6 +44,10 @@ without_passes a b c d h none_b none_d =
       | inl same ↦ same.0
       | inr turned ↦ turned.0 ∙ none_d ∙ sym none_b ∙ turned.1
     ]
+
+-- no edge that meets it in ends alone is between its side points
+pub side_points-clear : (e : Seg) (edges : List Seg) → IsSegInRange e → ((f : Seg) → Contains edges f → IsSegInRange f × MeetInEnds e f) → IsClear edges (lower e) (upper e)
+side_points-clear e edges he all = λ f i. (let a = all f i in (side_points_clear e f he a.0 a.1).none)
 
 -- it is over both or over none
 pub over_alike : (e f : Seg) → IsSegInRange e → IsSegInRange f → MeetInEnds e f → is_over f (upper e) ≡ is_over f (lower e)

@@ -1,19 +1,16 @@
 -- The side points of an edge: nothing that meets the edge in ends alone comes between them.
 use mathlib.Core.List.{List, [], ◌∷◌}
-use Rattle.std.proofs.Common.{◌≡◌, refl, sym, ◌∙◌, ap, ℕ, ◌+◌, ◌*◌, ◌^◌, ◌≤◌, ℤ, pos, negsuc, neg_ℤ, ◌+ℤ◌, ◌-ℤ◌, ◌*ℤ◌, ◌≤ℤ◌, ◌<ℤ◌, ◌⊎◌, inl, inr, ⊎_elim, arith}
-use borrow.Author.Differences.{product_is}
-use Rattle.cov_types.specs.declared.coord.Coord.{Coord}
+use Rattle.std.proofs.Common.{◌≡◌, refl, sym, ◌∙◌, ap, ℕ, ◌+◌, ◌*◌, ◌^◌, ℤ, pos, neg_ℤ, ◌+ℤ◌, ◌-ℤ◌, ◌*ℤ◌, ◌≤ℤ◌, ◌<ℤ◌, inl, inr, ⊎_elim, arith}
 use Rattle.cov_types.specs.declared.seg.Seg.{Seg}
-use Rattle.cov_types.specs.Range.{IsInRange, IsSegInRange}
+use Rattle.cov_types.specs.Range.{IsSegInRange}
 use Rattle.exact.proofs.Ring.{lin, by_ring, by_one, by_two, Term, Var, Lit, ◌⊕◌, ◌⊖◌, ◌⊗◌, Neg, mul_one, one_mul, mul_comm, mul_neg, neg_mul, mul_assoc, add_mul, sub_mul, pos_times}
 use Rattle.exact.proofs.Sign.{nonneg_times_nonneg, positive_times_positive}
 use Rattle.exact.proofs.Cast.{pos_nonneg, positive_natural}
 use Rattle.exact.proofs.Order.{cancel_eq, cancel_le, cancel_lt, mul_le, lt_mul, by_le_eq}
 use Rattle.exact.proofs.Compare.{le_of_lt, lt_or_ge}
-use Rattle.plane.specs.Point.{Point, at_coord, SamePoint, IsBetween}
-use Rattle.plane.specs.Segment.{side, upper, lower, IsOn, IsEnd}
+use Rattle.plane.specs.Point.{Point, at_coord, IsBetween}
+use Rattle.plane.specs.Segment.{side, upper, lower, IsOn}
 use Rattle.plane.specs.Ray.{sweep, Rises}
-use Rattle.plane.specs.Contact.{IsCommon}
 use Rattle.plane.proofs.Points.{d_positive, between_by}
 use Rattle.plane.proofs.Forms.{form, form-between, form_zero-between, form_not_positive-between, form_not_negative-between}
 use Rattle.plane.proofs.Sides.{side-form, side_a, side_b, side_c}
@@ -233,16 +230,18 @@ line_point e f a b ha hb w =
     let (d, positive, depth) = positive_natural (b -ℤ a) w in
     let x = (b *ℤ f.lo.x) -ℤ (a *ℤ f.hi.x) in
     let y = (b *ℤ f.lo.y) -ℤ (a *ℤ f.hi.y) in
-    let c : Point = record { x = x; y = y; d = d; positive = positive } in
-    (c, record {
-      on =
-        between_by c (at_coord f.lo) (at_coord f.hi) (pos 1) b (neg_ℤ a) hb (omega (arith, lin)) (omega (arith, lin))
-        (omega (arith, lin, one_mul x, neg_mul a f.hi.x)) (omega (arith, lin, one_mul y, neg_mul a f.hi.y))
-        (omega (arith, lin, one_mul (pos d), mul_one b, mul_one (neg_ℤ a)));
-      depth = sym depth;
-      side_is = line_side e.lo.x e.lo.y e.hi.x e.hi.y a b f.lo.x f.lo.y f.hi.x f.hi.y (pos d) (sym depth);
-      sweep_is = line_sweep (pos (2 ^ 30)) a b f.lo.x f.lo.y f.hi.x f.hi.y
-    })
+    let c : Point = record { x = x; y = y; d = d; positive = positive } in (
+      c,
+      record {
+        on =
+            between_by c (at_coord f.lo) (at_coord f.hi) (pos 1) b (neg_ℤ a) hb (omega (arith, lin)) (omega (arith, lin))
+            (omega (arith, lin, one_mul x, neg_mul a f.hi.x)) (omega (arith, lin, one_mul y, neg_mul a f.hi.y))
+            (omega (arith, lin, one_mul (pos d), mul_one b, mul_one (neg_ℤ a)));
+        depth = sym depth;
+        side_is = line_side e.lo.x e.lo.y e.hi.x e.hi.y a b f.lo.x f.lo.y f.hi.x f.hi.y (pos d) (sym depth);
+        sweep_is = line_sweep (pos (2 ^ 30)) a b f.lo.x f.lo.y f.hi.x f.hi.y;
+      },
+    )
 
 -- over plain variables: twice the sweep value x at the depth d is less than g = h - l from the sum l + h
 below_end : (l h d x : ℤ) → ((pos 2 *ℤ x) -ℤ ((l +ℤ h) *ℤ d)) <ℤ ((h -ℤ l) *ℤ d) → x <ℤ (h *ℤ d)
@@ -350,7 +349,7 @@ near_between e f r up between on =
       left = mean_side (pos (2 ^ 64)) (rise e) (pos r.d) (side e r) w x (d_positive r) weight mean (between-left e r up between);
       right =
           mean_side (pos (2 ^ 64)) (rise e) (pos r.d) (neg_ℤ (side e r)) w (neg_ℤ x) (d_positive r) weight (mean_negated (side e r) w (pos r.d) x mean)
-          (omega (arith, lin, mul_neg (pos (2 ^ 64)) (side e r), between-right e r up between))
+          (omega (arith, lin, mul_neg (pos (2 ^ 64)) (side e r), between-right e r up between));
     }
 
 opposite_zero : (a b : ℤ) → (b *ℤ a) -ℤ (a *ℤ b) ≡ pos 0

@@ -1,5 +1,5 @@
 -- From one side of an edge to the other, only that edge changes.
-use Rattle.std.proofs.Common.{◌≡◌, refl, sym, ◌∙◌, ap, ℕ, ◌+◌, ◌%◌, ◌==◌, ◌↔◌, Bool, true, false, not, ◌&&◌, cond, List, map, sum_by, count_by, Contains, ℤ, pos, neg_ℤ, ◌+ℤ◌, ◌-ℤ◌, ◌*ℤ◌, ◌≤ℤ◌, ◌<ℤ◌, int_lt, ◌^◌, ◌⊎◌, inl, inr, ⊎_elim, IsTrue, true≢false, add-zero, arith}
+use Rattle.std.proofs.Common.{◌≡◌, refl, sym, ◌∙◌, ap, ℕ, ◌+◌, ◌%◌, ◌==◌, ◌↔◌, Bool, true, false, not, ◌&&◌, cond, List, map, count_by, Contains, ℤ, pos, ◌+ℤ◌, ◌*ℤ◌, ◌≤ℤ◌, ◌<ℤ◌, int_lt, ◌^◌, ◌⊎◌, inl, inr, ⊎_elim, true≢false, add-zero, arith}
 use Rattle.std.proofs.lemmas.Bool.Decides.{nat_tests}
 use Rattle.cov_types.specs.declared.coord.Coord.{Coord}
 use Rattle.cov_types.specs.declared.edge_use.EdgeUse.{EdgeUse}
@@ -8,16 +8,16 @@ use Rattle.cov_types.specs.Range.{IsSegInRange}
 use Rattle.cov_types.proofs.Equal.{Decides-same_segs}
 use Rattle.exact.proofs.Ring.{lin, pos_times, mul_comm}
 use Rattle.exact.proofs.Compare.{le_of_eq}
-use Rattle.plane.specs.Point.{Point, at_coord}
-use Rattle.plane.specs.Segment.{side, upper, lower}
-use Rattle.plane.specs.Ray.{sweep, sweep_below, is_over, Rises}
+use Rattle.plane.specs.Point.{at_coord}
+use Rattle.plane.specs.Segment.{upper, lower}
+use Rattle.plane.specs.Ray.{sweep, is_over, Rises}
 use Rattle.plane.specs.Parity.{holds, member_holds}
 use Rattle.plane.specs.Joined.{IsClear}
-use Rattle.plane.proofs.Over.{IsOver, over-is}
+use Rattle.plane.proofs.Over.{over-is}
 use Rattle.plane.proofs.Sweeps.{rises-in_range}
 use Rattle.crossings.specs.Across.{MeetInEnds, AllMeetInEnds, is_same_seg, times, member_times, weight_of}
 use Rattle.crossings.specs.Crossing.{WeightedEdge, edges_of, crossing_sum}
-use Rattle.crossings.proofs.Beside.{rise, sweep-upper, sweep-lower, side-upper, side-lower, side_points_clear}
+use Rattle.crossings.proofs.Beside.{sweep-upper, sweep-lower, side-upper, side-lower, side_points_clear}
 use Rattle.crossings.proofs.Lists.{contains-map, sum_splits, int_sum_splits}
 use Rattle.crossings.proofs.OneEdge.{passes, one_edge}
 use Rattle.crossings.proofs.Tests.{IsSamePair}
@@ -59,9 +59,10 @@ over_alike e f he hf ends =
 -- ---- the edge itself
 
 half_sum : (l h : ℤ) → l <ℤ h → ((l *ℤ pos (2 ^ 64)) ≤ℤ (pos (2 ^ 63) *ℤ (l +ℤ h))) × ((pos (2 ^ 63) *ℤ (l +ℤ h)) <ℤ (h *ℤ pos (2 ^ 64)))
-half_sum l h lt =
-    (omega (arith, lin, pos_times (2 ^ 63) (l +ℤ h), mul_comm l (pos (2 ^ 64)), pos_times (2 ^ 64) l),
-    omega (arith, lin, pos_times (2 ^ 63) (l +ℤ h), mul_comm h (pos (2 ^ 64)), pos_times (2 ^ 64) h))
+half_sum l h lt = (
+  omega (arith, lin, pos_times (2 ^ 63) (l +ℤ h), mul_comm l (pos (2 ^ 64)), pos_times (2 ^ 64) l),
+  omega (arith, lin, pos_times (2 ^ 63) (l +ℤ h), mul_comm h (pos (2 ^ 64)), pos_times (2 ^ 64) h),
+)
 
 -- it is over the point below it
 pub over_lower : (e : Seg) → Rises e → is_over e (lower e) ≡ true
@@ -109,7 +110,7 @@ changes e f he hf h =
     record {
       below = λ t. ap (λ (g : Seg). is_over g (lower e)) (sym (same.0 t)) ∙ over_lower e up;
       above = λ t. ap (λ (g : Seg). is_over g (upper e)) (sym (same.0 t)) ∙ over_upper e up;
-      other = λ t. ⊎_elim (λ (q : e ≡ f). absurd (true≢false (sym (same.1 q) ∙ t))) (over_alike e f he hf) h
+      other = λ t. ⊎_elim (λ (q : e ≡ f). absurd (true≢false (sym (same.1 q) ∙ t))) (over_alike e f he hf) h;
     }
 
 -- ---- a list

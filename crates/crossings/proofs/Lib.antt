@@ -9,3 +9,5 @@ pub mod Coverages
 pub mod Meetings
 pub mod Beside
 pub mod Changes
+pub mod Separated
+pub mod Instances

@@ -2,3 +2,4 @@ pub mod Crossing
 pub mod Meeting
 pub mod Laws
 pub mod Across
+pub mod Examples

@@ -7,10 +7,12 @@
 
 mod across;
 mod crossing;
+mod examples;
 mod joined;
 mod meeting;
 
 pub use across::across_law;
 pub use crossing::{coverage_law, crossing_sum_law, parity_law};
+pub use examples::joined_examples;
 pub use joined::joined_law;
 pub use meeting::{cross_law, opposite_sides_law};

@@ -11,3 +11,4 @@ pub mod Beside
 pub mod Changes
 pub mod Separated
 pub mod Instances
+pub mod Rings

@@ -1,6 +1,6 @@
 -- Edges that meet in ends alone, and how often an edge occurs.
 use Rattle.std.specs.Prelude.{◌≡◌, ◌⊎◌, ℕ, Bool, ◌&&◌, ◌==◌, List, count_by, Contains, ℤ, pos, cond}
-use Rattle.std.proofs.Common.{int_eq}
+use Rattle.std.specs.Ordering.{int_eq}
 use Rattle.cov_types.specs.declared.edge_use.EdgeUse.{EdgeUse}
 use Rattle.cov_types.specs.declared.seg.Seg.{Seg}
 use Rattle.cov_types.specs.Range.{IsSegInRange}

@@ -3,3 +3,4 @@ pub mod Meeting
 pub mod Laws
 pub mod Across
 pub mod Examples
+pub mod Winding

@@ -9,7 +9,7 @@ use Rattle.plane.specs.Joined.{IsClear}
 use Rattle.plane.specs.Examples.{grid, square}
 use Rattle.plane.proofs.Forms.{form}
 use Rattle.crossings.specs.Crossing.{IsSwept, HaveEvenEnds}
-use Rattle.crossings.specs.Examples.{west, north_west, triangle, IslandExample, TriangleExample}
+use Rattle.crossings.specs.Examples.{west, north_west, triangle, IslandExample, TriangleExample, WindingExamples}
 use Rattle.crossings.proofs.Separated.{IsBeyond, separated}
 use Rattle.crossings.proofs.Sums.{holds-joined}
 
@@ -69,3 +69,9 @@ outside_free = refl
 pub triangle_apart : TriangleExample
 triangle_apart = λ j.
     true≢false (sym inside_held ∙ holds-joined triangle triangle_swept triangle_even (at_coord (grid 2 2)) (at_coord (grid (2 ^ 30) 0)) j ∙ outside_free)
+
+-- ---- winding, by computation
+
+pub winding_examples : WindingExamples
+unfolding sweep side
+winding_examples = record { once = refl; clockwise = refl; twice = refl; outside = refl }

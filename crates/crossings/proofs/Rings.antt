@@ -1,5 +1,5 @@
 -- The sides of closed rings are balanced.
-use Rattle.std.proofs.Common.{◌≡◌, refl, sym, ◌∙◌, ap, ap₂, subst, ℕ, ◌+◌, Bool, true, false, cond, List, [], ◌∷◌, ◌++◌, length, take, drop, map, zip, flat_map, option_to_list, Option, Some, None, ℤ, pos, negsuc, neg_ℤ, ◌+ℤ◌, take-append-drop, arith}
+use Rattle.std.proofs.Common.{◌≡◌, refl, sym, ◌∙◌, ap, ap₂, subst, ℕ, ◌+◌, Bool, true, false, cond, List, [], ◌∷◌, ◌++◌, length, take, drop, map, zip, flat_map, option_to_list, Option, ℤ, pos, negsuc, ◌+ℤ◌, take-append-drop, arith}
 use Rattle.std.proofs.lemmas.List.{map-append}
 use Rattle.std.specs.List.{enumerate_from}
 use Rattle.cov_types.specs.declared.coord.Coord.{Coord}

@@ -3,7 +3,7 @@ use Rattle.std.specs.Prelude.{◌≡◌, ◌↔◌, ℕ, ◌%◌, List, map, Con
 use Rattle.cov_types.specs.declared.coord.Coord.{Coord}
 use Rattle.cov_types.specs.declared.edge_use.EdgeUse.{EdgeUse}
 use Rattle.cov_types.specs.declared.seg.Seg.{Seg}
-use Rattle.cov_types.specs.Coverage.{AllInRange}
+use Rattle.cov_types.specs.Coverage.{AllInRange, IsRingInRange}
 use Rattle.cov_types.specs.Range.{IsSegInRange}
 use Rattle.cov_types.specs.Uses.{uses_of}
 use Rattle.plane.specs.Point.{Point, at_coord, SamePoint}
@@ -12,16 +12,20 @@ use Rattle.plane.specs.Parity.{holds, member_holds}
 use Rattle.plane.specs.Joined.{IsOff, IsClear, Joined}
 use Rattle.crossings.specs.Across.{MeetInEnds, AllMeetInEnds, times, member_times, weight_of}
 use Rattle.crossings.specs.Crossing.{WeightedEdge, edges_of, crossing_sum, IsBalanced, IsSwept, HaveEvenEnds, MemberHasEvenEnds}
+use Rattle.crossings.specs.Winding.{ring_weights, coverage_weights, winding}
 use Rattle.crossings.specs.Meeting.{side_from, IsOpposite, IsStrictlyOpposite, AreZero, IsMeeting}
 
 -- ---- joined is an equivalence on the points off the edges
 
+-- a point off the edges is joined with itself
 abbrev pub ReflexiveLaw : Type 0
 ReflexiveLaw = (edges : List Seg) (p : Point) → IsOff edges p → Joined edges p p
 
+-- a way back is a way
 abbrev pub SymmetricLaw : Type 0
 SymmetricLaw = (edges : List Seg) (p q : Point) → Joined edges p q → Joined edges q p
 
+-- a way and a way on are a way
 abbrev pub TransitiveLaw : Type 0
 TransitiveLaw = (edges : List Seg) (p q r : Point) → Joined edges p q → Joined edges q r → Joined edges p r
 
@@ -32,6 +36,10 @@ OffLaw = (edges : List Seg) (p q : Point) → Joined edges p q → IsOff edges p
 -- joined does not depend on the fraction that stands for a point
 abbrev pub SameEndLaw : Type 0
 SameEndLaw = (edges : List Seg) (p p' q : Point) → SamePoint p p' → Joined edges p q → Joined edges p' q
+
+-- and fewer edges leave joined points joined
+abbrev pub FewerEdgesLaw : Type 0
+FewerEdgesLaw = (edges fewer : List Seg) → ((e : Seg) → Contains fewer e → Contains edges e) → (p q : Point) → Joined edges p q → Joined fewer p q
 
 -- ---- opposite sides give a common point
 
@@ -68,6 +76,24 @@ MemberLaw = (uses : List EdgeUse) (member : ℕ) (edges : List Seg) → ((u : Ed
 abbrev pub CoverageLaw : Type 0
 CoverageLaw = (members : List (List (List (List Coord)))) → AllInRange members → (p q : Point) → Joined (map (λ u. u.seg) (uses_of members)) p q
     → (member : ℕ) → member_holds (uses_of members) member p ≡ member_holds (uses_of members) member q
+
+-- ---- closed rings
+
+-- the sides of a closed ring are balanced
+abbrev pub RingLaw : Type 0
+RingLaw = (points : List Coord) → IsBalanced (ring_weights points)
+
+-- so a ring in range winds as often round two joined points
+abbrev pub WindingLaw : Type 0
+WindingLaw = (points : List Coord) → IsRingInRange points → (p q : Point) → Joined (edges_of (ring_weights points)) p q → winding points p ≡ winding points q
+
+-- the sides of a coverage are balanced, and they are the segments that it uses
+pub record AreSidesBalanced (members : List (List (List (List Coord)))) : Type 0 where
+  pub balanced : IsBalanced (coverage_weights members)
+  pub used : edges_of (coverage_weights members) ≡ map (λ u. u.seg) (uses_of members)
+
+abbrev pub CoverageSidesLaw : Type 0
+CoverageSidesLaw = (members : List (List (List (List Coord)))) → AreSidesBalanced members
 
 -- ---- across an edge
 

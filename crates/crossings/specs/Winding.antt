@@ -1,5 +1,5 @@
 -- The sides of closed rings as weighted edges, which add up to how often the rings wind round a point.
-use Rattle.std.specs.Prelude.{Bool, cond, List, map, flat_map, option_to_list, ℤ, pos, negsuc}
+use Rattle.std.specs.Prelude.{cond, List, map, flat_map, option_to_list, ℤ, pos, negsuc}
 use Rattle.cov_types.specs.declared.coord.Coord.{Coord}
 use Rattle.cov_types.specs.Coord.{is_before}
 use Rattle.cov_types.specs.Uses.{sides, seg_between}

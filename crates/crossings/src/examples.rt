@@ -1,7 +1,8 @@
-ghost use Rattle.crossings.specs.Examples.{IslandExample, TriangleExample};
+ghost use Rattle.crossings.specs.Examples.{IslandExample, TriangleExample, WindingExamples};
 
-/// Points that are joined and points that are not. A call does nothing.
+/// Points that are joined, points that are not, and how often rings wind round points. A call does nothing.
 pub fn joined_examples()
     ensures island { IslandExample }
     ensures triangle { TriangleExample }
+    ensures winding { WindingExamples }
 {}

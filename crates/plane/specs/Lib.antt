@@ -3,6 +3,11 @@ pub mod Segment
 pub mod Ray
 pub mod Parity
 pub mod Contact
-pub mod Joined
+pub mod Snapping
+pub mod Noded
 pub mod Laws
 pub mod Examples
+pub mod Joined
+pub mod Region
+pub mod Label
+pub mod Validity

@@ -1,0 +1,10 @@
+pub mod State
+pub mod Count
+pub mod Contents
+pub mod Frame
+pub mod Calls
+pub mod Slurp
+pub mod Spill
+pub mod Plan
+pub mod Entry
+pub mod Shelf

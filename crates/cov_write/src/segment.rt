@@ -1,0 +1,43 @@
+ghost use Rattle.std.specs.Prelude.{◌≡◌, ◌++◌, map, OnOk, IfOk};
+ghost use Rattle.cov_write.specs.Written.{segment_text, segments_line, lines_text};
+
+use crate::written::{Written, append_separated};
+use cov_types::{NoMemory, Seg};
+use std::alloc::Global;
+
+impl Written for Seg {
+    ghost text = { segment_text };
+
+    fn append_to(&self, out: &mut Vec<u8>) -> Result<(), NoMemory> {
+        out.push(b'(')?;
+        self.lo.append_to(out)?;
+        out.extend_from_slice(b", ")?;
+        self.hi.append_to(out)?;
+        out.push(b')')?;
+        Ok(())
+    }
+}
+
+fn append_segments_line(out: &mut Vec<u8>, segments: &[Seg]) -> Result<(), NoMemory>
+    ensures { OnOk result (out.new.items ≡ out.old.items ++ segments_line segments.now) }
+{
+    if segments.is_empty() {
+        out.extend_from_slice(b"MULTILINESTRING EMPTY\n")?;
+        return Ok(());
+    }
+    out.extend_from_slice(b"MULTILINESTRING (")?;
+    append_separated(out, segments)?;
+    out.extend_from_slice(b")\n")?;
+    Ok(())
+}
+
+/// One line for each list of segments.
+pub fn lines_of(alloc: Global, lists: &[Vec<Seg>]) -> Result<Vec<u8>, NoMemory>
+    ensures { IfOk result (λ v. v.items ≡ lines_text (map (λ l. l.items) lists.now)) }
+{
+    let mut out = Vec::new(alloc);
+    for segments in lists {
+        append_segments_line(&mut out, segments)?;
+    }
+    Ok(out)
+}

@@ -1,0 +1,47 @@
+ghost use Rattle.std.specs.Prelude.{◌≡◌, ℕ, ℤ, List, ◌++◌, OnOk};
+ghost use Rattle.cov_write.specs.Written.{separated, number_text, position_text};
+
+use cov_types::{Coord, NoMemory};
+use itoa::Buffer;
+
+/// What has a written form.
+pub(crate) trait Written {
+    ghost text: { Self → List ℕ };
+
+    /// Appends the written form; after an error some of it may be there.
+    fn append_to(&self, out: &mut Vec<u8>) -> Result<(), NoMemory>
+        ensures { OnOk result (out.new.items ≡ out.old.items ++ text self.now) };
+}
+
+impl Written for Coord {
+    ghost text = { position_text };
+
+    fn append_to(&self, out: &mut Vec<u8>) -> Result<(), NoMemory> {
+        append_number(out, self.x)?;
+        out.push(b' ')?;
+        append_number(out, self.y)
+    }
+}
+
+fn append_number(out: &mut Vec<u8>, number: i32) -> Result<(), NoMemory>
+    ensures { OnOk result (out.new.items ≡ out.old.items ++ number_text number) }
+{
+    let mut digits = Buffer::new();
+    out.extend_from_slice(digits.format(number).as_bytes())?;
+    Ok(())
+}
+
+/// Appends the items with `, ` between them.
+pub(crate) fn append_separated<T: Written>(out: &mut Vec<u8>, items: &[T]) -> Result<(), NoMemory>
+    ensures { OnOk result (out.new.items ≡ out.old.items ++ separated T.text items.now) }
+{
+    let [first, rest @ ..] = items else {
+        return Ok(());
+    };
+    first.append_to(out)?;
+    for item in rest {
+        out.extend_from_slice(b", ")?;
+        item.append_to(out)?;
+    }
+    Ok(())
+}

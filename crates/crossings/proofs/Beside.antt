@@ -9,14 +9,18 @@ use Rattle.exact.proofs.Cast.{pos_nonneg, positive_natural}
 use Rattle.exact.proofs.Order.{cancel_eq, cancel_le, cancel_lt, mul_le, lt_mul, by_le_eq}
 use Rattle.exact.proofs.Compare.{le_of_lt, lt_or_ge}
 use Rattle.plane.specs.Point.{Point, at_coord, IsBetween}
-use Rattle.plane.specs.Segment.{side, upper, lower, IsOn}
+use Rattle.plane.specs.Segment.{side, upper, lower, IsOn, IsEnd}
 use Rattle.plane.specs.Ray.{sweep, Rises}
+use Rattle.plane.specs.Contact.{IsCommon}
 use Rattle.plane.proofs.Points.{d_positive, between_by}
 use Rattle.plane.proofs.Forms.{form, form-between, form_zero-between, form_not_positive-between, form_not_negative-between}
 use Rattle.plane.proofs.Sides.{side-form, side_a, side_b, side_c}
 use Rattle.plane.proofs.Sweeps.{sweep-form, sweep-same, on_from_sweep, rises-in_range}
-use Rattle.crossings.specs.Across.{MeetInEnds}
 use Rattle.crossings.proofs.Sides.{Misses}
+
+-- each common point of the segments is an end of both
+abbrev pub HaveOnlyEnds : Seg → Seg → Type 0
+HaveOnlyEnds e f = (r : Point) → IsCommon e f r → IsEnd e r × IsEnd f r
 
 -- how far the sweep value rises along the edge, and the sum of its ends' sweep values
 abbrev pub rise : Seg → ℤ
@@ -190,7 +194,7 @@ not_both_left a b t u m n s g h hm hn w small ha hb =
 -- ---- the segment meets the line of the edge inside the edge
 
 -- a point of both that is no end of the edge
-inside_meets : (e f : Seg) (c : Point) → Rises e → MeetInEnds e f → IsOn f c → side e c ≡ pos 0
+inside_meets : (e f : Seg) (c : Point) → Rises e → HaveOnlyEnds e f → IsOn f c → side e c ≡ pos 0
     → (sweep (at_coord e.lo) *ℤ pos c.d) <ℤ sweep c → sweep c <ℤ (sweep (at_coord e.hi) *ℤ pos c.d) → ⊥
 inside_meets e f c up ends on on_line low high =
     let end = (ends c (on_from_sweep e c up on_line (le_of_lt low) (le_of_lt high), on)).0 in
@@ -251,7 +255,7 @@ above_end : (l h d x : ℤ) → neg_ℤ ((pos 2 *ℤ x) -ℤ ((l +ℤ h) *ℤ d)
 above_end l h d x lt = omega (arith, lin, add_mul l h d, sub_mul h l d, pos_times 2 x)
 
 -- the ends are not on opposite sides of the line
-not_opposite : (e f : Seg) (a b m n : ℤ) → Rises e → Rises f → MeetInEnds e f → (pos 2 *ℤ rise f) <ℤ pos (2 ^ 64)
+not_opposite : (e f : Seg) (a b m n : ℤ) → Rises e → Rises f → HaveOnlyEnds e f → (pos 2 *ℤ rise f) <ℤ pos (2 ^ 64)
     → a ≤ℤ pos 0 → pos 0 ≤ℤ b → pos 0 <ℤ (b -ℤ a) → (b *ℤ side e (at_coord f.lo)) -ℤ (a *ℤ side e (at_coord f.hi)) ≡ pos 0
     → IsNear a b (sweep (at_coord f.lo)) (sweep (at_coord f.hi)) m n (sweep_sum e) (rise e) → pos 0 <ℤ (m +ℤ n) → ⊥
 not_opposite e f a b m n up_e up_f ends small ha hb w none near weight =
@@ -277,7 +281,7 @@ not_opposite e f a b m n up_e up_f ends small ha hb w none near weight =
     (below_end (sweep (at_coord e.lo)) (sweep (at_coord e.hi)) (pos c.d) (sweep c) (omega (arith, lin)))
 
 -- nor both on it
-not_both_on : (e f : Seg) (r : Point) → Rises e → MeetInEnds e f → IsOn f r → side e (at_coord f.lo) ≡ pos 0 → side e (at_coord f.hi) ≡ pos 0
+not_both_on : (e f : Seg) (r : Point) → Rises e → HaveOnlyEnds e f → IsOn f r → side e (at_coord f.lo) ≡ pos 0 → side e (at_coord f.hi) ≡ pos 0
     → pos 2 *ℤ sweep r ≡ sweep_sum e *ℤ pos r.d → ⊥
 not_both_on e f r up ends on on_lo on_hi middle =
     let on_line : side e r ≡ pos 0 =
@@ -383,7 +387,7 @@ no_case a b both_left both_right up down on =
     ]
 
 -- no point between the side points of the edge is on the segment
-none_between : (e f : Seg) → IsSegInRange e → IsSegInRange f → MeetInEnds e f → (r : Point) → IsBetween r (lower e) (upper e) → IsOn f r → ⊥
+none_between : (e f : Seg) → IsSegInRange e → IsSegInRange f → HaveOnlyEnds e f → (r : Point) → IsBetween r (lower e) (upper e) → IsOn f r → ⊥
 none_between e f he hf ends r between on =
     let a = side e (at_coord f.lo) in
     let b = side e (at_coord f.hi) in
@@ -407,5 +411,5 @@ none_between e f he hf ends r between on =
     (λ ha hb gap. not_opposite e f (neg_ℤ a) (neg_ℤ b) m n up_e up_f ends small (nonpos_negated a ha) (nonneg_negated b hb) (gap_negated a b gap) (turned_zero a b) turned w)
     (λ ha hb. not_both_on e f r up_e ends on ha hb (between-middle e r between))
 
-pub side_points_clear : (e f : Seg) → IsSegInRange e → IsSegInRange f → MeetInEnds e f → Misses f (lower e) (upper e)
+pub side_points_clear : (e f : Seg) → IsSegInRange e → IsSegInRange f → HaveOnlyEnds e f → Misses f (lower e) (upper e)
 side_points_clear e f he hf ends = record { none = none_between e f he hf ends }

@@ -1,5 +1,5 @@
 -- From one side of an edge to the other, only that edge changes.
-use Rattle.std.proofs.Common.{◌≡◌, refl, sym, ◌∙◌, ap, ℕ, ◌+◌, ◌%◌, ◌==◌, ◌↔◌, Bool, true, false, not, ◌&&◌, cond, List, map, count_by, Contains, ℤ, pos, ◌+ℤ◌, ◌*ℤ◌, ◌≤ℤ◌, ◌<ℤ◌, int_lt, ◌^◌, ◌⊎◌, inl, inr, ⊎_elim, true≢false, add-zero, arith}
+use Rattle.std.proofs.Common.{◌≡◌, refl, sym, ◌∙◌, ap, subst, ℕ, ◌+◌, ◌%◌, ◌==◌, ◌↔◌, Bool, true, false, not, ◌&&◌, cond, List, map, count_by, Contains, ℤ, pos, ◌+ℤ◌, ◌*ℤ◌, ◌≤ℤ◌, ◌<ℤ◌, int_lt, ◌^◌, inl, inr, ⊎_elim, true≢false, add-zero, arith}
 use Rattle.std.proofs.lemmas.Bool.Decides.{nat_tests}
 use Rattle.cov_types.specs.declared.coord.Coord.{Coord}
 use Rattle.cov_types.specs.declared.edge_use.EdgeUse.{EdgeUse}
@@ -13,11 +13,12 @@ use Rattle.plane.specs.Segment.{upper, lower}
 use Rattle.plane.specs.Ray.{sweep, is_over, Rises}
 use Rattle.plane.specs.Parity.{holds, member_holds}
 use Rattle.plane.specs.Joined.{IsClear}
+use Rattle.plane.specs.Noded.{MeetInEnds}
 use Rattle.plane.proofs.Over.{over-is}
 use Rattle.plane.proofs.Sweeps.{rises-in_range}
-use Rattle.crossings.specs.Across.{MeetInEnds, AllMeetInEnds, is_same_seg, times, member_times, weight_of}
+use Rattle.crossings.specs.Across.{AllMeetInEnds, is_same_seg, times, member_times, weight_of}
 use Rattle.crossings.specs.Crossing.{WeightedEdge, edges_of, crossing_sum}
-use Rattle.crossings.proofs.Beside.{sweep-upper, sweep-lower, side-upper, side-lower, side_points_clear}
+use Rattle.crossings.proofs.Beside.{HaveOnlyEnds, sweep-upper, sweep-lower, side-upper, side-lower, side_points_clear}
 use Rattle.crossings.proofs.Lists.{contains-map, sum_splits, int_sum_splits}
 use Rattle.crossings.proofs.OneEdge.{passes, one_edge}
 use Rattle.crossings.proofs.Tests.{IsSamePair}
@@ -46,11 +47,14 @@ without_passes a b c d h none_b none_d =
     ]
 
 -- no edge that meets it in ends alone is between its side points
-pub side_points-clear : (e : Seg) (edges : List Seg) → IsSegInRange e → ((f : Seg) → Contains edges f → IsSegInRange f × MeetInEnds e f) → IsClear edges (lower e) (upper e)
-side_points-clear e edges he all = λ f i. (let a = all f i in (side_points_clear e f he a.0 a.1).none)
+pub side_points-clear : (e : Seg) (edges : List Seg) → IsSegInRange e → AllMeetInEnds e edges → ¬ Contains edges e → IsClear edges (lower e) (upper e)
+side_points-clear e edges he all none = λ f i.
+    (let a = all f i in
+    let ends : HaveOnlyEnds e f = ⊎_elim (λ same. absurd (none (subst (λ g. Contains edges g) (sym same) i))) (λ h. h) a.1 in
+    (side_points_clear e f he a.0 ends).none)
 
 -- it is over both or over none
-pub over_alike : (e f : Seg) → IsSegInRange e → IsSegInRange f → MeetInEnds e f → is_over f (upper e) ≡ is_over f (lower e)
+pub over_alike : (e f : Seg) → IsSegInRange e → IsSegInRange f → HaveOnlyEnds e f → is_over f (upper e) ≡ is_over f (lower e)
 over_alike e f he hf ends =
     without_passes _ _ _ _
     (one_edge f (lower e) (upper e) (side_points_clear e f he hf ends) (rises-in_range f hf) (le_of_eq (ap (λ s. s *ℤ pos (2 ^ 64)) (level e))))
@@ -103,7 +107,7 @@ pub record Changes (e f : Seg) : Type 0 where
   pub above : is_same_seg e f ≡ true → is_over f (upper e) ≡ false
   pub other : is_same_seg e f ≡ false → is_over f (upper e) ≡ is_over f (lower e)
 
-changes : (e f : Seg) → IsSegInRange e → IsSegInRange f → ((e ≡ f) ⊎ MeetInEnds e f) → Changes e f
+changes : (e f : Seg) → IsSegInRange e → IsSegInRange f → MeetInEnds e f → Changes e f
 changes e f he hf h =
     let same = Decides-same_segs e f in
     let up = rises-in_range e he in

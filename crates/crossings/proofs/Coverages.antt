@@ -1,5 +1,5 @@
 -- The uses of a coverage have even ends and rise, so joined points are held by the same members.
-use Rattle.std.proofs.Common.{◌≡◌, sym, subst, ℕ, List, [], ◌∷◌, map, All, lit<, append-nil}
+use Rattle.std.proofs.Common.{◌≡◌, sym, subst, ℕ, List, [], ◌∷◌, length, map, All, lit<, append-nil}
 use Rattle.std.proofs.lemmas.List.Elements.{All-contains, All-map, All-from_recursion}
 use Rattle.cov_types.specs.declared.coord.Coord.{Coord}
 use Rattle.cov_types.specs.declared.edge_use.EdgeUse.{EdgeUse}
@@ -11,12 +11,13 @@ use Rattle.cov_types.proofs.AllUses.{uses-in_range}
 use Rattle.cov_types.proofs.EvenEnds.{even-ends}
 use Rattle.plane.specs.Point.{Point}
 use Rattle.plane.specs.Parity.{member_holds}
+use Rattle.plane.specs.Label.{label_at}
 use Rattle.plane.specs.Joined.{Joined}
 use Rattle.plane.proofs.Sweeps.{rises-in_range}
 use Rattle.crossings.specs.Crossing.{IsSwept, MemberHasEvenEnds, edges_of}
 use Rattle.crossings.specs.Winding.{ring_weights, winding}
 use Rattle.crossings.proofs.Lists.{contains-map}
-use Rattle.crossings.proofs.Sums.{member_holds-joined, crossing_sum-joined}
+use Rattle.crossings.proofs.Sums.{member_holds-joined, label-joined, crossing_sum-joined}
 use Rattle.crossings.proofs.Rings.{ring_balanced, ring_edges}
 
 -- edges in range rise
@@ -36,6 +37,12 @@ pub coverage_holds-joined : (members : List (List (List (List Coord)))) → AllI
 coverage_holds-joined members h p q j member =
     member_holds-joined (uses_of members) member (map (λ u. u.seg) (uses_of members)) (contains-map (λ (u : EdgeUse). u.seg) (uses_of members))
     (uses_swept members h) (uses_even members member) p q j
+
+pub coverage_label-joined : (members : List (List (List (List Coord)))) → AllInRange members → (p q : Point) → Joined (map (λ u. u.seg) (uses_of members)) p q
+    → label_at (uses_of members) (length members) p ≡ label_at (uses_of members) (length members) q
+coverage_label-joined members h p q j =
+    label-joined (uses_of members) (length members) (map (λ u. u.seg) (uses_of members)) (contains-map (λ (u : EdgeUse). u.seg) (uses_of members))
+    (uses_swept members h) (even-ends members) p q j
 
 -- ---- one ring
 

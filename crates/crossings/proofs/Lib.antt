@@ -12,3 +12,4 @@ pub mod Changes
 pub mod Separated
 pub mod Instances
 pub mod Rings
+pub mod Located

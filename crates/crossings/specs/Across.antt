@@ -1,21 +1,15 @@
--- Edges that meet in ends alone, and how often an edge occurs.
-use Rattle.std.specs.Prelude.{◌≡◌, ◌⊎◌, ℕ, Bool, ◌&&◌, ◌==◌, List, count_by, Contains, ℤ, pos, cond}
+-- The edges beside an edge that they meet in ends alone, and how often an edge occurs.
+use Rattle.std.specs.Prelude.{ℕ, Bool, ◌&&◌, ◌==◌, List, count_by, Contains, ℤ, pos, cond}
 use Rattle.std.specs.Ordering.{int_eq}
 use Rattle.cov_types.specs.declared.edge_use.EdgeUse.{EdgeUse}
 use Rattle.cov_types.specs.declared.seg.Seg.{Seg}
 use Rattle.cov_types.specs.Range.{IsSegInRange}
-use Rattle.plane.specs.Point.{Point}
-use Rattle.plane.specs.Segment.{IsEnd}
-use Rattle.plane.specs.Contact.{IsCommon}
+use Rattle.plane.specs.Noded.{MeetInEnds}
 use Rattle.crossings.specs.Crossing.{WeightedEdge, int_sum_by}
 
--- each common point of the segments is an end of both
-abbrev pub MeetInEnds : Seg → Seg → Type 0
-MeetInEnds e f = (r : Point) → IsCommon e f r → IsEnd e r × IsEnd f r
-
--- each edge of the list is in range, and it is e or has only ends in common with e
+-- each edge of the list is in range, and it is e or meets e in ends alone
 abbrev pub AllMeetInEnds : Seg → List Seg → Type 0
-AllMeetInEnds e edges = (f : Seg) → Contains edges f → IsSegInRange f × ((e ≡ f) ⊎ MeetInEnds e f)
+AllMeetInEnds e edges = (f : Seg) → Contains edges f → IsSegInRange f × MeetInEnds e f
 
 -- whether the two are one segment
 abbrev pub is_same_seg : Seg → Seg → Bool

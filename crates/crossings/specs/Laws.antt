@@ -1,16 +1,18 @@
 -- The laws of joined points and of crossing sums.
-use Rattle.std.specs.Prelude.{◌≡◌, ◌↔◌, ℕ, ◌%◌, List, map, Contains, ◌+ℤ◌, unsigned_abs}
+use Rattle.std.specs.Prelude.{◌≡◌, ◌↔◌, ℕ, ◌%◌, List, length, map, Contains, ◌+ℤ◌, unsigned_abs}
 use Rattle.cov_types.specs.declared.coord.Coord.{Coord}
 use Rattle.cov_types.specs.declared.edge_use.EdgeUse.{EdgeUse}
 use Rattle.cov_types.specs.declared.seg.Seg.{Seg}
 use Rattle.cov_types.specs.Coverage.{AllInRange, IsRingInRange}
 use Rattle.cov_types.specs.Range.{IsSegInRange}
-use Rattle.cov_types.specs.Uses.{uses_of}
+use Rattle.cov_types.specs.Uses.{uses_of, HasEvenEnds}
 use Rattle.plane.specs.Point.{Point, at_coord, SamePoint}
 use Rattle.plane.specs.Segment.{side, IsEnd, upper, lower}
 use Rattle.plane.specs.Parity.{holds, member_holds}
+use Rattle.plane.specs.Label.{label_at}
+use Rattle.plane.specs.Region.{IsRegionOf}
 use Rattle.plane.specs.Joined.{IsOff, IsClear, Joined}
-use Rattle.crossings.specs.Across.{MeetInEnds, AllMeetInEnds, times, member_times, weight_of}
+use Rattle.crossings.specs.Across.{AllMeetInEnds, times, member_times, weight_of}
 use Rattle.crossings.specs.Crossing.{WeightedEdge, edges_of, crossing_sum, IsBalanced, IsSwept, HaveEvenEnds, MemberHasEvenEnds}
 use Rattle.crossings.specs.Winding.{ring_weights, coverage_weights, winding}
 use Rattle.crossings.specs.Meeting.{side_from, IsOpposite, IsStrictlyOpposite, AreZero, IsMeeting}
@@ -40,6 +42,20 @@ SameEndLaw = (edges : List Seg) (p p' q : Point) → SamePoint p p' → Joined e
 -- and fewer edges leave joined points joined
 abbrev pub FewerEdgesLaw : Type 0
 FewerEdgesLaw = (edges fewer : List Seg) → ((e : Seg) → Contains fewer e → Contains edges e) → (p q : Point) → Joined edges p q → Joined fewer p q
+
+-- ---- joined points have one region
+
+-- joined points have one region
+abbrev pub RegionLaw : Type 0
+RegionLaw = (edges : List Seg) (p q : Point) (r : ℕ) → Joined edges p q → IsRegionOf edges p r → IsRegionOf edges q r
+
+-- a point has one region at most
+abbrev pub OneRegionLaw : Type 0
+OneRegionLaw = (edges : List Seg) (p : Point) (r s : ℕ) → IsRegionOf edges p r → IsRegionOf edges p s → r ≡ s
+
+-- points of one region are joined
+abbrev pub SameRegionLaw : Type 0
+SameRegionLaw = (edges : List Seg) (p q : Point) (r : ℕ) → IsRegionOf edges p r → IsRegionOf edges q r → Joined edges p q
 
 -- ---- opposite sides give a common point
 
@@ -72,10 +88,20 @@ abbrev pub MemberLaw : Type 0
 MemberLaw = (uses : List EdgeUse) (member : ℕ) (edges : List Seg) → ((u : EdgeUse) → Contains uses u → Contains edges u.seg) → IsSwept edges
     → MemberHasEvenEnds uses member → (p q : Point) → Joined edges p q → member_holds uses member p ≡ member_holds uses member q
 
+-- so the points have one label where all members' uses have even ends
+abbrev pub LabelLaw : Type 0
+LabelLaw = (uses : List EdgeUse) (members : ℕ) (edges : List Seg) → ((u : EdgeUse) → Contains uses u → Contains edges u.seg) → IsSwept edges
+    → HasEvenEnds uses → (p q : Point) → Joined edges p q → label_at uses members p ≡ label_at uses members q
+
 -- the members of a coverage in range hold points alike that are joined round its segments
 abbrev pub CoverageLaw : Type 0
 CoverageLaw = (members : List (List (List (List Coord)))) → AllInRange members → (p q : Point) → Joined (map (λ u. u.seg) (uses_of members)) p q
     → (member : ℕ) → member_holds (uses_of members) member p ≡ member_holds (uses_of members) member q
+
+-- so the points have one label
+abbrev pub CoverageLabelLaw : Type 0
+CoverageLabelLaw = (members : List (List (List (List Coord)))) → AllInRange members → (p q : Point) → Joined (map (λ u. u.seg) (uses_of members)) p q
+    → label_at (uses_of members) (length members) p ≡ label_at (uses_of members) (length members) q
 
 -- ---- closed rings
 
@@ -97,9 +123,9 @@ CoverageSidesLaw = (members : List (List (List (List Coord)))) → AreSidesBalan
 
 -- ---- across an edge
 
--- where the edges of a list meet e in ends alone, none of them comes between the side points of e
+-- where the edges of a list meet e in ends alone, and e is none of them, none comes between the side points of e
 abbrev pub BesideLaw : Type 0
-BesideLaw = (e : Seg) (edges : List Seg) → IsSegInRange e → ((f : Seg) → Contains edges f → IsSegInRange f × MeetInEnds e f) → IsClear edges (lower e) (upper e)
+BesideLaw = (e : Seg) (edges : List Seg) → IsSegInRange e → AllMeetInEnds e edges → ¬ Contains edges e → IsClear edges (lower e) (upper e)
 
 -- where they are e or meet e in ends alone, the side points of e are held alike exactly where e occurs an even number of times
 abbrev pub AcrossLaw : Type 0

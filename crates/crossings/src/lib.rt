@@ -10,6 +10,7 @@ mod crossing;
 mod examples;
 mod joined;
 mod meeting;
+mod region;
 mod ring;
 
 pub use across::across_law;
@@ -17,4 +18,5 @@ pub use crossing::{coverage_law, crossing_sum_law, parity_law};
 pub use examples::joined_examples;
 pub use joined::joined_law;
 pub use meeting::{cross_law, opposite_sides_law};
+pub use region::region_law;
 pub use ring::ring_law;

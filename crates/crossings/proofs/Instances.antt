@@ -10,7 +10,7 @@ use Rattle.plane.specs.Examples.{grid, square}
 use Rattle.plane.proofs.Forms.{form}
 use Rattle.crossings.specs.Crossing.{IsSwept, HaveEvenEnds}
 use Rattle.crossings.specs.Examples.{west, north_west, triangle, IslandExample, TriangleExample, WindingExamples}
-use Rattle.crossings.proofs.Separated.{IsBeyond, separated}
+use Rattle.crossings.proofs.Separated.{IsOnFarSide, separated}
 use Rattle.crossings.proofs.Sums.{holds-joined}
 
 -- ---- the island: the way keeps to the left of it, above it and to the right of it
@@ -25,7 +25,7 @@ record AreCornersBeyond (a b c : ℤ) : Type 0 where
 -- so a way on the other side of the line is clear
 clear_of_square : (a b c : ℤ) (p q : Point) → AreCornersBeyond a b c → form a b c p <ℤ pos 0 → form a b c q <ℤ pos 0 → IsClear square p q
 clear_of_square a b c p q h hp hq =
-    separated a b c square p q hp hq (All-from_recursion (IsBeyond a b c) square (
+    separated a b c square p q hp hq (All-from_recursion (IsOnFarSide a b c) square (
       record { lo = h.south_west; hi = h.south_east },
       (record { lo = h.south_east; hi = h.north_east }, (record { lo = h.north_west; hi = h.north_east }, (record { lo = h.south_west; hi = h.north_west }, tt))),
     ))

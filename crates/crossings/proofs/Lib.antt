@@ -7,3 +7,9 @@ pub mod Ways
 pub mod Sums
 pub mod Coverages
 pub mod Meetings
+pub mod Beside
+pub mod Changes
+pub mod Separated
+pub mod Instances
+pub mod Rings
+pub mod Located

@@ -24,11 +24,12 @@ sums_agree a b c d (x ∷ xs) h =
     omega (arith, sum_by-cons a x xs, sum_by-cons b x xs, sum_by-cons c x xs, sum_by-cons d x xs)
 
 -- a sum that is two sums
-pub sum_splits : {X : Type 0} (a b c : X → ℕ) (xs : List X) → ((x : X) → a x ≡ b x + c x) → sum_by a xs ≡ sum_by b xs + sum_by c xs
+pub sum_splits : {X : Type 0} (a b c : X → ℕ) (xs : List X) → ((x : X) → Contains xs x → a x ≡ b x + c x) → sum_by a xs ≡ sum_by b xs + sum_by c xs
 sum_splits a b c [] h = refl
 sum_splits a b c (x ∷ xs) h =
-    let rest = sum_splits a b c xs h in
-    omega (arith, h x, sum_by-cons a x xs, sum_by-cons b x xs, sum_by-cons c x xs)
+    let first = h x (contains_here x xs) in
+    let rest = sum_splits a b c xs (λ y i. h y (contains_there x y xs i)) in
+    omega (arith, sum_by-cons a x xs, sum_by-cons b x xs, sum_by-cons c x xs)
 
 -- the same for whole numbers
 pub int_sums_agree : {X : Type 0} (a b c d : X → ℤ) (xs : List X) → ((x : X) → Contains xs x → a x +ℤ b x ≡ c x +ℤ d x)
@@ -37,4 +38,11 @@ int_sums_agree a b c d [] h = refl
 int_sums_agree a b c d (x ∷ xs) h =
     let first = h x (contains_here x xs) in
     let rest = int_sums_agree a b c d xs (λ y i. h y (contains_there x y xs i)) in
+    omega (arith, lin)
+
+pub int_sum_splits : {X : Type 0} (a b c : X → ℤ) (xs : List X) → ((x : X) → Contains xs x → a x ≡ b x +ℤ c x) → int_sum_by a xs ≡ int_sum_by b xs +ℤ int_sum_by c xs
+int_sum_splits a b c [] h = refl
+int_sum_splits a b c (x ∷ xs) h =
+    let first = h x (contains_here x xs) in
+    let rest = int_sum_splits a b c xs (λ y i. h y (contains_there x y xs i)) in
     omega (arith, lin)

@@ -12,7 +12,7 @@ use Rattle.plane.specs.Segment.{side, IsOn, IsEnd}
 use Rattle.plane.proofs.Points.{d_positive}
 use Rattle.plane.proofs.Sides.{side_zero-on, side-same}
 use Rattle.crossings.specs.Meeting.{side_from, IsOpposite, IsStrictlyOpposite, AreZero, IsMeeting}
-use Rattle.crossings.proofs.Sides.{IsTied, AreOpposite, sides_tie, tied_negated, meeting, gap_of_all, weight_of_gap}
+use Rattle.crossings.proofs.Sides.{IsTied, AreCrossed, sides_tie, tied_negated, meeting, gap_of_all, weight_of_gap}
 
 -- ---- a way and a segment
 
@@ -27,7 +27,7 @@ only_zero at_p at_q at_hi at_lo pd qd positive_p positive_q depth hp hq hlo hhi 
     record { first = omega (arith, lin); second = omega (arith, lin); third = omega (arith, lin); fourth = omega (arith, lin) }
 
 -- opposite sides that are not all 0
-some_gap : (at_p at_q at_hi at_lo : ℤ) → AreOpposite at_p at_q at_hi at_lo → ¬ AreZero at_p at_q at_lo at_hi → pos 0 <ℤ ((at_q -ℤ at_p) +ℤ (at_lo -ℤ at_hi))
+some_gap : (at_p at_q at_hi at_lo : ℤ) → AreCrossed at_p at_q at_hi at_lo → ¬ AreZero at_p at_q at_lo at_hi → pos 0 <ℤ ((at_q -ℤ at_p) +ℤ (at_lo -ℤ at_hi))
 some_gap at_p at_q at_hi at_lo o some =
     elim (lt_or_ge (pos 0) ((at_q -ℤ at_p) +ℤ (at_lo -ℤ at_hi))) [
       | inl gap ↦ gap
@@ -44,7 +44,7 @@ meet_to_left s p q at_p at_q at_hi at_lo m n t hp hq k some en em =
     elim k [
       | inl wrong ↦ absurd (some (only_zero at_p at_q at_hi at_lo (pos p.d) (pos q.d) (d_positive p) (d_positive q) t.d hp hq wrong.0 wrong.1))
       | inr right ↦ (
-          let o : AreOpposite at_p at_q at_hi at_lo = record { p = hp; q = hq; hi = right.0; lo = right.1 } in
+          let o : AreCrossed at_p at_q at_hi at_lo = record { p = hp; q = hq; hi = right.0; lo = right.1 } in
           let gap = gap_of_all at_p at_q at_hi at_lo (pos p.d) (pos q.d) t.d hp hq (some_gap at_p at_q at_hi at_lo o some) in
           meeting s p q at_p at_q at_hi at_lo m n t o en em (weight_of_gap m n at_p at_q en em gap)
           )

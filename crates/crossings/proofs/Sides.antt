@@ -100,7 +100,7 @@ tied_negated e p q at_p at_q at_hi at_lo t = record {
 -- ---- opposite sides give a common point
 
 -- the sides are opposite, each to the other
-pub record AreOpposite (at_p at_q at_hi at_lo : ℤ) : Type 0 where
+pub record AreCrossed (at_p at_q at_hi at_lo : ℤ) : Type 0 where
   pub p : at_p ≤ℤ pos 0
   pub q : pos 0 ≤ℤ at_q
   pub hi : at_hi ≤ℤ pos 0
@@ -151,7 +151,7 @@ meeting_of_sizes : (e : Seg) (p q : Point) (at_p at_q at_hi at_lo : ℤ) (m n h 
 meeting_of_sizes e p q at_p at_q at_hi at_lo m n h l t en em eh el w = meeting_of_tie e p q m n h l (rw (en, em, eh, el) at t) w
 
 -- sides that are tied and opposite, those of p and q not both 0: the sizes of the sides are the weights
-pub meeting : (e : Seg) (p q : Point) (at_p at_q at_hi at_lo : ℤ) (m n : ℕ) → IsTied e p q at_p at_q at_hi at_lo → AreOpposite at_p at_q at_hi at_lo
+pub meeting : (e : Seg) (p q : Point) (at_p at_q at_hi at_lo : ℤ) (m n : ℕ) → IsTied e p q at_p at_q at_hi at_lo → AreCrossed at_p at_q at_hi at_lo
     → at_p ≡ neg_ℤ (pos n) → at_q ≡ pos m → 1 ≤ m + n → (r : Point) × IsMeeting e p q m n r
 meeting e p q at_p at_q at_hi at_lo m n t opposite en em w =
     let (l, el) = natural at_lo opposite.lo in
@@ -182,7 +182,7 @@ weight_of_gap m n at_p at_q en em w = omega (arith, lin)
 
 -- so a way that misses an edge has no such sides
 pub no_opposite_sides : (e : Seg) (p q : Point) (at_p at_q at_hi at_lo : ℤ) → IsTied e p q at_p at_q at_hi at_lo → Misses e p q
-    → AreOpposite at_p at_q at_hi at_lo → pos 0 <ℤ ((at_q -ℤ at_p) +ℤ (at_lo -ℤ at_hi)) → ⊥
+    → AreCrossed at_p at_q at_hi at_lo → pos 0 <ℤ ((at_q -ℤ at_p) +ℤ (at_lo -ℤ at_hi)) → ⊥
 no_opposite_sides e p q at_p at_q at_hi at_lo t misses opposite w =
     let gap = gap_of_all at_p at_q at_hi at_lo (pos p.d) (pos q.d) t.d opposite.p opposite.q w in
     let (m, em) = natural at_q opposite.q in

@@ -1,16 +1,17 @@
 -- The law of crossing sums, and its parity form.
-use Rattle.std.proofs.Common.{◌≡◌, refl, sym, ap, ℕ, ◌+◌, ◌%◌, ◌==◌, Bool, true, false, ◌&&◌, cond, List, sum_by, count_by, Contains, ℤ, pos, ◌+ℤ◌, ◌*ℤ◌, ◌≤ℤ◌, inl, inr, arith}
+use Rattle.std.proofs.Common.{◌≡◌, refl, sym, ap, ℕ, ◌+◌, ◌%◌, ◌==◌, Bool, true, false, ◌&&◌, cond, List, sum_by, count_by, filter, Contains, ℤ, pos, ◌+ℤ◌, ◌*ℤ◌, ◌≤ℤ◌, inl, inr, arith}
 use Rattle.cov_types.specs.declared.coord.Coord.{Coord}
 use Rattle.cov_types.specs.declared.edge_use.EdgeUse.{EdgeUse}
 use Rattle.cov_types.specs.declared.seg.Seg.{Seg}
-use Rattle.cov_types.specs.Uses.{ends_inside}
+use Rattle.cov_types.specs.Uses.{ends_inside, HasEvenEnds}
 use Rattle.exact.proofs.Ring.{lin}
 use Rattle.exact.proofs.Compare.{le_of_lt, lt_or_ge}
 use Rattle.plane.specs.Point.{Point}
 use Rattle.plane.specs.Ray.{sweep, is_over}
 use Rattle.plane.specs.Parity.{holds, member_holds}
+use Rattle.plane.specs.Label.{label_at, numbers_below}
 use Rattle.plane.specs.Joined.{IsClear, Joined}
-use Rattle.crossings.specs.Crossing.{WeightedEdge, edges_of, crossing_sum, IsBalanced, IsSwept, HasEvenEnds, MemberHasEvenEnds}
+use Rattle.crossings.specs.Crossing.{WeightedEdge, edges_of, crossing_sum, IsBalanced, IsSwept, HaveEvenEnds, MemberHasEvenEnds}
 use Rattle.crossings.proofs.Lists.{contains-map, sums_agree, sum_splits, int_sums_agree}
 use Rattle.crossings.proofs.OneEdge.{passes, one_edge}
 use Rattle.crossings.proofs.Tests.{IsSamePair}
@@ -83,7 +84,7 @@ module _ {X : Type 0} (seg : X → Seg) (chosen : X → Bool) (items : List X) w
       (λ x i. pair_counts (chosen x) (is_over (seg x) q) (passes p q (seg x).hi) (is_over (seg x) p) (passes p q (seg x).lo) (same x i)) in
       let ends = sum_splits (λ x. cond (chosen x) (ends_inside (passes p q) (seg x)) 0)
       (λ x. cond (chosen x && passes p q (seg x).lo) 1 0) (λ x. cond (chosen x && passes p q (seg x).hi) 1 0) items
-      (λ x. ends_count (chosen x) (passes p q (seg x).lo) (passes p q (seg x).hi)) in
+      (λ x i. ends_count (chosen x) (passes p q (seg x).lo) (passes p q (seg x).hi)) in
       let none = even (passes p q) in
       omega arith
 
@@ -104,7 +105,7 @@ module _ {X : Type 0} (seg : X → Seg) (chosen : X → Bool) (items : List X) w
   parity-joined edges among swept even p q j = joined_keep edges (λ r. over_count r % 2) (clear_parity edges among swept even) p q j
 
 -- joined points are held alike by edges with even ends
-pub holds-joined : (edges : List Seg) → IsSwept edges → HasEvenEnds edges → (p q : Point) → Joined edges p q → holds edges p ≡ holds edges q
+pub holds-joined : (edges : List Seg) → IsSwept edges → HaveEvenEnds edges → (p q : Point) → Joined edges p q → holds edges p ≡ holds edges q
 holds-joined edges swept even p q j = ap (λ n. n == 1) (parity-joined (λ e. e) (λ e. true) edges edges (λ e i. i) swept even p q j)
 
 -- and by the uses of a member with even ends
@@ -112,3 +113,9 @@ pub member_holds-joined : (uses : List EdgeUse) (member : ℕ) (edges : List Seg
     → MemberHasEvenEnds uses member → (p q : Point) → Joined edges p q → member_holds uses member p ≡ member_holds uses member q
 member_holds-joined uses member edges among swept even p q j =
     ap (λ n. n == 1) (parity-joined (λ u. u.seg) (λ u. u.member == member) uses edges among swept even p q j)
+
+-- so joined points have one label where all members have even ends
+pub label-joined : (uses : List EdgeUse) (members : ℕ) (edges : List Seg) → ((u : EdgeUse) → Contains uses u → Contains edges u.seg) → IsSwept edges
+    → HasEvenEnds uses → (p q : Point) → Joined edges p q → label_at uses members p ≡ label_at uses members q
+label-joined uses members edges among swept even p q j =
+    λ i. filter (λ m. member_holds-joined uses m edges among swept (λ inside. even inside m) p q j i) (numbers_below members)

@@ -103,3 +103,12 @@ clear-same edges p p' q same h = λ e c r b on. h e c r (between-end r p' p q (s
 pub joined-same : (edges : List Seg) (p p' q : Point) → SamePoint p p' → Joined edges p q → Joined edges p' q
 joined-same edges p p' q same ([], h) = ([], clear-same edges p p' q same h)
 joined-same edges p p' q same (r ∷ way, h) = (r ∷ way, (clear-same edges p p' r same h.0, h.1))
+
+-- ---- fewer edges
+
+leads-fewer : (edges fewer : List Seg) → ((e : Seg) → Contains fewer e → Contains edges e) → (p : Point) (way : List Point) (q : Point) → Leads edges p way q → Leads fewer p way q
+leads-fewer edges fewer among p [] q h = λ e c. h e (among e c)
+leads-fewer edges fewer among p (r ∷ way) q h = (λ e c. h.0 e (among e c), leads-fewer edges fewer among r way q h.1)
+
+pub joined-fewer : (edges fewer : List Seg) → ((e : Seg) → Contains fewer e → Contains edges e) → (p q : Point) → Joined edges p q → Joined fewer p q
+joined-fewer edges fewer among p q (way, h) = (way, leads-fewer edges fewer among p way q h)

@@ -2,7 +2,7 @@
 use mathlib.Core.List.{[], ◌∷◌}
 use Rattle.std.proofs.Common.{◌≡◌, refl, ℤ, pos, ◌+ℤ◌, ◌-ℤ◌, ◌*ℤ◌, ◌≤ℤ◌, ◌<ℤ◌, arith}
 use Rattle.exact.proofs.Ring.{lin, by_two, Var, Lit, ◌⊕◌, ◌⊖◌, ◌⊗◌, mul_comm}
-use Rattle.crossings.proofs.Sides.{AreOpposite}
+use Rattle.crossings.proofs.Sides.{AreCrossed}
 use Rattle.exact.proofs.Compare.{le_of_lt}
 use Rattle.exact.proofs.Sign.{nonneg_times_nonneg, nonneg_times_nonpos, nonpos_times_nonneg, nonpos_times_nonpos, nonneg_factor, nonpos_factor}
 
@@ -45,7 +45,7 @@ rises at_p at_q at_hi at_lo tp tq tl th pd qd h k =
 -- both p and q between lo and hi
 pub both_within : (at_p at_q at_hi at_lo pq lp ph lq qh lh : ℤ) → AreRises at_p at_q at_hi at_lo pq lp ph lq qh lh
     → pos 0 <ℤ lh → pos 0 ≤ℤ lp → pos 0 ≤ℤ ph → pos 0 ≤ℤ lq → pos 0 ≤ℤ qh
-    → at_p ≤ℤ pos 0 → pos 0 ≤ℤ at_q → AreOpposite at_p at_q at_hi at_lo
+    → at_p ≤ℤ pos 0 → pos 0 ≤ℤ at_q → AreCrossed at_p at_q at_hi at_lo
 both_within at_p at_q at_hi at_lo pq lp ph lq qh lh r rise_lh rise_lp rise_ph rise_lq rise_qh hp hq =
     let q_lp = nonneg_times_nonneg {x = at_q} {y = lp} hq rise_lp in
     let p_lq = nonpos_times_nonneg {x = at_p} {y = lq} hp rise_lq in
@@ -61,7 +61,7 @@ both_within at_p at_q at_hi at_lo pq lp ph lq qh lh r rise_lh rise_lp rise_ph ri
 -- from between lo and hi out past hi
 pub out_past_hi : (at_p at_q at_hi at_lo pq lp ph lq qh lh : ℤ) → AreRises at_p at_q at_hi at_lo pq lp ph lq qh lh
     → pos 0 <ℤ lh → pos 0 ≤ℤ pq → pos 0 ≤ℤ lp → pos 0 <ℤ ph → qh ≤ℤ pos 0
-    → at_p ≤ℤ pos 0 → at_hi ≤ℤ pos 0 → AreOpposite at_p at_q at_hi at_lo
+    → at_p ≤ℤ pos 0 → at_hi ≤ℤ pos 0 → AreCrossed at_p at_q at_hi at_lo
 out_past_hi at_p at_q at_hi at_lo pq lp ph lq qh lh r rise_lh rise_pq rise_lp rise_ph rise_qh hp hhi =
     let p_pq = nonpos_times_nonneg {x = at_p} {y = pq} hp rise_pq in
     let hi_lp = nonpos_times_nonneg {x = at_hi} {y = lp} hhi rise_lp in
@@ -77,7 +77,7 @@ out_past_hi at_p at_q at_hi at_lo pq lp ph lq qh lh r rise_lh rise_pq rise_lp ri
 -- from before lo in between lo and hi
 pub in_over_lo : (at_p at_q at_hi at_lo pq lp ph lq qh lh : ℤ) → AreRises at_p at_q at_hi at_lo pq lp ph lq qh lh
     → pos 0 <ℤ lh → pos 0 ≤ℤ ph → lp ≤ℤ pos 0 → pos 0 <ℤ lq → pos 0 ≤ℤ qh
-    → pos 0 ≤ℤ at_q → pos 0 ≤ℤ at_lo → AreOpposite at_p at_q at_hi at_lo
+    → pos 0 ≤ℤ at_q → pos 0 ≤ℤ at_lo → AreCrossed at_p at_q at_hi at_lo
 in_over_lo at_p at_q at_hi at_lo pq lp ph lq qh lh r rise_lh rise_ph rise_lp rise_lq rise_qh hq hlo =
     let q_lp = nonneg_times_nonpos {x = at_q} {y = lp} hq rise_lp in
     let lo_lh = nonneg_times_nonneg {x = at_lo} {y = lh} hlo (le_of_lt rise_lh) in
@@ -94,7 +94,7 @@ in_over_lo at_p at_q at_hi at_lo pq lp ph lq qh lh r rise_lh rise_ph rise_lp ris
 -- from before lo out past hi
 pub past_both : (at_p at_q at_hi at_lo pq lp ph lq qh lh : ℤ) → AreRises at_p at_q at_hi at_lo pq lp ph lq qh lh
     → pos 0 <ℤ pq → lp ≤ℤ pos 0 → pos 0 ≤ℤ ph → pos 0 ≤ℤ lq → qh ≤ℤ pos 0
-    → at_hi ≤ℤ pos 0 → pos 0 ≤ℤ at_lo → AreOpposite at_p at_q at_hi at_lo
+    → at_hi ≤ℤ pos 0 → pos 0 ≤ℤ at_lo → AreCrossed at_p at_q at_hi at_lo
 past_both at_p at_q at_hi at_lo pq lp ph lq qh lh r rise_pq rise_lp rise_ph rise_lq rise_qh hhi hlo =
     let hi_lp = nonpos_times_nonpos {x = at_hi} {y = lp} hhi rise_lp in
     let lo_ph = nonneg_times_nonneg {x = at_lo} {y = ph} hlo rise_ph in

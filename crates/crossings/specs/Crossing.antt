@@ -34,8 +34,8 @@ abbrev pub IsSwept : List Seg → Type 0
 IsSwept edges = (e : Seg) → Contains edges e → Rises e
 
 -- of any set of points the edges have an even number of ends in it
-abbrev pub HasEvenEnds : List Seg → Type 0
-HasEvenEnds edges = (inside : Coord → Bool) → sum_by (ends_inside inside) edges % 2 ≡ 0
+abbrev pub HaveEvenEnds : List Seg → Type 0
+HaveEvenEnds edges = (inside : Coord → Bool) → sum_by (ends_inside inside) edges % 2 ≡ 0
 
 -- of any set of points the member's uses have an even number of ends in it
 abbrev pub MemberHasEvenEnds : List EdgeUse → ℕ → Type 0

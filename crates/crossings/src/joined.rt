@@ -1,4 +1,4 @@
-ghost use Rattle.crossings.specs.Laws.{ReflexiveLaw, SymmetricLaw, TransitiveLaw, OffLaw, SameEndLaw};
+ghost use Rattle.crossings.specs.Laws.{ReflexiveLaw, SymmetricLaw, TransitiveLaw, OffLaw, SameEndLaw, FewerEdgesLaw};
 
 /// Joined is an equivalence on the points off the edges, whatever fractions stand for them. A call does nothing.
 pub fn joined_law()
@@ -7,4 +7,5 @@ pub fn joined_law()
     ensures transitive { TransitiveLaw }
     ensures off { OffLaw }
     ensures same_end { SameEndLaw }
+    ensures fewer_edges { FewerEdgesLaw }
 {}

@@ -1,4 +1,4 @@
-use Rattle.crossings.proofs.Ways.{joined-refl, joined-sym, joined-trans, joined_off, joined-same}
+use Rattle.crossings.proofs.Ways.{joined-refl, joined-sym, joined-trans, joined_off, joined-same, joined-fewer}
 use Rattle.crossings.proofs.joined.joined_law.Goals as goal
 
 pub returns-clause-reflexive : goal.returns-clause-reflexive
@@ -15,3 +15,6 @@ returns-clause-off c = λ edges p q j. (joined_off edges p q j, joined_off edges
 
 pub returns-clause-same_end : goal.returns-clause-same_end
 returns-clause-same_end c = joined-same
+
+pub returns-clause-fewer_edges : goal.returns-clause-fewer_edges
+returns-clause-fewer_edges c = joined-fewer

@@ -1,7 +1,7 @@
 -- The contact of two segments from the turns of their ends, and from the order of their ends on one line.
-use Rattle.std.proofs.Common.{◌≡◌, ◌⊎◌, inl, inr, refl, sym, ◌∙◌, ap, subst, ℤ, pos, ◌≤ℤ◌, ◌<ℤ◌, Bool, true, false, IsTrue, ◌↔◌, FitsSigned, to_z, of_z, not, arith}
+use Rattle.std.proofs.Common.{◌≡◌, ◌⊎◌, inl, inr, refl, sym, ◌∙◌, ap, subst, ℤ, pos, ◌<ℤ◌, Bool, true, false, IsTrue, ◌↔◌, FitsSigned, to_z, of_z, arith}
 use Rattle.std.proofs.lemmas.Int.{to_z-of_z}
-use Rattle.std.specs.Ordering.{partial_lt, int_eq}
+use Rattle.std.specs.Ordering.{partial_lt}
 use mir.Syntax.{w128}
 use Rattle.exact.proofs.Ring.{lin}
 use Rattle.exact.proofs.Compare.{lt_or_ge, le_cases}
@@ -10,18 +10,18 @@ use Rattle.cov_types.specs.declared.seg.Seg.{Seg}
 use Rattle.cov_types.specs.Range.{IsSegInRange, IsInRange}
 use Rattle.cov_types.specs.contracts.coord.CoordPartialOrd.TheImpl.{partial_cmp-value}
 use Rattle.plane.specs.declared.contact.Contact.{Contact}
-use Rattle.plane.specs.declared.contact.Contact.TheVariants.{Apart, SameSegment, CommonEnd, Bad}
+use Rattle.plane.specs.declared.contact.Contact.TheVariants.{CommonEnd, Bad}
 use Rattle.plane.specs.declared.contact.Badness.TheVariants.{Overlap}
 use Rattle.plane.specs.Point.{Point, at_coord}
 use Rattle.plane.specs.Segment.{turn_of}
 use Rattle.plane.specs.Ray.{sweep}
 use Rattle.plane.specs.Contact.{IsCommon, IsContact, MeetsBadly, is_bad}
 use Rattle.plane.proofs.MeetsBadly.{bad-is}
-use Rattle.plane.proofs.Sweeps.{rises-in_range, sweep-before, sweep-one_to_one}
-use Rattle.plane.proofs.Meeting.{MeetOnce, AreOpposite, opposite_meet, equal_opposite, left_apart, right_apart, end_on_line}
-use Rattle.plane.proofs.Along.{before_apart, chained, common_end-exchange, overlapping}
+use Rattle.plane.proofs.Sweeps.{rises-in_range, sweep-one_to_one}
+use Rattle.plane.proofs.Meeting.{MeetOnce, AreOpposite, left_apart, right_apart, end_on_line}
+use Rattle.plane.proofs.Along.{before_apart, chained, overlapping}
 use Rattle.grid_pred.specs.Sides.{AreOnOneSide, contact_of_ends}
-use Rattle.grid_pred.proofs.Order.{lt_is, lt_from, not_lt_from}
+use Rattle.grid_pred.proofs.Order.{lt_from, not_lt_from}
 
 -- ---- different lines
 

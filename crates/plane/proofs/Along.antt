@@ -1,6 +1,6 @@
 -- Segments one after the other, and segments on a common line.
-use mathlib.Core.List.{List, [], ◌∷◌}
-use Rattle.std.proofs.Common.{◌≡◌, ◌⊎◌, inl, inr, refl, sym, ◌∙◌, ap, subst, ◌^◌, ℤ, pos, neg_ℤ, ◌+ℤ◌, ◌-ℤ◌, ◌*ℤ◌, ◌<ℤ◌, ◌≤ℤ◌, arith}
+use mathlib.Core.List.{[], ◌∷◌}
+use Rattle.std.proofs.Common.{◌≡◌, ◌⊎◌, inl, inr, refl, sym, ◌∙◌, ap, subst, ◌^◌, ℤ, pos, ◌+ℤ◌, ◌-ℤ◌, ◌*ℤ◌, ◌<ℤ◌, ◌≤ℤ◌, arith}
 use Rattle.exact.proofs.Ring.{lin, by_two, Term, Var, Lit, ◌⊕◌, ◌⊖◌, ◌⊗◌, Neg, mul_one, mul_zero}
 use Rattle.exact.proofs.Order.{cancel_eq, lt_mul}
 use Rattle.exact.proofs.Compare.{lt_or_ge}
@@ -8,7 +8,7 @@ use Rattle.cov_types.specs.declared.coord.Coord.{Coord}
 use Rattle.cov_types.specs.declared.seg.Seg.{Seg}
 use Rattle.plane.specs.declared.contact.Contact.TheVariants.{CommonEnd}
 use Rattle.plane.specs.Point.{Point, SamePoint, at_coord}
-use Rattle.plane.specs.Segment.{IsOn, IsEnd, turn_of, side}
+use Rattle.plane.specs.Segment.{IsOn, turn_of}
 use Rattle.plane.specs.Ray.{sweep, Rises}
 use Rattle.plane.specs.Contact.{IsCommon, IsOnlyCommon, HaveTwoCommon, IsContact}
 use Rattle.plane.proofs.Points.{d_positive, same_point-refl, first_between, second_between}

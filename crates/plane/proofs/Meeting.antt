@@ -1,7 +1,7 @@
 -- Two segments on different lines: where the ends of each lie on opposite sides of the other, or on it, they have one
 -- common point, and the turns tell whether it is an end; where both ends lie strictly on one side, they have none.
 use mathlib.Core.List.{List, [], ◌∷◌}
-use Rattle.std.proofs.Common.{◌≡◌, ◌⊎◌, inl, inr, ⊎_elim, refl, sym, ◌∙◌, ap, ℕ, ◌≤◌, ℤ, pos, neg_ℤ, ◌+ℤ◌, ◌-ℤ◌, ◌*ℤ◌, ◌<ℤ◌, ◌≤ℤ◌, arith}
+use Rattle.std.proofs.Common.{◌≡◌, ◌⊎◌, inl, inr, refl, sym, ◌∙◌, ap, ℕ, ◌≤◌, ℤ, pos, neg_ℤ, ◌+ℤ◌, ◌-ℤ◌, ◌*ℤ◌, ◌<ℤ◌, ◌≤ℤ◌, arith}
 use Rattle.exact.proofs.Ring.{lin, by_ring, by_one, by_two, Term, Var, Lit, ◌⊕◌, ◌⊖◌, ◌⊗◌, Neg, mul_one, mul_comm, mul_zero, zero_mul}
 use Rattle.exact.proofs.Order.{cancel_eq}
 use Rattle.exact.proofs.Cast.{positive_natural}
@@ -228,10 +228,10 @@ pub opposite_meet : (s t : Seg) → AreOpposite (turn_of s.lo s.hi t.lo) (turn_o
 opposite_meet s t h k n =
     let balance = turns-balance s.lo s.hi t.lo t.hi in
     elim (trichotomy (turn_of s.lo s.hi t.hi) (turn_of s.lo s.hi t.lo)) [
-      inl l ↦ falls_meet s t (falls_if s t h k l)
-    | inr rest ↦ elim rest [
-        inl e ↦ absurd (n (sym e))
-      | inr g ↦ exchange s t (falls_meet t s (falls_if t s k h (omega (arith, lin))))
+      | inl l ↦ falls_meet s t (falls_if s t h k l)
+      | inr rest ↦ elim rest [
+        | inl e ↦ absurd (n (sym e))
+        | inr g ↦ exchange s t (falls_meet t s (falls_if t s k h (omega (arith, lin))))
       ]
     ]
 

@@ -1,13 +1,13 @@
 -- Which contacts are bad.
-use Rattle.std.proofs.Common.{◌≡◌, ◌⊎◌, inl, inr, refl, sym, subst, pos, Bool, true, false, IsTrue, ◌↔◌}
+use Rattle.std.proofs.Common.{◌≡◌, ◌⊎◌, inl, inr, refl, sym, subst, IsTrue, ◌↔◌}
 use Rattle.cov_types.specs.declared.seg.Seg.{Seg}
 use Rattle.plane.specs.declared.contact.Contact.{Contact}
 use Rattle.plane.specs.declared.contact.Contact.TheVariants.{Apart, SameSegment, CommonEnd, Bad}
 use Rattle.plane.specs.declared.contact.Badness.TheVariants.{Cross, Touch, Overlap}
-use Rattle.plane.specs.Point.{Point, SamePoint, at_coord}
-use Rattle.plane.specs.Segment.{IsOn, IsEnd, turn_of}
+use Rattle.plane.specs.Point.{Point, at_coord}
+use Rattle.plane.specs.Segment.{IsOn, IsEnd}
 use Rattle.plane.specs.Ray.{Rises}
-use Rattle.plane.specs.Contact.{IsCommon, IsOnlyCommon, HaveTwoCommon, IsContact, MeetsBadly, is_bad}
+use Rattle.plane.specs.Contact.{IsCommon, IsOnlyCommon, IsContact, MeetsBadly, is_bad}
 use Rattle.plane.proofs.Points.{same_point-sym, first_between}
 use Rattle.plane.proofs.Contacts.{end-same}
 use Rattle.plane.proofs.Middle.{middle, middle_on, middle_not_end}

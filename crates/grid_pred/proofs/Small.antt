@@ -1,7 +1,7 @@
 -- Products and differences in 128 bits of numbers with bounds.
-use Rattle.std.proofs.Common.{◌≡◌, ◌∙◌, sym, subst, ap, ◌^◌, ℤ, pos, ◌+ℤ◌, ◌-ℤ◌, ◌*ℤ◌, FitsSigned, to_z, of_z, lit<, arith}
-use Rattle.std.proofs.lemmas.Int.{ints, to_z-of_z}
-use mir.Syntax.{w32, w128}
+use Rattle.std.proofs.Common.{◌≡◌, sym, subst, ap, ◌^◌, ℤ, ◌-ℤ◌, ◌*ℤ◌, FitsSigned, to_z, of_z, lit<, arith}
+use Rattle.std.proofs.lemmas.Int.{to_z-of_z}
+use mir.Syntax.{w128}
 use Rattle.exact.proofs.Ring.{lin}
 use Rattle.exact.proofs.Bound.{IsWithin, within_product, within_difference, within_fits}
 

@@ -1,6 +1,6 @@
 -- Whether an edge is over a point, from the vectors that lead from its ends to the point.
-use mathlib.Core.List.{List, [], ◌∷◌}
-use Rattle.std.proofs.Common.{◌≡◌, refl, sym, ◌∙◌, ap, ◌^◌, Bool, true, false, IsTrue, ℤ, pos, ◌+ℤ◌, ◌-ℤ◌, ◌*ℤ◌, ◌<ℤ◌, ◌≤ℤ◌, int_lt, arith}
+use mathlib.Core.List.{[], ◌∷◌}
+use Rattle.std.proofs.Common.{◌≡◌, refl, sym, ◌∙◌, ◌^◌, Bool, true, false, IsTrue, ℤ, pos, ◌+ℤ◌, ◌-ℤ◌, ◌*ℤ◌, ◌<ℤ◌, ◌≤ℤ◌, int_lt, arith}
 use Rattle.exact.proofs.Ring.{lin, by_ring, Var, ◌⊕◌, ◌⊖◌, ◌⊗◌}
 use Rattle.exact.proofs.Compare.{int_lt_is}
 use Rattle.cov_types.specs.declared.coord.Coord.{Coord}
@@ -8,7 +8,7 @@ use Rattle.cov_types.specs.declared.seg.Seg.{Seg}
 use Rattle.plane.specs.Point.{Point, at_coord}
 use Rattle.plane.specs.Segment.{side}
 use Rattle.plane.specs.Ray.{sweep, is_over}
-use Rattle.plane.proofs.Over.{IsOver, over-is}
+use Rattle.plane.proofs.Over.{over-is}
 use Rattle.plane.proofs.Same.{same_tests}
 use Rattle.grid_pred.specs.declared.ray.RationalPoint.{RationalPoint}
 use Rattle.grid_pred.specs.declared.ray.Vector.{Vector}

@@ -1,5 +1,5 @@
-//! Exact predicates on grid points and segments: on which side a point lies, whether it is on a segment, and
-//! how two segments meet.
+//! Exact predicates on grid points and segments: on which side a point lies, whether it is on a segment, how
+//! two segments meet, and whether an edge is over a point.
 //!
 //! Its promise: each answer is the one that the definitions of the plane give, with no rounding.
 #![tactic(auto)]

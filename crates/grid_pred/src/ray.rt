@@ -80,10 +80,12 @@ fn over_point(e: Seg, p: RationalPoint) -> bool
     ensures { (q : Point) → Writes p q → result ≡ is_over e q }
 {
     let from_lo = vector_from(e.lo, p);
-    if rise(from_lo) < 0 {
+    let before_lo = rise(from_lo) < 0;
+    let before_hi = rise(vector_from(e.hi, p)) < 0;
+    if before_lo {
         return false;
     }
-    if rise(vector_from(e.hi, p)) >= 0 {
+    if !before_hi {
         return false;
     }
     side_of(e, from_lo) < 0

@@ -1,4 +1,4 @@
-use Rattle.std.proofs.Common.{◌≡◌, ◌^◌, ◌-ℤ◌, ◌*ℤ◌, FitsSigned, sym, subst, lit<}
+use Rattle.std.proofs.Common.{◌^◌, FitsSigned, sym, subst, lit<}
 use Rattle.std.proofs.lemmas.Int.{to_z-of_z}
 use mir.Syntax.{w32, w128}
 use Rattle.exact.proofs.Bound.{IsWithin, within_fits}

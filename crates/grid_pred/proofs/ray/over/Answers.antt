@@ -1,4 +1,4 @@
-use Rattle.std.proofs.Common.{◌≡◌, refl, FitsSigned, arith, rules}
+use Rattle.std.proofs.Common.{refl, arith}
 use Rattle.std.proofs.lemmas.Int.{ints}
 use Rattle.plane.specs.Point.{at_coord}
 use Rattle.grid_pred.proofs.ray.over.Goals as goal

@@ -2,3 +2,11 @@ pub mod Points
 pub mod Forms
 pub mod Sides
 pub mod Sweeps
+pub mod Over
+pub mod Same
+pub mod Contacts
+pub mod Examples
+pub mod Meeting
+pub mod Along
+pub mod Middle
+pub mod MeetsBadly

@@ -5,3 +5,5 @@ pub mod Parity
 pub mod Contact
 pub mod Snapping
 pub mod Noded
+pub mod Laws
+pub mod Examples

@@ -1,0 +1,355 @@
+-- Homogeneous vectors of which one coordinate moves to a centre: their order, their turns, and two lemmas on a move.
+-- An end stays on its side of two vectors where no mean of the two rounds to its centre, and a crossing after the move
+-- was one before it.
+use mathlib.Core.List.{List, [], ◌∷◌}
+use Rattle.std.proofs.Common.{◌≡◌, ◌⊎◌, inl, inr, refl, sym, ◌∙◌, ap, subst, ℤ, pos, neg_ℤ, ◌+ℤ◌, ◌-ℤ◌, ◌*ℤ◌, ◌<ℤ◌, ◌≤ℤ◌, arith}
+use Rattle.exact.proofs.Ring.{lin, by_ring, by_two, Term, Var, Lit, ◌⊕◌, ◌⊖◌, ◌⊗◌, Neg, mul_comm, mul_left_comm, mul_zero, zero_mul, neg_mul}
+use Rattle.exact.proofs.Compare.{lt_or_ge, le_of_lt, le_cases, lt_excludes_eq, lt_excludes_le}
+use Rattle.exact.proofs.Order.{cancel_eq}
+use Rattle.exact.proofs.Sign.{positive_times_positive, nonneg_times_nonneg, nonpos_times_nonneg, nonneg_times_nonpos, negative_times_positive, nonneg_factor, positive_factor, negative_factor, zero_factor}
+use Rattle.rounding.proofs.Near.{Near, near_times, mean_near}
+
+-- the point (u/w, v/w), whose coordinate v/w rounds to a centre and moves there
+pub record Moving : Type 0 where
+  pub u : ℤ
+  pub v : ℤ
+  pub w : ℤ
+  pub centre : ℤ
+  pub positive : pos 0 <ℤ w
+  pub near : Near (centre *ℤ w) v w
+
+-- the moving coordinate before the move and after it, times the weight
+abbrev pub before : Moving → ℤ
+before p = p.v
+
+abbrev pub after : Moving → ℤ
+after p = p.centre *ℤ p.w
+
+-- how far q is ahead of p in the coordinate that stays
+unfoldable pub ahead : Moving → Moving → ℤ
+ahead p q = (p.w *ℤ q.u) -ℤ (p.u *ℤ q.w)
+
+-- the determinant of three vectors, in which the moving coordinate stands before or after the move:
+-- positive where a comes first and e is above the line of a and b
+unfoldable pub turned : (Moving → ℤ) → Moving → Moving → Moving → ℤ
+turned at a b e = ((at e *ℤ ahead a b) -ℤ (at b *ℤ ahead a e)) -ℤ (at a *ℤ ahead e b)
+
+-- ---- identities, of vectors that are numbered: u, the moving coordinate and w of the nth are the variables 3n to 3n + 2
+
+abbrev numbers : (Moving → ℤ) → Moving → Moving → Moving → Moving → List ℤ
+numbers at a b c d = a.u ∷ at a ∷ a.w ∷ b.u ∷ at b ∷ b.w ∷ c.u ∷ at c ∷ c.w ∷ d.u ∷ at d ∷ d.w ∷ []
+
+abbrev ab : Term
+ab = Var 2 ⊗ Var 3 ⊖ Var 0 ⊗ Var 5
+
+abbrev ac : Term
+ac = Var 2 ⊗ Var 6 ⊖ Var 0 ⊗ Var 8
+
+abbrev ad : Term
+ad = Var 2 ⊗ Var 9 ⊖ Var 0 ⊗ Var 11
+
+abbrev cb : Term
+cb = Var 8 ⊗ Var 3 ⊖ Var 6 ⊗ Var 5
+
+abbrev db : Term
+db = Var 11 ⊗ Var 3 ⊖ Var 9 ⊗ Var 5
+
+abbrev ca : Term
+ca = Var 8 ⊗ Var 0 ⊖ Var 6 ⊗ Var 2
+
+abbrev bd : Term
+bd = Var 5 ⊗ Var 9 ⊖ Var 3 ⊗ Var 11
+
+abbrev cd : Term
+cd = Var 8 ⊗ Var 9 ⊖ Var 6 ⊗ Var 11
+
+abbrev abc : Term
+abc = Var 7 ⊗ ab ⊖ Var 4 ⊗ ac ⊖ Var 1 ⊗ cb
+
+abbrev abd : Term
+abd = Var 10 ⊗ ab ⊖ Var 4 ⊗ ad ⊖ Var 1 ⊗ db
+
+abbrev cda : Term
+cda = Var 1 ⊗ cd ⊖ Var 10 ⊗ ca ⊖ Var 7 ⊗ ad
+
+abbrev cdb : Term
+cdb = Var 4 ⊗ cd ⊖ Var 10 ⊗ cb ⊖ Var 7 ⊗ bd
+
+-- the order turns round
+pub ahead-turned : (p q : Moving) → ahead q p ≡ neg_ℤ (ahead p q)
+unfolding ahead
+ahead-turned p q = by_ring (p.u ∷ p.w ∷ q.u ∷ q.w ∷ []) (Var 3 ⊗ Var 0 ⊖ Var 2 ⊗ Var 1) (Neg (Var 1 ⊗ Var 2 ⊖ Var 0 ⊗ Var 3)) refl
+
+-- and so does the turn where two of the vectors are exchanged
+pub turned-exchanged : (at : Moving → ℤ) (a b e : Moving) → turned at b a e ≡ neg_ℤ (turned at a b e)
+unfolding turned ahead
+turned-exchanged at a b e =
+    by_ring (numbers at a b e e)
+    (Var 7 ⊗ (Var 5 ⊗ Var 0 ⊖ Var 3 ⊗ Var 2) ⊖ Var 1 ⊗ (Var 5 ⊗ Var 6 ⊖ Var 3 ⊗ Var 8) ⊖ Var 4 ⊗ (Var 8 ⊗ Var 0 ⊖ Var 6 ⊗ Var 2)) (Neg abc) refl
+
+-- c between a and b: the two ways add up to the whole way
+ahead-split : (a b c : Moving) → (ahead c b *ℤ a.w) +ℤ (ahead a c *ℤ b.w) ≡ ahead a b *ℤ c.w
+unfolding ahead
+ahead-split a b c = by_ring (numbers before a b c c) (cb ⊗ Var 2 ⊕ ac ⊗ Var 5) (ab ⊗ Var 8) refl
+
+ahead-mean : (a b c : Moving) → (ahead c b *ℤ a.u) +ℤ (ahead a c *ℤ b.u) ≡ ahead a b *ℤ c.u
+unfolding ahead
+ahead-mean a b c = by_ring (numbers before a b c c) (cb ⊗ Var 0 ⊕ ac ⊗ Var 3) (ab ⊗ Var 6) refl
+
+module _ (at : Moving → ℤ) (a b c d : Moving) where
+  -- the turns of four vectors
+  turns_at_a : turned at c d a *ℤ ahead a b ≡ (turned at a b d *ℤ ahead a c) -ℤ (turned at a b c *ℤ ahead a d)
+  unfolding turned ahead
+  turns_at_a = by_ring (numbers at a b c d) (cda ⊗ ab) (abd ⊗ ac ⊖ abc ⊗ ad) refl
+
+  turns_at_b : turned at c d b *ℤ ahead a b ≡ (turned at a b c *ℤ ahead d b) -ℤ (turned at a b d *ℤ ahead c b)
+  unfolding turned ahead
+  turns_at_b = by_ring (numbers at a b c d) (cdb ⊗ ab) (abc ⊗ db ⊖ abd ⊗ cb) refl
+
+  turns_at_c : turned at c d a *ℤ ahead c b ≡ neg_ℤ ((turned at c d b *ℤ ahead a c) +ℤ (turned at a b c *ℤ ahead c d))
+  unfolding turned ahead
+  turns_at_c = by_ring (numbers at a b c d) (cda ⊗ cb) (Neg (cdb ⊗ ac ⊕ abc ⊗ cd)) refl
+
+  turns_at_d : turned at c d b *ℤ ahead a d ≡ neg_ℤ ((turned at c d a *ℤ ahead d b) +ℤ (turned at a b d *ℤ ahead c d))
+  unfolding turned ahead
+  turns_at_d = by_ring (numbers at a b c d) (cdb ⊗ ad) (Neg (cda ⊗ db ⊕ abd ⊗ cd)) refl
+
+-- ---- the order
+
+-- the order is transitive
+pub ahead-trans : (p q r : Moving) → pos 0 ≤ℤ ahead p q → pos 0 ≤ℤ ahead q r → pos 0 ≤ℤ ahead p r
+ahead-trans p q r h k =
+    let first = nonneg_times_nonneg k (le_of_lt p.positive) in
+    let second = nonneg_times_nonneg h (le_of_lt r.positive) in
+    let sum = ahead-split p r q in
+    nonneg_factor q.w (ahead p r) q.positive (omega (arith, lin, mul_comm q.w (ahead p r)))
+
+-- and total
+pub ahead-total : (p q : Moving) → (pos 0 ≤ℤ ahead p q) ⊎ (pos 0 ≤ℤ ahead q p)
+ahead-total p q =
+    elim (lt_or_ge (ahead p q) (pos 0)) [
+      | inl l ↦ inr (omega (arith, lin, ahead-turned p q))
+      | inr g ↦ inl g
+    ]
+
+-- the end e is between a and b
+abbrev pub Within : Moving → Moving → Moving → Type 0
+Within a b e = (pos 0 ≤ℤ ahead a e) × (pos 0 ≤ℤ ahead e b)
+
+within_whole : (a b e : Moving) → Within a b e → pos 0 ≤ℤ ahead a b
+within_whole a b e h = ahead-trans a e b h.0 h.1
+
+-- a sum of two products of positive factors, and factors that are not negative, which is 0
+zero_parts : (x y v w : ℤ) → pos 0 <ℤ v → pos 0 <ℤ w → pos 0 ≤ℤ x → pos 0 ≤ℤ y → (x *ℤ v) +ℤ (y *ℤ w) ≡ pos 0 → (x ≡ pos 0) × (y ≡ pos 0)
+zero_parts x y v w hv hw hx hy e =
+    let first = nonneg_times_nonneg hx (le_of_lt hv) in
+    let second = nonneg_times_nonneg hy (le_of_lt hw) in (
+      zero_factor v x (λ z. lt_excludes_eq hv (sym z)) (omega (arith, lin, mul_comm v x)),
+      zero_factor w y (λ z. lt_excludes_eq hw (sym z)) (omega (arith, lin, mul_comm w y)),
+    )
+
+-- where a and b are level, each end between them is level too
+level_parts : (a b e : Moving) → Within a b e → ahead a b ≡ pos 0 → (ahead e b ≡ pos 0) × (ahead a e ≡ pos 0)
+level_parts a b e h level =
+    zero_parts (ahead e b) (ahead a e) a.w b.w a.positive b.positive h.1 h.0 (ahead-split a b e ∙ ap (λ z. z *ℤ e.w) level ∙ zero_mul e.w)
+
+three_zeros : (x y z p q r : ℤ) → p ≡ pos 0 → q ≡ pos 0 → r ≡ pos 0 → ((x *ℤ p) -ℤ (y *ℤ q)) -ℤ (z *ℤ r) ≡ pos 0
+three_zeros x y z p q r hp hq hr =
+    let first = ap (λ v. x *ℤ v) hp ∙ mul_zero x in
+    let second = ap (λ v. y *ℤ v) hq ∙ mul_zero y in
+    let third = ap (λ v. z *ℤ v) hr ∙ mul_zero z in
+    omega (arith, lin)
+
+-- and there is no turn
+level_turn : (at : Moving → ℤ) (a b e : Moving) → Within a b e → ahead a b ≡ pos 0 → turned at a b e ≡ pos 0
+unfolding turned
+level_turn at a b e h level =
+    let parts = level_parts a b e h level in
+    three_zeros (at e) (at b) (at a) (ahead a b) (ahead a e) (ahead e b) level parts.1 parts.0
+
+-- so where there is a turn, b is strictly ahead of a
+strictly_ahead : (at : Moving → ℤ) (a b e : Moving) → Within a b e → ¬ (turned at a b e ≡ pos 0) → pos 0 <ℤ ahead a b
+strictly_ahead at a b e h n =
+    elim (le_cases (within_whole a b e h)) [
+      | inl l ↦ l
+      | inr level ↦ absurd (n (level_turn at a b e h (sym level)))
+    ]
+
+-- ---- an end stays on its side
+
+-- no mean of a and b that is level with e rounds to the centre of e
+abbrev pub Misses : Moving → Moving → Moving → Type 0
+Misses a b e = (i j : ℤ) → pos 0 ≤ℤ i → pos 0 ≤ℤ j → pos 0 <ℤ (i +ℤ j)
+    → ((i *ℤ a.u) +ℤ (j *ℤ b.u)) *ℤ e.w ≡ e.u *ℤ ((i *ℤ a.w) +ℤ (j *ℤ b.w))
+    → ¬ Near (e.centre *ℤ ((i *ℤ a.w) +ℤ (j *ℤ b.w))) ((i *ℤ a.v) +ℤ (j *ℤ b.v)) ((i *ℤ a.w) +ℤ (j *ℤ b.w))
+
+-- a turn after the move was the same turn before it
+pub record Keeps (a b e : Moving) : Type 0 where
+  pub above : pos 0 <ℤ turned after a b e → pos 0 <ℤ turned before a b e
+  pub below : turned after a b e <ℤ pos 0 → turned before a b e <ℤ pos 0
+
+-- over plain variables: h is how far b is ahead of a, and m the mean at e; t and s are the turns after and before
+keeps_side : (c w h e m' m t s : ℤ) → Near (h *ℤ (c *ℤ w)) (h *ℤ e) (h *ℤ w) → Near m' m (h *ℤ w) → ¬ Near (h *ℤ (c *ℤ w)) m (h *ℤ w)
+    → t ≡ (h *ℤ (c *ℤ w)) -ℤ m' → s ≡ (h *ℤ e) -ℤ m → ((pos 0 <ℤ t) × (pos 0 <ℤ s)) ⊎ ((t <ℤ pos 0) × (s <ℤ pos 0))
+keeps_side c w h e m' m t s end mean miss after_is before_is =
+    let end_low = end.low in
+    let end_high = end.high in
+    let mean_low = mean.low in
+    let mean_high = mean.high in
+    let k = h *ℤ (c *ℤ w) in
+    elim (lt_or_ge (m +ℤ m) ((k +ℤ k) -ℤ (h *ℤ w))) [
+      | inl low ↦ inl (omega (arith, lin), omega (arith, lin))
+      | inr not_low ↦ elim (lt_or_ge (m +ℤ m) ((k +ℤ k) +ℤ (h *ℤ w))) [
+        | inl high ↦ absurd (miss (record { low = not_low; high = high }))
+        | inr not_high ↦ inr (omega (arith, lin), omega (arith, lin))
+      ]
+    ]
+
+keeps_from_side : (a b e : Moving) → ((pos 0 <ℤ turned after a b e) × (pos 0 <ℤ turned before a b e)) ⊎ ((turned after a b e <ℤ pos 0) × (turned before a b e <ℤ pos 0)) → Keeps a b e
+keeps_from_side a b e (inl h) = record { above = λ _. h.1; below = λ l. absurd (lt_excludes_le l (le_of_lt h.0)) }
+keeps_from_side a b e (inr h) = record { above = λ l. absurd (lt_excludes_le l (le_of_lt h.0)); below = λ _. h.1 }
+
+-- with no turn after the move there is nothing to keep
+keeps_level : (a b e : Moving) → turned after a b e ≡ pos 0 → Keeps a b e
+keeps_level a b e level = record { above = λ l. absurd (lt_excludes_eq l (sym level)); below = λ l. absurd (lt_excludes_eq l level) }
+
+-- the turn as the height of e less that of the mean, the weights being how far b is ahead of e and e of a
+turn_heights : (at : Moving → ℤ) (a b e : Moving) → turned at a b e ≡ (ahead a b *ℤ at e) -ℤ ((ahead e b *ℤ at a) +ℤ (ahead a e *ℤ at b))
+unfolding turned
+turn_heights at a b e =
+    by_ring (at a ∷ at b ∷ at e ∷ ahead a b ∷ ahead a e ∷ ahead e b ∷ [])
+    (Var 2 ⊗ Var 3 ⊖ Var 1 ⊗ Var 4 ⊖ Var 0 ⊗ Var 5) (Var 3 ⊗ Var 2 ⊖ (Var 5 ⊗ Var 0 ⊕ Var 4 ⊗ Var 1)) refl
+
+-- over plain variables: x/y and v/w are one number
+level_with : (x y h w v : ℤ) → x ≡ h *ℤ v → y ≡ h *ℤ w → x *ℤ w ≡ v *ℤ y
+level_with x y h w v ex ey =
+    by_two (x ∷ y ∷ h ∷ w ∷ v ∷ []) (Var 0 ⊗ Var 3) (Var 4 ⊗ Var 1) (Var 3) (Var 0) (Var 2 ⊗ Var 4) (Neg (Var 4)) (Var 1) (Var 2 ⊗ Var 3) refl ex ey
+
+near_moved : {v v' w k z : ℤ} → Near v v' w → v ≡ k → w ≡ z → Near k v' z
+near_moved h e f = let l = h.low in let u = h.high in record { low = omega (arith, lin); high = omega (arith, lin) }
+
+-- the weights are not both 0
+weights_positive : (a b e : Moving) → Within a b e → pos 0 <ℤ ahead a b → pos 0 <ℤ (ahead e b +ℤ ahead a e)
+weights_positive a b e within strict =
+    let from = within.0 in
+    let to = within.1 in
+    let product = positive_times_positive strict e.positive in
+    let split = ahead-split a b e in
+    elim (le_cases from) [
+      | inl l ↦ omega (arith, lin)
+      | inr level ↦ (
+        let none = ap (λ z. z *ℤ b.w) (sym level) ∙ zero_mul b.w in
+        let other = positive_factor a.w (ahead e b) (le_of_lt a.positive) (omega (arith, lin, mul_comm a.w (ahead e b))) in
+        omega (arith, lin))
+    ]
+
+-- b strictly ahead of a
+keeps_strict : (a b e : Moving) → Misses a b e → Within a b e → pos 0 <ℤ ahead a b → Keeps a b e
+keeps_strict a b e miss within strict =
+    let i = ahead e b in
+    let j = ahead a e in
+    let h = ahead a b in
+    let w = (i *ℤ a.w) +ℤ (j *ℤ b.w) in
+    let u = (i *ℤ a.u) +ℤ (j *ℤ b.u) in
+    let m = (i *ℤ a.v) +ℤ (j *ℤ b.v) in
+    let m' = (i *ℤ after a) +ℤ (j *ℤ after b) in
+    let weight : w ≡ h *ℤ e.w = ahead-split a b e in
+    let level : u ≡ h *ℤ e.u = ahead-mean a b e in
+    let some = weights_positive a b e within strict in
+    let centre : e.centre *ℤ w ≡ h *ℤ (e.centre *ℤ e.w) = ap (λ z. e.centre *ℤ z) weight ∙ mul_left_comm e.centre h e.w in
+    let missed = miss i j within.1 within.0 some (level_with u w h e.w e.u level weight) in
+    let mean = mean_near i j (after a) a.v a.w (after b) b.v b.w within.1 within.0 some a.near b.near in
+    keeps_from_side a b e (keeps_side e.centre e.w h e.v m' m (turned after a b e) (turned before a b e)
+    (near_times h (after e) e.v e.w strict e.near)
+    (near_moved mean refl weight)
+    (λ near. missed (near_moved near (sym centre) (sym weight)))
+    (turn_heights after a b e) (turn_heights before a b e))
+
+-- an end between a and b to whose centre no level mean rounds keeps its side
+pub end_stays : (a b e : Moving) → Misses a b e → Within a b e → Keeps a b e
+end_stays a b e miss within =
+    elim (le_cases (within_whole a b e within)) [
+      | inl strict ↦ keeps_strict a b e miss within strict
+      | inr level ↦ keeps_level a b e (level_turn after a b e within (sym level))
+    ]
+
+-- ---- a crossing survives a move
+
+-- ab and cd cross properly: c is on the left of a to b and d on the right, b on the left of c to d and a on the right
+pub record Crosses (at : Moving → ℤ) (a b c d : Moving) : Type 0 where
+  pub c_left : pos 0 <ℤ turned at a b c
+  pub d_right : turned at a b d <ℤ pos 0
+  pub b_left : pos 0 <ℤ turned at c d b
+  pub a_right : turned at c d a <ℤ pos 0
+
+-- the four names go round the crossing
+pub crosses_round : (at : Moving → ℤ) (a b c d : Moving) → Crosses at a b c d → Crosses at c d b a
+crosses_round at a b c d h =
+    let left = h.c_left in
+    let right = h.d_right in
+    record {
+      c_left = h.b_left;
+      d_right = h.a_right;
+      b_left = omega (arith, lin, turned-exchanged at a b d);
+      a_right = omega (arith, lin, turned-exchanged at a b c);
+    }
+
+-- each end that is between the two others keeps its side
+pub record Stay (a b c d : Moving) : Type 0 where
+  pub c_stays : Within a b c → Keeps a b c
+  pub d_stays : Within a b d → Keeps a b d
+  pub c_back : Within b a c → Keeps b a c
+  pub d_back : Within b a d → Keeps b a d
+  pub a_stays : Within c d a → Keeps c d a
+  pub b_stays : Within c d b → Keeps c d b
+  pub a_back : Within d c a → Keeps d c a
+  pub b_back : Within d c b → Keeps d c b
+
+stay_round : (a b c d : Moving) → Stay a b c d → Stay c d b a
+stay_round a b c d h = record {
+  c_stays = h.b_stays;
+  d_stays = h.a_stays;
+  c_back = h.b_back;
+  d_back = h.a_back;
+  a_stays = h.c_back;
+  b_stays = h.d_back;
+  a_back = h.c_stays;
+  b_back = h.d_stays;
+}
+
+-- over plain variables: r times h is a sum of p and q, and of which the sign is known
+nested_turn : (h x y p q r p' q' r' : ℤ) → pos 0 <ℤ h → pos 0 ≤ℤ x → pos 0 ≤ℤ y
+    → r *ℤ h ≡ (q *ℤ x) -ℤ (p *ℤ y) → r' *ℤ h ≡ (q' *ℤ x) -ℤ (p' *ℤ y)
+    → pos 0 <ℤ p → q <ℤ pos 0 → r <ℤ pos 0 → pos 0 <ℤ p' → q' <ℤ pos 0 → r' <ℤ pos 0
+nested_turn h x y p q r p' q' r' hh hx hy e e' hp hq hr hp' hq' =
+    let rh = negative_times_positive hr hh in
+    let qx' = nonpos_times_nonneg (le_of_lt hq') hx in
+    let py' = nonneg_times_nonneg (le_of_lt hp') hy in
+    negative_factor h r' (le_of_lt hh) (elim (le_cases hx) [
+      | inl l ↦ (let strict = negative_times_positive hq' l in omega (arith, lin, mul_comm h r'))
+      | inr level ↦ (
+        let none = ap (λ z. q *ℤ z) (sym level) ∙ mul_zero q in
+        let y_positive = positive_factor p y (le_of_lt hp) (omega (arith, lin)) in
+        let strict = positive_times_positive hp' y_positive in
+        omega (arith, lin, mul_comm h r'))
+    ])
+
+-- c and d between a and b
+nested : (a b c d : Moving) → Within a b c → Within a b d → Keeps a b c → Keeps a b d → Crosses after a b c d → Crosses before a b c d
+nested a b c d within_c within_d keeps_c keeps_d h =
+    let left = h.c_left in
+    let right = h.d_right in
+    let b_after = h.b_left in
+    let strict = strictly_ahead after a b c within_c (λ z. lt_excludes_eq left (sym z)) in
+    let left' = keeps_c.above left in
+    let right' = keeps_d.below right in
+    let low = nested_turn (ahead a b) (ahead a c) (ahead a d) (turned after a b c) (turned after a b d) (turned after c d a)
+    (turned before a b c) (turned before a b d) (turned before c d a) strict within_c.0 within_d.0
+    (turns_at_a after a b c d) (turns_at_a before a b c d) left right h.a_right left' right' in
+    let high = nested_turn (ahead a b) (ahead c b) (ahead d b) (turned after a b c) (turned after a b d) (neg_ℤ (turned after c d b))
+    (turned before a b c) (turned before a b d) (neg_ℤ (turned before c d b)) strict within_c.1 within_d.1
+    (turned_back after) (turned_back before) left right (omega (arith, lin)) left' right' in
+    record { c_left = left'; d_right = right'; b_left = omega (arith, lin); a_right = low }
+  where
+    turned_back : (at : Moving → ℤ) → neg_ℤ (turned at c d b) *ℤ ahead a b ≡ (turned at a b d *ℤ ahead c b) -ℤ (turned at a b c *ℤ ahead d b)
+    turned_back at = let e = turns_at_b at a b c d in omega (arith, lin, neg_mul (turned at c d b) (ahead a b))

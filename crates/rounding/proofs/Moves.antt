@@ -3,7 +3,7 @@
 -- was one before it.
 use mathlib.Core.List.{List, [], ◌∷◌}
 use Rattle.std.proofs.Common.{◌≡◌, ◌⊎◌, inl, inr, refl, sym, ◌∙◌, ap, subst, ℤ, pos, neg_ℤ, ◌+ℤ◌, ◌-ℤ◌, ◌*ℤ◌, ◌<ℤ◌, ◌≤ℤ◌, arith}
-use Rattle.exact.proofs.Ring.{lin, by_ring, by_two, Term, Var, Lit, ◌⊕◌, ◌⊖◌, ◌⊗◌, Neg, mul_comm, mul_left_comm, mul_zero, zero_mul, neg_mul}
+use Rattle.exact.proofs.Ring.{lin, by_ring, by_two, Term, Var, Lit, ◌⊕◌, ◌⊖◌, ◌⊗◌, Neg, mul_comm, mul_left_comm, mul_zero, zero_mul, neg_mul, mul_neg, neg_mul_neg}
 use Rattle.exact.proofs.Compare.{lt_or_ge, le_of_lt, le_cases, lt_excludes_eq, lt_excludes_le}
 use Rattle.exact.proofs.Order.{cancel_eq}
 use Rattle.exact.proofs.Sign.{positive_times_positive, nonneg_times_nonneg, nonpos_times_nonneg, nonneg_times_nonpos, negative_times_positive, nonneg_factor, positive_factor, negative_factor, zero_factor}
@@ -353,3 +353,141 @@ nested a b c d within_c within_d keeps_c keeps_d h =
   where
     turned_back : (at : Moving → ℤ) → neg_ℤ (turned at c d b) *ℤ ahead a b ≡ (turned at a b d *ℤ ahead c b) -ℤ (turned at a b c *ℤ ahead d b)
     turned_back at = let e = turns_at_b at a b c d in omega (arith, lin, neg_mul (turned at c d b) (ahead a b))
+
+-- over plain variables: the sign of a factor, where its product with one that is not negative is such a sum
+staggered_negative : (z y x p q r : ℤ) → pos 0 ≤ℤ z → y ≤ℤ pos 0 → pos 0 <ℤ x → pos 0 <ℤ p → pos 0 <ℤ r
+    → q *ℤ z ≡ (p *ℤ y) -ℤ (r *ℤ x) → q <ℤ pos 0
+staggered_negative z y x p q r hz hy hx hp hr e =
+    let first = nonneg_times_nonpos (le_of_lt hp) hy in
+    let second = positive_times_positive hr hx in
+    negative_factor z q hz (omega (arith, lin, mul_comm z q))
+
+-- c after a, b after c, d after b
+staggered : (a b c d : Moving) → Within a b c → Within c d b → Keeps a b c → Keeps c d b → Crosses after a b c d → Crosses before a b c d
+staggered a b c d within_c within_b keeps_c keeps_b h =
+    let left = h.c_left in
+    let above = h.b_left in
+    let ab_strict = strictly_ahead after a b c within_c (λ z. lt_excludes_eq left (sym z)) in
+    let cd_strict = strictly_ahead after c d b within_b (λ z. lt_excludes_eq above (sym z)) in
+    let left' = keeps_c.above left in
+    let above' = keeps_b.above above in
+    let from = within_c.0 in
+    let to = within_b.1 in
+    let at_b = turns_at_b before a b c d in
+    let at_c = turns_at_c before a b c d in
+    let turned_bd = ahead-turned b d in
+    record {
+      c_left = left';
+      d_right = staggered_negative (ahead c b) (ahead d b) (ahead a b) (turned before a b c) (turned before a b d) (turned before c d b)
+      within_c.1 (omega (arith, lin)) ab_strict left' above' (omega (arith, lin));
+      b_left = above';
+      a_right = staggered_negative (ahead c b) (neg_ℤ (ahead a c)) (ahead c d) (turned before c d b) (turned before c d a) (turned before a b c)
+      within_c.1 (omega (arith, lin)) cd_strict above' left' (omega (arith, lin, mul_neg (turned before c d b) (ahead a c)));
+    }
+
+-- a after c, d after a, b after d
+staggered_back : (a b c d : Moving) → Within a b d → Within c d a → Keeps a b d → Keeps c d a → Crosses after a b c d → Crosses before a b c d
+staggered_back a b c d within_d within_a keeps_d keeps_a h =
+    let right = h.d_right in
+    let under = h.a_right in
+    let ab_strict = strictly_ahead after a b d within_d (lt_excludes_eq right) in
+    let cd_strict = strictly_ahead after c d a within_a (lt_excludes_eq under) in
+    let right' = keeps_d.below right in
+    let under' = keeps_a.below under in
+    let from = within_a.0 in
+    let to = within_d.1 in
+    let at_a = turns_at_a before a b c d in
+    let at_d = turns_at_d before a b c d in
+    let turned_ac = ahead-turned c a in
+    let abd = turned before a b d in
+    let cda = turned before c d a in
+    let c_right = staggered_negative (ahead a d) (ahead a c) (ahead a b) (neg_ℤ abd) (neg_ℤ (turned before a b c)) (neg_ℤ cda)
+    within_d.0 (omega (arith, lin)) ab_strict (omega (arith, lin)) (omega (arith, lin))
+    (omega (arith, lin, neg_mul (turned before a b c) (ahead a d), neg_mul abd (ahead a c), neg_mul cda (ahead a b))) in
+    let b_right = staggered_negative (ahead a d) (neg_ℤ (ahead d b)) (ahead c d) (neg_ℤ cda) (neg_ℤ (turned before c d b)) (neg_ℤ abd)
+    within_d.0 (omega (arith, lin)) cd_strict (omega (arith, lin)) (omega (arith, lin))
+    (omega (arith, lin, neg_mul (turned before c d b) (ahead a d), neg_mul_neg cda (ahead d b), neg_mul abd (ahead c d))) in
+    record { c_left = omega (arith, lin); d_right = right'; b_left = omega (arith, lin); a_right = under' }
+
+-- over plain variables: of these signs no such sum is 0
+apart_never : (p q r x y z : ℤ) → pos 0 <ℤ p → pos 0 <ℤ q → pos 0 <ℤ r → pos 0 ≤ℤ x → pos 0 ≤ℤ y → pos 0 <ℤ z → ((p *ℤ x) +ℤ (q *ℤ y)) +ℤ (r *ℤ z) ≡ pos 0 → ⊥
+apart_never p q r x y z hp hq hr hx hy hz e =
+    let first = nonneg_times_nonneg (le_of_lt hp) hx in
+    let second = nonneg_times_nonneg (le_of_lt hq) hy in
+    let third = positive_times_positive hr hz in
+    lt_excludes_eq {x = pos 0} {y = ((p *ℤ x) +ℤ (q *ℤ y)) +ℤ (r *ℤ z)} (omega (arith, lin)) (sym e)
+
+-- b comes before c: ab and cd do not cross
+never_before : (a b c d : Moving) → pos 0 ≤ℤ ahead a b → pos 0 ≤ℤ ahead c d → ahead c b <ℤ pos 0 → Crosses after a b c d → ⊥
+never_before a b c d forward forward_too gap h =
+    let left = h.c_left in
+    let right = h.d_right in
+    let above = h.b_left in
+    let bc : pos 0 ≤ℤ ahead b c = omega (arith, lin, ahead-turned c b) in
+    let bd = ahead-trans b c d bc forward_too in
+    let at_b = turns_at_b after a b c d in
+    apart_never (turned after c d b) (turned after a b c) (neg_ℤ (turned after a b d)) (ahead a b) (ahead b d) (neg_ℤ (ahead c b))
+    above left (omega (arith, lin)) forward bd (omega (arith, lin))
+    (omega (arith, lin, ap (λ z. turned after a b c *ℤ z) (ahead-turned b d), mul_neg (turned after a b c) (ahead b d), neg_mul_neg (turned after a b d) (ahead c b)))
+
+-- d comes before a: nor do they
+never_after : (a b c d : Moving) → pos 0 ≤ℤ ahead a b → pos 0 ≤ℤ ahead c d → ahead a d <ℤ pos 0 → Crosses after a b c d → ⊥
+never_after a b c d forward forward_too gap h =
+    let left = h.c_left in
+    let right = h.d_right in
+    let under = h.a_right in
+    let da : pos 0 ≤ℤ ahead d a = omega (arith, lin, ahead-turned a d) in
+    let ca = ahead-trans c d a forward_too da in
+    let at_a = turns_at_a after a b c d in
+    apart_never (neg_ℤ (turned after c d a)) (neg_ℤ (turned after a b d)) (turned after a b c) (ahead a b) (ahead c a) (neg_ℤ (ahead a d))
+    (omega (arith, lin)) (omega (arith, lin)) left forward ca (omega (arith, lin))
+    (omega (arith, lin, ap (λ z. neg_ℤ (turned after a b d) *ℤ z) (ahead-turned a c), neg_mul_neg (turned after a b d) (ahead a c), neg_mul (turned after c d a) (ahead a b), mul_neg (turned after a b c) (ahead a d)))
+
+-- a before b and c before d
+survives_forward : (a b c d : Moving) → pos 0 ≤ℤ ahead a b → pos 0 ≤ℤ ahead c d → Stay a b c d → Crosses after a b c d → Crosses before a b c d
+survives_forward a b c d forward forward_too stay h =
+    elim (ahead-total a c) [
+      | inl a_c ↦ elim (ahead-total d b) [
+        | inl d_b ↦ (
+          let within_c : Within a b c = (a_c, ahead-trans c d b forward_too d_b) in
+          let within_d : Within a b d = (ahead-trans a c d a_c forward_too, d_b) in
+          nested a b c d within_c within_d (stay.c_stays within_c) (stay.d_stays within_d) h)
+        | inr b_d ↦ elim (lt_or_ge (ahead c b) (pos 0)) [
+          | inl gap ↦ absurd (never_before a b c d forward forward_too gap h)
+          | inr c_b ↦ staggered a b c d (a_c, c_b) (c_b, b_d) (stay.c_stays (a_c, c_b)) (stay.b_stays (c_b, b_d)) h
+        ]
+      ]
+      | inr c_a ↦ elim (ahead-total d b) [
+        | inl d_b ↦ elim (lt_or_ge (ahead a d) (pos 0)) [
+          | inl gap ↦ absurd (never_after a b c d forward forward_too gap h)
+          | inr a_d ↦ staggered_back a b c d (a_d, d_b) (c_a, a_d) (stay.d_stays (a_d, d_b)) (stay.a_stays (c_a, a_d)) h
+        ]
+        | inr b_d ↦ (
+          let within_b : Within c d b = (ahead-trans c a b c_a forward, b_d) in
+          let within_a : Within c d a = (c_a, ahead-trans a b d forward b_d) in
+          unround (nested c d b a within_b within_a (stay.b_stays within_b) (stay.a_stays within_a) (crosses_round after a b c d h)))
+      ]
+    ]
+  where
+    unround : Crosses before c d b a → Crosses before a b c d
+    unround h = crosses_round before d c a b (crosses_round before b a d c (crosses_round before c d b a h))
+
+-- a crossing after the move was one before it, where each end that is between the two others keeps its side
+pub crossing_survives : (a b c d : Moving) → Stay a b c d → Crosses after a b c d → Crosses before a b c d
+crossing_survives a b c d stay h =
+    let stay_1 = stay_round a b c d stay in
+    let stay_2 = stay_round c d b a stay_1 in
+    let stay_3 = stay_round b a d c stay_2 in
+    let round_1 = crosses_round after a b c d h in
+    let round_2 = crosses_round after c d b a round_1 in
+    let round_3 = crosses_round after b a d c round_2 in
+    elim (ahead-total a b) [
+      | inl a_b ↦ elim (ahead-total c d) [
+        | inl c_d ↦ survives_forward a b c d a_b c_d stay h
+        | inr d_c ↦ crosses_round before d c a b (survives_forward d c a b d_c a_b stay_3 round_3)
+      ]
+      | inr b_a ↦ elim (ahead-total c d) [
+        | inl c_d ↦ crosses_round before d c a b (crosses_round before b a d c (crosses_round before c d b a (survives_forward c d b a c_d b_a stay_1 round_1)))
+        | inr d_c ↦ crosses_round before d c a b (crosses_round before b a d c (survives_forward b a d c b_a d_c stay_2 round_2))
+      ]
+    ]

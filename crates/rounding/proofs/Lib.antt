@@ -1,2 +1,4 @@
 pub mod Near
 pub mod Moves
+pub mod Passing
+pub mod Pieces

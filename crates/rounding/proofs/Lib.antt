@@ -2,3 +2,4 @@ pub mod Near
 pub mod Moves
 pub mod Passing
 pub mod Pieces
+pub mod Crossing

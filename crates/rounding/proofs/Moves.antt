@@ -114,6 +114,19 @@ module _ (at : Moving → ℤ) (a b c d : Moving) where
   unfolding turned ahead
   turns_at_d = by_ring (numbers at a b c d) (cdb ⊗ ad) (Neg (cda ⊗ db ⊕ abd ⊗ cd)) refl
 
+  -- the lines of a and b and of c and d meet at the mean of a and b whose weights are the turns of the other, and likewise of c and d
+  pub common_u : (turned at c d b *ℤ a.u) -ℤ (turned at c d a *ℤ b.u) ≡ (turned at a b c *ℤ d.u) -ℤ (turned at a b d *ℤ c.u)
+  unfolding turned ahead
+  common_u = by_ring (numbers at a b c d) (cdb ⊗ Var 0 ⊖ cda ⊗ Var 3) (abc ⊗ Var 9 ⊖ abd ⊗ Var 6) refl
+
+  pub common_v : (turned at c d b *ℤ at a) -ℤ (turned at c d a *ℤ at b) ≡ (turned at a b c *ℤ at d) -ℤ (turned at a b d *ℤ at c)
+  unfolding turned ahead
+  common_v = by_ring (numbers at a b c d) (cdb ⊗ Var 1 ⊖ cda ⊗ Var 4) (abc ⊗ Var 10 ⊖ abd ⊗ Var 7) refl
+
+  pub common_w : (turned at c d b *ℤ a.w) -ℤ (turned at c d a *ℤ b.w) ≡ (turned at a b c *ℤ d.w) -ℤ (turned at a b d *ℤ c.w)
+  unfolding turned ahead
+  common_w = by_ring (numbers at a b c d) (cdb ⊗ Var 2 ⊖ cda ⊗ Var 5) (abc ⊗ Var 11 ⊖ abd ⊗ Var 8) refl
+
 -- ---- the order
 
 -- the order is transitive
@@ -315,6 +328,19 @@ stay_round a b c d h = record {
   b_stays = h.d_back;
   a_back = h.c_stays;
   b_back = h.d_stays;
+}
+
+-- the same with c and d exchanged
+pub stay_exchanged : (a b c d : Moving) → Stay a b c d → Stay a b d c
+stay_exchanged a b c d h = record {
+  c_stays = h.d_stays;
+  d_stays = h.c_stays;
+  c_back = h.d_back;
+  d_back = h.c_back;
+  a_stays = h.a_back;
+  b_stays = h.b_back;
+  a_back = h.a_stays;
+  b_back = h.b_stays;
 }
 
 -- over plain variables: r times h is a sum of p and q, and of which the sign is known

@@ -25,8 +25,11 @@ pub record IsPiece (segs : List Seg) (s : Seg) (a b : Coord) : Type 0 where
   pub until_in : IsInPixel until b
   pub alone : (r : Coord) (m : Point) → IsHot segs r → IsBetween m from until → IsInPixel m r → (r ≡ a) ⊎ (r ≡ b)
 
+pub alone_turned : (segs : List Seg) (s : Seg) (a b : Coord) (h : IsPiece segs s a b) (r : Coord) (m : Point) → IsHot segs r → IsBetween m h.until h.from → IsInPixel m r → (r ≡ b) ⊎ (r ≡ a)
+alone_turned segs s a b h r m hot between in_r = elim (h.alone r m hot (between-sym m h.until h.from between) in_r) [ inl e ↦ inr e | inr e ↦ inl e ]
+
 -- the same piece with its ends exchanged
-pub piece_turned : (segs : List Seg) (s : Seg) (a b : Coord) → IsPiece segs s a b → IsPiece segs s b a
+abbrev pub piece_turned : (segs : List Seg) (s : Seg) (a b : Coord) → IsPiece segs s a b → IsPiece segs s b a
 piece_turned segs s a b h = record {
   from = h.until;
   until = h.from;
@@ -34,7 +37,7 @@ piece_turned segs s a b h = record {
   until_on = h.from_on;
   from_in = h.until_in;
   until_in = h.from_in;
-  alone = λ r m hot between in_r. elim (h.alone r m hot (between-sym m h.until h.from between) in_r) [ inl e ↦ inr e | inr e ↦ inl e ];
+  alone = alone_turned segs s a b h;
 }
 
 -- ---- neighbours of a chain

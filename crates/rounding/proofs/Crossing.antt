@@ -60,10 +60,10 @@ module _ (segs : List Seg) (s : Seg) (a b : Coord) (piece : IsPiece segs s a b) 
 
 -- ---- the two moves of a point in the pixel of c: its x goes to the centre, and then its y
 
-abbrev x_move : (p : Point) (c : Coord) → IsInPixel p c → Moving
+abbrev pub x_move : (p : Point) (c : Coord) → IsInPixel p c → Moving
 x_move p c h = record { u = p.y; v = p.x; w = pos p.d; centre = c.x; positive = d_positive p; near = (pixel-near p c h).0 }
 
-abbrev y_move : (p : Point) (c : Coord) → IsInPixel p c → Moving
+abbrev pub y_move : (p : Point) (c : Coord) → IsInPixel p c → Moving
 y_move p c h = record { u = c.x *ℤ pos p.d; v = p.y; w = pos p.d; centre = c.y; positive = d_positive p; near = (pixel-near p c h).1 }
 
 -- over plain variables: a factor of a product moved

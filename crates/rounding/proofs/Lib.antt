@@ -3,3 +3,4 @@ pub mod Moves
 pub mod Passing
 pub mod Pieces
 pub mod Crossing
+pub mod NoCrossing

@@ -4,3 +4,4 @@ pub mod Passing
 pub mod Pieces
 pub mod Crossing
 pub mod NoCrossing
+pub mod Shadow

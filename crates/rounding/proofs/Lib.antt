@@ -5,3 +5,4 @@ pub mod Pieces
 pub mod Crossing
 pub mod NoCrossing
 pub mod Shadow
+pub mod Edges

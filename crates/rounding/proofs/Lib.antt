@@ -6,3 +6,4 @@ pub mod Crossing
 pub mod NoCrossing
 pub mod Shadow
 pub mod Edges
+pub mod Noded

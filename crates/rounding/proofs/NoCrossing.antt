@@ -45,7 +45,7 @@ opposite_from_common s t r common =
 -- ---- three points of a line have no turn
 
 -- over plain variables: the form A, B, C is 0 at three vectors
-three_on_line : (a b c k px py pd qx qy qd rx ry rd : ℤ)
+pub three_on_line : (a b c k px py pd qx qy qd rx ry rd : ℤ)
     → ((a *ℤ px) +ℤ (b *ℤ py)) +ℤ (c *ℤ pd) ≡ pos 0 → ((a *ℤ qx) +ℤ (b *ℤ qy)) +ℤ (c *ℤ qd) ≡ pos 0 → ((a *ℤ rx) +ℤ (b *ℤ ry)) +ℤ (c *ℤ rd) ≡ pos 0
     → ((k *ℤ b) -ℤ a) *ℤ (((rx *ℤ ((pd *ℤ qy) -ℤ (py *ℤ qd))) -ℤ (qx *ℤ ((pd *ℤ ry) -ℤ (py *ℤ rd)))) -ℤ (px *ℤ ((rd *ℤ qy) -ℤ (ry *ℤ qd)))) ≡ pos 0
 three_on_line a b c k px py pd qx qy qd rx ry rd hp hq hr =
@@ -58,7 +58,7 @@ three_on_line a b c k px py pd qx qy qd rx ry rd hp hq hr =
     (Neg (both (Var 4) (Var 5) (Var 6) (Var 7) (Var 8) (Var 9))) (at (Var 10) (Var 11) (Var 12)) (Lit (pos 0)) refl hp hq hr
 
 -- how much a segment rises, by the coefficients of its line
-rise-line : (s : Seg) → (pos (2 ^ 30) *ℤ side_b s) -ℤ side_a s ≡ sweep (at_coord s.hi) -ℤ sweep (at_coord s.lo)
+pub rise-line : (s : Seg) → (pos (2 ^ 30) *ℤ side_b s) -ℤ side_a s ≡ sweep (at_coord s.hi) -ℤ sweep (at_coord s.lo)
 unfolding sweep
 rise-line s =
     by_ring (pos (2 ^ 30) ∷ s.lo.x ∷ s.lo.y ∷ s.hi.x ∷ s.hi.y ∷ [])
@@ -92,7 +92,7 @@ only_common s t p common differ =
 
 -- ---- its pixel is hot
 
-is_end_or_not : (s : Seg) (p : Point) → IsEnd s p ⊎ ¬ IsEnd s p
+pub is_end_or_not : (s : Seg) (p : Point) → IsEnd s p ⊎ ¬ IsEnd s p
 is_end_or_not s p =
     elim (same_point-or_not p (at_coord s.lo)) [
       | inl lo ↦ inl (inl lo)

@@ -7,3 +7,4 @@ pub mod NoCrossing
 pub mod Shadow
 pub mod Edges
 pub mod Noded
+pub mod Ends

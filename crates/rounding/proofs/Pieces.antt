@@ -61,11 +61,11 @@ places k i =
 
 module _ (segs : List Seg) (s : Seg) (c : List Coord) (rises : Rises s) (chain : IsChain segs s c) where
   -- a point of s in the pixel of a centre of the chain
-  point_in : (r : Coord) → Contains c r → (p : Point) × (IsOn s p × IsInPixel p r)
+  pub point_in : (r : Coord) → Contains c r → (p : Point) × (IsOn s p × IsInPixel p r)
   point_in r h = ((chain.members r).0 h).1
 
   -- s passes the points in the pixels of the chain in the order of the chain
-  in_order : (i j : ℕ) (d : Coord) → i < j → j < length c → (p q : Point) → IsOn s p → IsInPixel p (get_or c i d) → IsOn s q → IsInPixel q (get_or c j d)
+  pub in_order : (i j : ℕ) (d : Coord) → i < j → j < length c → (p q : Point) → IsOn s p → IsInPixel p (get_or c i d) → IsOn s q → IsInPixel q (get_or c j d)
       → (sweep p *ℤ pos q.d) <ℤ (sweep q *ℤ pos p.d)
   in_order i j d l within p q on_p in_p on_q in_q = before_sweep s p q rises on_p on_q (chain.in_order i j d l within p q on_p in_p on_q in_q)
 

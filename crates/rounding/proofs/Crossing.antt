@@ -14,28 +14,12 @@ use Rattle.plane.specs.Snapping.{IsInPixel, IsHot}
 use Rattle.plane.proofs.Points.{d_positive, between_by}
 use Rattle.plane.proofs.Forms.{weights_positive}
 use Rattle.rounding.proofs.Near.{Near, near_same, mean_near, pixel-near, near-pixel}
-use Rattle.rounding.proofs.Moves.{Moving, before, after, ahead, turned, Misses, end_stays, Crosses, Stay, stay_exchanged, turned-exchanged, common_u, common_v, common_w, crossing_survives}
+use Rattle.rounding.proofs.Means.{mean, mean-between}
+use Rattle.rounding.proofs.Vectors.{Moving, before, after, ahead, turned, turned-exchanged, common_u, common_v, common_w}
+use Rattle.rounding.proofs.Moves.{Misses, end_stays, Crosses, Stay, stay_exchanged, crossing_survives}
 use Rattle.rounding.proofs.Pieces.{IsPiece, piece_turned}
 
--- ---- means as points
-
--- the mean of p and q with the weights m and n
-abbrev pub mean : (p q : Point) (m n : ℕ) → 1 ≤ m + n → Point
-mean p q m n weighted = record {
-  x = (pos m *ℤ p.x) +ℤ (pos n *ℤ q.x);
-  y = (pos m *ℤ p.y) +ℤ (pos n *ℤ q.y);
-  d = m * p.d + n * q.d;
-  positive = (let w = weights_positive m n p.d q.d weighted p.positive q.positive in omega arith);
-}
-
-pub mean-between : (p q : Point) (m n : ℕ) (weighted : 1 ≤ m + n) → IsBetween (mean p q m n weighted) p q
-mean-between p q m n weighted = record {
-  first = m;
-  second = n;
-  weighted = weighted;
-  x = mul_comm ((pos m *ℤ p.x) +ℤ (pos n *ℤ q.x)) (pos (m * p.d + n * q.d));
-  y = mul_comm ((pos m *ℤ p.y) +ℤ (pos n *ℤ q.y)) (pos (m * p.d + n * q.d));
-}
+-- ---- the means of a piece
 
 module _ (segs : List Seg) (s : Seg) (a b : Coord) (piece : IsPiece segs s a b) where
   -- the weight and the coordinates of a mean of the two points of the piece

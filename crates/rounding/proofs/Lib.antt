@@ -1,10 +1,14 @@
 pub mod Near
+pub mod Means
+pub mod Vectors
 pub mod Moves
 pub mod Passing
 pub mod Pieces
+pub mod Edges
+pub mod Shadow
 pub mod Crossing
 pub mod NoCrossing
-pub mod Shadow
-pub mod Edges
 pub mod Noded
 pub mod Ends
+pub mod Unique
+pub mod InRange

@@ -17,7 +17,7 @@ use Rattle.plane.proofs.Forms.{form, form_zero-between}
 use Rattle.plane.proofs.Sides.{side_a, side_b, side_c, side-form, side-at_coord, side_zero-on, turn-same_ends, turn-same_last}
 use Rattle.plane.proofs.Meeting.{AreOpposite, opposite_meet, left_apart, right_apart}
 use Rattle.rounding.proofs.Near.{pixel_of_point}
-use Rattle.rounding.proofs.Moves.{before, after, ahead, turned}
+use Rattle.rounding.proofs.Vectors.{before, ahead, turned}
 use Rattle.rounding.proofs.Passing.{between_on}
 use Rattle.rounding.proofs.Pieces.{IsPiece}
 use Rattle.rounding.proofs.Crossing.{x_move, CentresCross, TwoPieces, pieces_cross, common_of_pieces}

@@ -8,13 +8,15 @@ use Rattle.plane.specs.Point.{Point, IsBetween, at_coord}
 use Rattle.plane.specs.Segment.{IsOn}
 use Rattle.plane.specs.Ray.{Rises}
 use Rattle.plane.specs.Noded.{IsWithinHalf}
-use Rattle.plane.specs.Snapping.{IsInPixel, IsHot}
+use Rattle.plane.specs.Snapping.{IsInPixel, IsHot, IsChain, chain_edges}
+use Rattle.std.specs.Prelude.{Contains}
 use Rattle.plane.proofs.Points.{d_positive}
 use Rattle.plane.proofs.Forms.{weights_positive}
 use Rattle.rounding.proofs.Near.{Near, near_times, mean_near, pixel-near, near-pixel}
 use Rattle.rounding.proofs.Passing.{between_on}
 use Rattle.rounding.proofs.Pieces.{IsPiece}
-use Rattle.rounding.proofs.Crossing.{mean, mean-between}
+use Rattle.rounding.proofs.Means.{mean, mean-between}
+use Rattle.rounding.proofs.Edges.{IsChainEdge, chain_edge}
 
 -- q is within half a unit of p each way: strictly on the high side
 pub record IsNearPoint (p q : Point) : Type 0 where
@@ -97,3 +99,14 @@ pub no_centre_inside : (segs : List Seg) (s : Seg) (a b : Coord) → IsPiece seg
 no_centre_inside segs s a b piece r hot h =
     let q = shadow segs s a b piece (at_coord r) h in
     piece.alone r q.0 hot q.1 (near-pixel q.0 r (near_whole r.x q.0.x (pos q.0.d) q.2.x) (near_whole r.y q.0.y (pos q.0.d) q.2.y))
+
+-- ---- chain edges
+
+module _ (segs : List Seg) (s : Seg) (c : List Coord) (e : Seg) (rises : Rises s) (chain : IsChain segs s c) (has : Contains (chain_edges c) e) where
+  -- every point of a chain edge is within half a unit of a point of its segment
+  pub half_unit : (p : Point) → IsOn e p → (q : Point) × (IsOn s q × IsWithinHalf p q)
+  half_unit = piece_half_unit segs s e.lo e.hi rises (chain_edge segs s c e rises chain has).piece
+
+  -- and a hot centre on it is one of its ends
+  pub hot_is_end : (r : Coord) → IsHot segs r → IsOn e (at_coord r) → (r ≡ e.lo) ⊎ (r ≡ e.hi)
+  hot_is_end = no_centre_inside segs s e.lo e.hi (chain_edge segs s c e rises chain has).piece

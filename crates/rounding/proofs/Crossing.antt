@@ -1,18 +1,16 @@
 -- Two pieces whose chain edges cross would cross themselves, in a hot pixel: so no two chain edges cross.
 use mathlib.Core.List.{List, [], ◌∷◌}
-use Rattle.std.proofs.Common.{◌≡◌, ◌⊎◌, inl, inr, refl, sym, ◌∙◌, ap, subst, ℕ, ◌+◌, ◌*◌, ◌^◌, ◌≤◌, ◌<◌, ℤ, pos, negsuc, neg_ℤ, ◌+ℤ◌, ◌-ℤ◌, ◌*ℤ◌, ◌<ℤ◌, ◌≤ℤ◌, arith}
-use Rattle.exact.proofs.Ring.{lin, by_ring, by_three, Term, Var, Lit, ◌⊕◌, ◌⊖◌, ◌⊗◌, Neg, mul_comm, one_mul, neg_mul}
+use Rattle.std.proofs.Common.{◌≡◌, inl, inr, refl, sym, ◌∙◌, subst, ◌+◌, ◌≤◌, ℤ, pos, negsuc, neg_ℤ, ◌+ℤ◌, ◌-ℤ◌, ◌*ℤ◌, ◌<ℤ◌, ◌≤ℤ◌, arith}
+use Rattle.exact.proofs.Ring.{lin, by_ring, Term, Var, ◌⊖◌, ◌⊗◌, Neg, one_mul, neg_mul}
 use Rattle.exact.proofs.Compare.{lt_or_ge, le_of_lt}
 use Rattle.exact.proofs.Order.{cancel_eq_right}
 use Rattle.exact.proofs.Sign.{positive_times_positive, positive_times_negative, nonneg_times_nonneg}
-use Rattle.exact.proofs.Cast.{positive_natural}
 use Rattle.cov_types.specs.declared.coord.Coord.{Coord}
 use Rattle.cov_types.specs.declared.seg.Seg.{Seg}
 use Rattle.plane.specs.Point.{Point, IsBetween}
 use Rattle.plane.specs.Segment.{turn_of}
 use Rattle.plane.specs.Snapping.{IsInPixel, IsHot}
 use Rattle.plane.proofs.Points.{d_positive, between_by}
-use Rattle.plane.proofs.Forms.{weights_positive}
 use Rattle.rounding.proofs.Near.{Near, near_same, mean_near, pixel-near, near-pixel}
 use Rattle.rounding.proofs.Means.{mean, mean-between}
 use Rattle.rounding.proofs.Vectors.{Moving, before, after, ahead, turned, turned-exchanged, common_u, common_v, common_w}
@@ -139,10 +137,10 @@ pub record TwoPieces (segs : List Seg) (s t : Seg) (a b c d : Coord) : Type 0 wh
 
 -- the ends of two pieces stay, where each misses the others
 module _
-  (move : (p : Point) (c : Coord) → IsInPixel p c → Moving)
-  (misses : (segs : List Seg) (s : Seg) (a b : Coord) (piece : IsPiece segs s a b) (c : Coord) → IsHot segs c → ¬ (c ≡ a) → ¬ (c ≡ b) → (g : Point) (inside : IsInPixel g c)
-      → Misses (move piece.from a piece.from_in) (move piece.until b piece.until_in) (move g c inside))
-  (segs : List Seg) (s t : Seg) (a b c d : Coord) (two : TwoPieces segs s t a b c d) where
+    (move : (p : Point) (c : Coord) → IsInPixel p c → Moving)
+    (misses : (segs : List Seg) (s : Seg) (a b : Coord) (piece : IsPiece segs s a b) (c : Coord) → IsHot segs c → ¬ (c ≡ a) → ¬ (c ≡ b) → (g : Point) (inside : IsInPixel g c)
+    → Misses (move piece.from a piece.from_in) (move piece.until b piece.until_in) (move g c inside))
+    (segs : List Seg) (s t : Seg) (a b c d : Coord) (two : TwoPieces segs s t a b c d) where
   ends_stay : Stay (move two.first.from a two.first.from_in) (move two.first.until b two.first.until_in) (move two.second.from c two.second.from_in) (move two.second.until d two.second.until_in)
   ends_stay =
       let p = two.first in
@@ -192,10 +190,18 @@ module _ (segs : List Seg) (s t : Seg) (a b c d : Coord) (two : TwoPieces segs s
       record {
         c_left = omega (arith, lin, between_moves first.from first.until second.until a b d first.from_in first.until_in second.until_in);
         d_right = omega (arith, lin, between_moves first.from first.until second.from a b c first.from_in first.until_in second.from_in);
-        b_left = omega (arith, lin, between_moves second.from second.until first.until c d b second.from_in second.until_in first.until_in,
-                 turned-exchanged after (x_move second.from c second.from_in) (x_move second.until d second.until_in) (x_move first.until b first.until_in));
-        a_right = omega (arith, lin, between_moves second.from second.until first.from c d a second.from_in second.until_in first.from_in,
-                  turned-exchanged after (x_move second.from c second.from_in) (x_move second.until d second.until_in) (x_move first.from a first.from_in));
+        b_left = omega (
+          arith,
+          lin,
+          between_moves second.from second.until first.until c d b second.from_in second.until_in first.until_in,
+          turned-exchanged after (x_move second.from c second.from_in) (x_move second.until d second.until_in) (x_move first.until b first.until_in),
+        );
+        a_right = omega (
+          arith,
+          lin,
+          between_moves second.from second.until first.from c d a second.from_in second.until_in first.from_in,
+          turned-exchanged after (x_move second.from c second.from_in) (x_move second.until d second.until_in) (x_move first.from a first.from_in),
+        );
       }
 
 -- the pieces cross where the centres do

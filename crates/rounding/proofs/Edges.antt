@@ -1,6 +1,6 @@
 -- The edges of a chain: between neighbours, each with a piece of the segment; their ends are hot and in range.
 use mathlib.Core.List.{[], ◌∷◌}
-use Rattle.std.proofs.Common.{◌≡◌, ◌⊎◌, inl, inr, refl, sym, ◌∙◌, ap, subst, ℕ, zero, suc, ◌+◌, ◌<◌, ℤ, pos, neg_ℤ, ◌+ℤ◌, ◌-ℤ◌, ◌*ℤ◌, ◌≤ℤ◌, ◌<ℤ◌, Bool, true, false, List, ◌++◌, length, get_or, drop, zip, Option, Some, None, arith}
+use Rattle.std.proofs.Common.{◌≡◌, ◌⊎◌, inl, inr, refl, sym, ap, subst, ℕ, zero, suc, ◌<◌, ℤ, pos, neg_ℤ, ◌+ℤ◌, ◌-ℤ◌, ◌*ℤ◌, ◌≤ℤ◌, ◌<ℤ◌, Bool, true, false, List, ◌++◌, length, get_or, Option, None, arith}
 use Rattle.std.specs.Prelude.{Contains, option_to_list}
 use Rattle.std.proofs.lemmas.List.Elements.{Contains-get_or, Contains-append_cases}
 use Rattle.exact.proofs.Ring.{lin, by_ring, Var, Lit, ◌⊕◌, ◌⊖◌, ◌⊗◌, Neg, mul_one}
@@ -14,9 +14,8 @@ use Rattle.cov_types.specs.Range.{IsInRange, IsSegInRange}
 use Rattle.cov_types.specs.Seg.{IsSegBetween}
 use Rattle.cov_types.specs.Uses.{seg_if, seg_between}
 use Rattle.plane.specs.Point.{Point, at_coord}
-use Rattle.plane.specs.Segment.{IsOn}
 use Rattle.plane.specs.Ray.{Rises}
-use Rattle.plane.specs.Snapping.{IsInPixel, IsHot, MeetsPixel, IsChain, chain_edges}
+use Rattle.plane.specs.Snapping.{IsHot, MeetsPixel, IsChain, chain_edges}
 use Rattle.plane.proofs.Points.{d_positive}
 use Rattle.plane.proofs.Forms.{form, form_not_negative-between}
 use Rattle.rounding.proofs.Near.{Near, pixel-near}

@@ -1,7 +1,7 @@
 -- The ends of a chain, and of its edges: the chain goes from lo to hi, its centres and its edges are different,
 -- and of any set of points its edges have as many ends in it as its segment, up to an even number.
 use mathlib.Core.List.{[], ◌∷◌}
-use Rattle.std.proofs.Common.{◌≡◌, ◌⊎◌, inl, inr, refl, sym, ◌∙◌, ap, subst, ℕ, zero, suc, ◌+◌, ◌*◌, ◌%◌, ◌<◌, ◌≤◌, Bool, true, false, cond, List, ◌++◌, length, get_or, Option, Some, None, ℤ, pos, ◌*ℤ◌, ◌≤ℤ◌, arith}
+use Rattle.std.proofs.Common.{◌≡◌, ◌⊎◌, inl, inr, refl, sym, ◌∙◌, ap, subst, ℕ, zero, suc, ◌+◌, ◌%◌, ◌<◌, Bool, true, false, cond, List, ◌++◌, length, get_or, Option, Some, None, pos, ◌*ℤ◌, arith}
 use Rattle.std.specs.Prelude.{Contains, AllPairs, sum_by, option_to_list}
 use Rattle.std.proofs.lemmas.Bool.{cases_lt, false≢true}
 use Rattle.std.proofs.lemmas.List.{get_or_default}
@@ -16,14 +16,13 @@ use Rattle.cov_types.specs.Seg.{IsSegBetween}
 use Rattle.cov_types.specs.Uses.{seg_if, seg_between, ends_inside}
 use Rattle.cov_types.proofs.Order.{cases_coords}
 use Rattle.plane.specs.Point.{at_coord}
-use Rattle.plane.specs.Segment.{IsOn, IsEnd}
 use Rattle.plane.specs.Ray.{sweep, Rises}
-use Rattle.plane.specs.Snapping.{IsInPixel, IsHot, MeetsPixel, IsChain, chain_edges}
+use Rattle.plane.specs.Snapping.{IsInPixel, IsChain, chain_edges}
 use Rattle.plane.proofs.Points.{same_point-refl, first_between, second_between}
 use Rattle.plane.proofs.Sweeps.{sweep-on_from, sweep-on_to}
 use Rattle.rounding.proofs.Near.{pixel_own}
 use Rattle.rounding.proofs.Pieces.{point_in, in_order}
-use Rattle.rounding.proofs.Edges.{seg_between-ends, StandsAt, edge_stands}
+use Rattle.rounding.proofs.Edges.{seg_between-ends, edge_stands}
 
 -- ---- the ends of the chain
 
@@ -39,13 +38,17 @@ module _ (segs : List Seg) (s : Seg) (c : List Coord) (rises : Rises s) (chain :
     -- the ends of a segment are in hot pixels that it meets
     lo_at : Contains c s.lo
     lo_at =
-        (chain.members s.lo).1 ((at_coord s.lo, (pixel_own s.lo, inl (s, (has, inl (same_point-refl (at_coord s.lo)))))),
-        (at_coord s.lo, (first_between (at_coord s.lo) (at_coord s.hi), pixel_own s.lo)))
+        (chain.members s.lo).1 (
+          (at_coord s.lo, (pixel_own s.lo, inl (s, (has, inl (same_point-refl (at_coord s.lo)))))),
+          (at_coord s.lo, (first_between (at_coord s.lo) (at_coord s.hi), pixel_own s.lo)),
+        )
 
     hi_at : Contains c s.hi
     hi_at =
-        (chain.members s.hi).1 ((at_coord s.hi, (pixel_own s.hi, inl (s, (has, inr (same_point-refl (at_coord s.hi)))))),
-        (at_coord s.hi, (second_between (at_coord s.lo) (at_coord s.hi), pixel_own s.hi)))
+        (chain.members s.hi).1 (
+          (at_coord s.hi, (pixel_own s.hi, inl (s, (has, inr (same_point-refl (at_coord s.hi)))))),
+          (at_coord s.hi, (second_between (at_coord s.lo) (at_coord s.hi), pixel_own s.hi)),
+        )
 
     -- the chain begins at lo
     lo_first : (k : ℕ) → k < length c → get_or c k s.lo ≡ s.lo → k ≡ 0
@@ -77,9 +80,9 @@ module _ (segs : List Seg) (s : Seg) (c : List Coord) (rises : Rises s) (chain :
         elim (cases_lt (suc hi_at.0) (length c)) [
           | inl l ↦ absurd (hi_last hi_at.0 l hi_at.2)
           | inr g ↦ (
-            let w = hi_at.1 in
-            let same : k ≡ hi_at.0 = omega arith in
-            get_or_default c k d s.hi (omega arith) ∙ (λ i. get_or c (same i) s.hi) ∙ hi_at.2)
+              let w = hi_at.1 in
+              let same : k ≡ hi_at.0 = omega arith in
+              get_or_default c k d s.hi (omega arith) ∙ (λ i. get_or c (same i) s.hi) ∙ hi_at.2)
         ]
 
 -- ---- different edges

@@ -1,5 +1,5 @@
 -- Means of two points, as points.
-use Rattle.std.proofs.Common.{◌≡◌, ℕ, ◌+◌, ◌*◌, ◌≤◌, ℤ, pos, ◌+ℤ◌, ◌*ℤ◌, arith}
+use Rattle.std.proofs.Common.{ℕ, ◌+◌, ◌*◌, ◌≤◌, pos, ◌+ℤ◌, ◌*ℤ◌, arith}
 use Rattle.exact.proofs.Ring.{mul_comm}
 use Rattle.plane.specs.Point.{Point, IsBetween}
 use Rattle.plane.proofs.Forms.{weights_positive}

@@ -1,10 +1,10 @@
 -- Two lemmas on a move: an end stays on its side of two vectors where no mean of the two rounds to its centre,
 -- and a crossing after the move was one before it.
-use mathlib.Core.List.{List, [], ◌∷◌}
+use mathlib.Core.List.{[], ◌∷◌}
 use Rattle.std.proofs.Common.{◌≡◌, ◌⊎◌, inl, inr, refl, sym, ◌∙◌, ap, ℤ, pos, neg_ℤ, ◌+ℤ◌, ◌-ℤ◌, ◌*ℤ◌, ◌<ℤ◌, ◌≤ℤ◌, arith}
-use Rattle.exact.proofs.Ring.{lin, by_ring, by_two, Term, Var, Lit, ◌⊕◌, ◌⊖◌, ◌⊗◌, Neg, mul_comm, mul_left_comm, mul_zero, zero_mul, neg_mul, mul_neg, neg_mul_neg}
+use Rattle.exact.proofs.Ring.{lin, by_ring, by_two, Var, ◌⊕◌, ◌⊖◌, ◌⊗◌, Neg, mul_comm, mul_left_comm, mul_zero, zero_mul, neg_mul, mul_neg, neg_mul_neg}
 use Rattle.exact.proofs.Compare.{lt_or_ge, le_of_lt, le_cases, lt_excludes_eq, lt_excludes_le}
-use Rattle.exact.proofs.Sign.{positive_times_positive, nonneg_times_nonneg, nonpos_times_nonneg, nonneg_times_nonpos, negative_times_positive, nonneg_factor, positive_factor, negative_factor, zero_factor}
+use Rattle.exact.proofs.Sign.{positive_times_positive, nonneg_times_nonneg, nonpos_times_nonneg, nonneg_times_nonpos, negative_times_positive, positive_factor, negative_factor}
 use Rattle.rounding.proofs.Near.{Near, near_times, mean_near}
 use Rattle.rounding.proofs.Vectors.{Moving, before, after, ahead, turned, ahead-turned, ahead-split, ahead-mean, ahead-trans, ahead-total, turned-exchanged, turns_at_a, turns_at_b, turns_at_c, turns_at_d, Within, within_whole, level_turn, strictly_ahead}
 
@@ -71,9 +71,9 @@ weights_positive a b e within strict =
     elim (le_cases from) [
       | inl l ↦ omega (arith, lin)
       | inr level ↦ (
-        let none = ap (λ z. z *ℤ b.w) (sym level) ∙ zero_mul b.w in
-        let other = positive_factor a.w (ahead e b) (le_of_lt a.positive) (omega (arith, lin, mul_comm a.w (ahead e b))) in
-        omega (arith, lin))
+          let none = ap (λ z. z *ℤ b.w) (sym level) ∙ zero_mul b.w in
+          let other = positive_factor a.w (ahead e b) (le_of_lt a.positive) (omega (arith, lin, mul_comm a.w (ahead e b))) in
+          omega (arith, lin))
     ]
 
 -- b strictly ahead of a
@@ -174,10 +174,10 @@ nested_turn h x y p q r p' q' r' hh hx hy e e' hp hq hr hp' hq' =
     negative_factor h r' (le_of_lt hh) (elim (le_cases hx) [
       | inl l ↦ (let strict = negative_times_positive hq' l in omega (arith, lin, mul_comm h r'))
       | inr level ↦ (
-        let none = ap (λ z. q *ℤ z) (sym level) ∙ mul_zero q in
-        let y_positive = positive_factor p y (le_of_lt hp) (omega (arith, lin)) in
-        let strict = positive_times_positive hp' y_positive in
-        omega (arith, lin, mul_comm h r'))
+          let none = ap (λ z. q *ℤ z) (sym level) ∙ mul_zero q in
+          let y_positive = positive_factor p y (le_of_lt hp) (omega (arith, lin)) in
+          let strict = positive_times_positive hp' y_positive in
+          omega (arith, lin, mul_comm h r'))
     ])
 
 -- c and d between a and b
@@ -225,10 +225,10 @@ staggered a b c d within_c within_b keeps_c keeps_b h =
     record {
       c_left = left';
       d_right = staggered_negative (ahead c b) (ahead d b) (ahead a b) (turned before a b c) (turned before a b d) (turned before c d b)
-      within_c.1 (omega (arith, lin)) ab_strict left' above' (omega (arith, lin));
+          within_c.1 (omega (arith, lin)) ab_strict left' above' (omega (arith, lin));
       b_left = above';
       a_right = staggered_negative (ahead c b) (neg_ℤ (ahead a c)) (ahead c d) (turned before c d b) (turned before c d a) (turned before a b c)
-      within_c.1 (omega (arith, lin)) cd_strict above' left' (omega (arith, lin, mul_neg (turned before c d b) (ahead a c)));
+          within_c.1 (omega (arith, lin)) cd_strict above' left' (omega (arith, lin, mul_neg (turned before c d b) (ahead a c)));
     }
 
 -- a after c, d after a, b after d
@@ -295,9 +295,9 @@ survives_forward a b c d forward forward_too stay h =
     elim (ahead-total a c) [
       | inl a_c ↦ elim (ahead-total d b) [
         | inl d_b ↦ (
-          let within_c : Within a b c = (a_c, ahead-trans c d b forward_too d_b) in
-          let within_d : Within a b d = (ahead-trans a c d a_c forward_too, d_b) in
-          nested a b c d within_c within_d (stay.c_stays within_c) (stay.d_stays within_d) h)
+            let within_c : Within a b c = (a_c, ahead-trans c d b forward_too d_b) in
+            let within_d : Within a b d = (ahead-trans a c d a_c forward_too, d_b) in
+            nested a b c d within_c within_d (stay.c_stays within_c) (stay.d_stays within_d) h)
         | inr b_d ↦ elim (lt_or_ge (ahead c b) (pos 0)) [
           | inl gap ↦ absurd (never_before a b c d forward forward_too gap h)
           | inr c_b ↦ staggered a b c d (a_c, c_b) (c_b, b_d) (stay.c_stays (a_c, c_b)) (stay.b_stays (c_b, b_d)) h
@@ -309,9 +309,9 @@ survives_forward a b c d forward forward_too stay h =
           | inr a_d ↦ staggered_back a b c d (a_d, d_b) (c_a, a_d) (stay.d_stays (a_d, d_b)) (stay.a_stays (c_a, a_d)) h
         ]
         | inr b_d ↦ (
-          let within_b : Within c d b = (ahead-trans c a b c_a forward, b_d) in
-          let within_a : Within c d a = (c_a, ahead-trans a b d forward b_d) in
-          unround (nested c d b a within_b within_a (stay.b_stays within_b) (stay.a_stays within_a) (crosses_round after a b c d h)))
+            let within_b : Within c d b = (ahead-trans c a b c_a forward, b_d) in
+            let within_a : Within c d a = (c_a, ahead-trans a b d forward b_d) in
+            unround (nested c d b a within_b within_a (stay.b_stays within_b) (stay.a_stays within_a) (crosses_round after a b c d h)))
       ]
     ]
   where

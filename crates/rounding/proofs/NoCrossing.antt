@@ -1,13 +1,13 @@
 -- No two chain edges cross properly: the pixel of their pieces' common point would be hot, and one of the centres of each.
 use mathlib.Core.List.{List, [], ◌∷◌}
-use Rattle.std.proofs.Common.{◌≡◌, ◌⊎◌, inl, inr, refl, sym, ◌∙◌, ap, subst, ◌^◌, ℤ, pos, neg_ℤ, ◌+ℤ◌, ◌-ℤ◌, ◌*ℤ◌, ◌<ℤ◌, ◌≤ℤ◌, arith}
+use Rattle.std.proofs.Common.{◌≡◌, ◌⊎◌, inl, inr, refl, sym, ◌∙◌, subst, ◌^◌, ℤ, pos, ◌+ℤ◌, ◌-ℤ◌, ◌*ℤ◌, arith}
 use Rattle.std.specs.Prelude.{Contains}
 use Rattle.exact.proofs.Ring.{lin, by_ring, by_three, Term, Var, Lit, ◌⊕◌, ◌⊖◌, ◌⊗◌, Neg, mul_zero}
-use Rattle.exact.proofs.Compare.{lt_or_ge, le_of_lt, le_cases, lt_excludes_eq, sign_cases}
+use Rattle.exact.proofs.Compare.{lt_or_ge, le_of_lt, le_cases, lt_excludes_eq}
 use Rattle.exact.proofs.Order.{cancel_eq}
 use Rattle.cov_types.specs.declared.coord.Coord.{Coord}
 use Rattle.cov_types.specs.declared.seg.Seg.{Seg}
-use Rattle.plane.specs.Point.{Point, SamePoint, IsBetween, at_coord}
+use Rattle.plane.specs.Point.{Point, at_coord}
 use Rattle.plane.specs.Segment.{IsOn, IsEnd, turn_of, side}
 use Rattle.plane.specs.Ray.{sweep, Rises}
 use Rattle.plane.specs.Contact.{IsCommon, IsOnlyCommon}

@@ -1,8 +1,8 @@
 -- Snap rounding is fully noded: two chain edges are equal, or have at most common ends in common.
 use mathlib.Core.List.{[], ◌∷◌}
-use Rattle.std.proofs.Common.{◌≡◌, ◌⊎◌, inl, inr, refl, sym, ◌∙◌, ap, subst, ◌^◌, ℤ, pos, neg_ℤ, ◌+ℤ◌, ◌-ℤ◌, ◌*ℤ◌, ◌<ℤ◌, ◌≤ℤ◌, List, arith}
+use Rattle.std.proofs.Common.{◌≡◌, ◌⊎◌, inl, inr, refl, sym, ◌∙◌, ap, subst, ◌^◌, ℤ, pos, neg_ℤ, ◌-ℤ◌, ◌*ℤ◌, ◌<ℤ◌, ◌≤ℤ◌, List, arith}
 use Rattle.std.specs.Prelude.{Contains}
-use Rattle.exact.proofs.Ring.{lin, by_ring, Var, Lit, ◌⊕◌, ◌⊖◌, ◌⊗◌, Neg, mul_one, mul_zero}
+use Rattle.exact.proofs.Ring.{lin, by_ring, Var, Lit, ◌⊖◌, ◌⊗◌, Neg, mul_zero}
 use Rattle.exact.proofs.Compare.{eq_or_not, trichotomy, le_cases, le_of_lt, lt_excludes_eq}
 use Rattle.exact.proofs.Order.{cancel_eq, cancel_lt_right}
 use Rattle.cov_types.specs.declared.coord.Coord.{Coord}
@@ -15,14 +15,14 @@ use Rattle.plane.specs.Ray.{sweep, Rises}
 use Rattle.plane.specs.Contact.{IsCommon}
 use Rattle.plane.specs.Noded.{MeetInEnds}
 use Rattle.plane.specs.Snapping.{IsHot, IsChain, chain_edges}
-use Rattle.plane.proofs.Points.{d_positive, same_point-refl, same_point-sym, same_point-trans, between-moved}
+use Rattle.plane.proofs.Points.{d_positive, same_point-refl, same_point-sym, between-moved}
 use Rattle.plane.proofs.Forms.{form}
 use Rattle.plane.proofs.Sides.{side_a, side_b, side_c, side-form, side-at_coord, side-lo, side-hi, side_zero-on, turn-first_two}
 use Rattle.plane.proofs.Sweeps.{sweep-one_to_one, rises-in_range, sweep-on_from, sweep-on_to, same_as_lo, same_as_hi}
 use Rattle.plane.proofs.Contacts.{end-same}
 use Rattle.plane.proofs.Meeting.{turns-balance, AreOpposite, MeetOnce, opposite_meet}
 use Rattle.plane.proofs.Along.{on_from_turn}
-use Rattle.rounding.proofs.Pieces.{IsPiece, piece_turned}
+use Rattle.rounding.proofs.Pieces.{piece_turned}
 use Rattle.rounding.proofs.NoCrossing.{opposite_from_common, three_on_line, rise-line, is_end_or_not, no_crossing}
 use Rattle.rounding.proofs.Crossing.{CentresCross}
 use Rattle.rounding.proofs.Shadow.{no_centre_inside}

@@ -1,16 +1,13 @@
 -- The order in which a segment passes its points: by their sweep values.
 use mathlib.Core.List.{[], ◌∷◌}
-use Rattle.std.proofs.Common.{◌≡◌, ◌⊎◌, inl, inr, refl, sym, ◌∙◌, ap, ◌^◌, ℤ, pos, neg_ℤ, ◌+ℤ◌, ◌-ℤ◌, ◌*ℤ◌, ◌<ℤ◌, ◌≤ℤ◌, arith}
-use Rattle.exact.proofs.Ring.{lin, by_ring, Var, Lit, ◌⊕◌, ◌⊖◌, ◌⊗◌, Neg, mul_comm, mul_one}
-use Rattle.exact.proofs.Compare.{lt_or_ge, le_of_lt, le_cases}
-use Rattle.exact.proofs.Order.{mul_le, fraction_le_trans}
-use Rattle.cov_types.specs.declared.coord.Coord.{Coord}
+use Rattle.std.proofs.Common.{◌≡◌, inl, inr, refl, sym, ◌∙◌, ◌^◌, ℤ, pos, neg_ℤ, ◌-ℤ◌, ◌*ℤ◌, ◌<ℤ◌, ◌≤ℤ◌, arith}
+use Rattle.exact.proofs.Ring.{lin, by_ring, Var, ◌⊕◌, ◌⊖◌, ◌⊗◌, Neg, mul_one}
+use Rattle.exact.proofs.Compare.{le_of_lt, le_cases}
 use Rattle.cov_types.specs.declared.seg.Seg.{Seg}
-use Rattle.plane.specs.Point.{Point, SamePoint, IsBetween, at_coord}
-use Rattle.plane.specs.Segment.{IsOn, side}
+use Rattle.plane.specs.Point.{Point, IsBetween, at_coord}
+use Rattle.plane.specs.Segment.{IsOn}
 use Rattle.plane.specs.Ray.{sweep, Rises}
 use Rattle.plane.specs.Snapping.{IsBefore}
-use Rattle.plane.proofs.Points.{d_positive}
 use Rattle.plane.proofs.Forms.{form, form_not_negative-between, form_not_positive-between, form_zero-between}
 use Rattle.plane.proofs.Sides.{side_a, side_b, side_c, side-form, side_zero-on}
 use Rattle.plane.proofs.Sweeps.{sweep-on_from, sweep-on_to, on_from_sweep, same_from_sweep}

@@ -1,17 +1,16 @@
 -- The piece of a segment between neighbours of its chain.
-use Rattle.std.proofs.Common.{◌≡◌, ◌⊎◌, inl, inr, sym, ◌∙◌, subst, ℕ, suc, ◌+◌, ◌≤◌, ◌<◌, ◌*ℤ◌, ◌<ℤ◌, ◌≤ℤ◌, pos, List, length, get_or, arith}
+use Rattle.std.proofs.Common.{◌≡◌, ◌⊎◌, inl, inr, sym, ◌∙◌, subst, ℕ, suc, ◌<◌, ◌*ℤ◌, ◌<ℤ◌, pos, List, length, get_or, arith}
 use Rattle.std.specs.Prelude.{Contains}
 use Rattle.std.proofs.lemmas.Bool.{cases_order}
 use Rattle.std.proofs.lemmas.List.{get_or_default}
 use Rattle.std.proofs.lemmas.List.Elements.{Contains-get_or}
-use Rattle.exact.proofs.Ring.{lin}
 use Rattle.exact.proofs.Compare.{le_of_lt, lt_excludes_le}
 use Rattle.cov_types.specs.declared.coord.Coord.{Coord}
 use Rattle.cov_types.specs.declared.seg.Seg.{Seg}
 use Rattle.plane.specs.Point.{Point, IsBetween}
 use Rattle.plane.specs.Segment.{IsOn}
 use Rattle.plane.specs.Ray.{sweep, Rises}
-use Rattle.plane.specs.Snapping.{IsInPixel, IsHot, PassesFirst, IsChain}
+use Rattle.plane.specs.Snapping.{IsInPixel, IsHot, IsChain}
 use Rattle.plane.proofs.Points.{between-sym}
 use Rattle.rounding.proofs.Passing.{between_from, between_to, between_on, before_sweep}
 

@@ -1,6 +1,6 @@
 -- A chain edge is the shadow of its piece: within half a unit of it, and with no hot centre between its ends.
 use mathlib.Core.List.{[], ◌∷◌}
-use Rattle.std.proofs.Common.{◌≡◌, ◌⊎◌, refl, ℕ, ◌+◌, ◌*◌, ◌≤◌, ℤ, pos, ◌+ℤ◌, ◌-ℤ◌, ◌*ℤ◌, ◌≤ℤ◌, ◌<ℤ◌, List, arith}
+use Rattle.std.proofs.Common.{◌≡◌, ◌⊎◌, refl, ℕ, ◌+◌, ◌*◌, ◌≤◌, ℤ, pos, ◌+ℤ◌, ◌*ℤ◌, List, arith}
 use Rattle.exact.proofs.Ring.{lin, by_one, Var, Lit, ◌⊕◌, ◌⊗◌, Neg, mul_comm, mul_one, one_mul, pos_times}
 use Rattle.cov_types.specs.declared.coord.Coord.{Coord}
 use Rattle.cov_types.specs.declared.seg.Seg.{Seg}
@@ -8,7 +8,7 @@ use Rattle.plane.specs.Point.{Point, IsBetween, at_coord}
 use Rattle.plane.specs.Segment.{IsOn}
 use Rattle.plane.specs.Ray.{Rises}
 use Rattle.plane.specs.Noded.{IsWithinHalf}
-use Rattle.plane.specs.Snapping.{IsInPixel, IsHot, IsChain, chain_edges}
+use Rattle.plane.specs.Snapping.{IsHot, IsChain, chain_edges}
 use Rattle.std.specs.Prelude.{Contains}
 use Rattle.plane.proofs.Points.{d_positive}
 use Rattle.plane.proofs.Forms.{weights_positive}
@@ -16,7 +16,7 @@ use Rattle.rounding.proofs.Near.{Near, near_times, mean_near, pixel-near, near-p
 use Rattle.rounding.proofs.Passing.{between_on}
 use Rattle.rounding.proofs.Pieces.{IsPiece}
 use Rattle.rounding.proofs.Means.{mean, mean-between}
-use Rattle.rounding.proofs.Edges.{IsChainEdge, chain_edge}
+use Rattle.rounding.proofs.Edges.{chain_edge}
 
 -- q is within half a unit of p each way: strictly on the high side
 pub record IsNearPoint (p q : Point) : Type 0 where
@@ -56,13 +56,16 @@ module _ (segs : List Seg) (s : Seg) (a b : Coord) (piece : IsPiece segs s a b) 
       let near_f = pixel-near f a piece.from_in in
       let near_u = pixel-near u b piece.until_in in
       let x = mean_near i j (a.x *ℤ pos f.d) f.x (pos f.d) (b.x *ℤ pos u.d) u.x (pos u.d) (omega (arith, lin)) (omega (arith, lin)) (omega (arith, lin)) near_f.0 near_u.0 in
-      let y = mean_near i j (a.y *ℤ pos f.d) f.y (pos f.d) (b.y *ℤ pos u.d) u.y (pos u.d) (omega (arith, lin)) (omega (arith, lin)) (omega (arith, lin)) near_f.1 near_u.1 in
-      (q, mean-between f u (m * u.d) (n * f.d) weighted, record {
-        x = near_shadow p.x (pos p.d) q.x ((i *ℤ (a.x *ℤ pos f.d)) +ℤ (j *ℤ (b.x *ℤ pos u.d))) (pos q.d)
-            (shadow_number a.x b.x p.x (pos p.d) (pos m) (pos n) (pos f.d) (pos u.d) h.x) (near_times (pos p.d) ((i *ℤ (a.x *ℤ pos f.d)) +ℤ (j *ℤ (b.x *ℤ pos u.d))) q.x (pos q.d) (d_positive p) x);
-        y = near_shadow p.y (pos p.d) q.y ((i *ℤ (a.y *ℤ pos f.d)) +ℤ (j *ℤ (b.y *ℤ pos u.d))) (pos q.d)
-            (shadow_number a.y b.y p.y (pos p.d) (pos m) (pos n) (pos f.d) (pos u.d) h.y) (near_times (pos p.d) ((i *ℤ (a.y *ℤ pos f.d)) +ℤ (j *ℤ (b.y *ℤ pos u.d))) q.y (pos q.d) (d_positive p) y);
-      })
+      let y = mean_near i j (a.y *ℤ pos f.d) f.y (pos f.d) (b.y *ℤ pos u.d) u.y (pos u.d) (omega (arith, lin)) (omega (arith, lin)) (omega (arith, lin)) near_f.1 near_u.1 in (
+        q,
+        mean-between f u (m * u.d) (n * f.d) weighted,
+        record {
+          x = near_shadow p.x (pos p.d) q.x ((i *ℤ (a.x *ℤ pos f.d)) +ℤ (j *ℤ (b.x *ℤ pos u.d))) (pos q.d)
+              (shadow_number a.x b.x p.x (pos p.d) (pos m) (pos n) (pos f.d) (pos u.d) h.x) (near_times (pos p.d) ((i *ℤ (a.x *ℤ pos f.d)) +ℤ (j *ℤ (b.x *ℤ pos u.d))) q.x (pos q.d) (d_positive p) x);
+          y = near_shadow p.y (pos p.d) q.y ((i *ℤ (a.y *ℤ pos f.d)) +ℤ (j *ℤ (b.y *ℤ pos u.d))) (pos q.d)
+              (shadow_number a.y b.y p.y (pos p.d) (pos m) (pos n) (pos f.d) (pos u.d) h.y) (near_times (pos p.d) ((i *ℤ (a.y *ℤ pos f.d)) +ℤ (j *ℤ (b.y *ℤ pos u.d))) q.y (pos q.d) (d_positive p) y);
+        },
+      )
 
 -- ---- half a unit
 

@@ -1,12 +1,12 @@
 -- A segment has one chain: a list in an order that two elements do not both have is told by its elements.
 use mathlib.Core.List.{[], ◌∷◌}
-use Rattle.std.proofs.Common.{◌≡◌, ◌⊎◌, inl, inr, refl, sym, ◌∙◌, ap, subst, ℕ, zero, suc, ◌+◌, ◌<◌, List, length, get_or, arith}
+use Rattle.std.proofs.Common.{◌≡◌, ◌⊎◌, inl, inr, refl, sym, subst, zero, suc, List, arith}
 use Rattle.std.specs.Prelude.{Contains, AllPairs}
 use Rattle.exact.proofs.Compare.{lt_trans, lt_irrefl}
 use Rattle.cov_types.specs.declared.coord.Coord.{Coord}
 use Rattle.cov_types.specs.declared.seg.Seg.{Seg}
 use Rattle.plane.specs.Ray.{Rises}
-use Rattle.plane.specs.Snapping.{IsHot, MeetsPixel, PassesFirst, IsChain}
+use Rattle.plane.specs.Snapping.{PassesFirst, IsChain}
 use Rattle.rounding.proofs.Passing.{before_sweep}
 
 -- an element is the first or one of the rest
@@ -41,8 +41,8 @@ module _ (R : Coord → Coord → Type 0) where
       let before = first_before a r c ordered has in
       elim (first_or_rest a r d (same r (rest_in a r c has))) [
         | inl e ↦ (
-          let itself = subst (R a) (sym e) before in
-          absurd (one a a (first_in a c) (first_in a c) itself itself))
+            let itself = subst (R a) (sym e) before in
+            absurd (one a a (first_in a c) (first_in a c) itself itself))
         | inr rest ↦ rest
       ]
 

@@ -1,9 +1,9 @@
 -- Homogeneous vectors of which one coordinate moves to a centre: their order and their turns.
 use mathlib.Core.List.{List, [], ◌∷◌}
 use Rattle.std.proofs.Common.{◌≡◌, ◌⊎◌, inl, inr, refl, sym, ◌∙◌, ap, ℤ, pos, neg_ℤ, ◌+ℤ◌, ◌-ℤ◌, ◌*ℤ◌, ◌<ℤ◌, ◌≤ℤ◌, arith}
-use Rattle.exact.proofs.Ring.{lin, by_ring, by_two, Term, Var, Lit, ◌⊕◌, ◌⊖◌, ◌⊗◌, Neg, mul_comm, mul_left_comm, mul_zero, zero_mul, neg_mul, mul_neg, neg_mul_neg}
-use Rattle.exact.proofs.Compare.{lt_or_ge, le_of_lt, le_cases, lt_excludes_eq, lt_excludes_le}
-use Rattle.exact.proofs.Sign.{positive_times_positive, nonneg_times_nonneg, nonpos_times_nonneg, nonneg_times_nonpos, negative_times_positive, nonneg_factor, positive_factor, negative_factor, zero_factor}
+use Rattle.exact.proofs.Ring.{lin, by_ring, Term, Var, ◌⊕◌, ◌⊖◌, ◌⊗◌, Neg, mul_comm, mul_zero, zero_mul}
+use Rattle.exact.proofs.Compare.{lt_or_ge, le_of_lt, le_cases, lt_excludes_eq}
+use Rattle.exact.proofs.Sign.{nonneg_times_nonneg, nonneg_factor, zero_factor}
 use Rattle.rounding.proofs.Near.{Near}
 
 -- the point (u/w, v/w), whose coordinate v/w rounds to a centre and moves there

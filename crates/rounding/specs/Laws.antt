@@ -1,5 +1,5 @@
 -- The laws of snap rounding, for lists of segments in range.
-use Rattle.std.specs.Prelude.{◌≡◌, ℕ, ◌-◌, ◌%◌, ◌<◌, Bool, List, length, slice_index_or, sum_by, All, AllPairs, Contains, ◌⊎◌}
+use Rattle.std.specs.Prelude.{◌≡◌, ◌-◌, ◌%◌, ◌<◌, Bool, List, length, slice_index_or, sum_by, All, AllPairs, Contains, ◌⊎◌}
 use Rattle.cov_types.specs.declared.coord.Coord.{Coord}
 use Rattle.cov_types.specs.declared.seg.Seg.{Seg}
 use Rattle.cov_types.specs.Range.{IsInRange, IsSegInRange}

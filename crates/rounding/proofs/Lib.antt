@@ -12,3 +12,4 @@ pub mod Noded
 pub mod Ends
 pub mod Unique
 pub mod InRange
+pub mod First

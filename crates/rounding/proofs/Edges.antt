@@ -23,10 +23,11 @@ use Rattle.rounding.proofs.Pieces.{IsPiece, piece_turned, piece_at}
 
 -- ---- the segment between two points
 
-not_in_nothing : {X : Type 0} (x : X) → Contains [] x → ⊥
+pub not_in_nothing : {X : Type 0} (x : X) → Contains [] x → ⊥
 not_in_nothing x h = absurd (omega (arith, h.1))
 
-in_one : {X : Type 0} (y x : X) → Contains (y ∷ []) x → y ≡ x
+-- the only element of a list
+pub in_one : {X : Type 0} (y x : X) → Contains (y ∷ []) x → y ≡ x
 in_one y x (zero, within, is) = is
 in_one y x (suc k, within, is) = absurd (omega arith)
 

@@ -13,3 +13,4 @@ pub mod Ends
 pub mod Unique
 pub mod InRange
 pub mod First
+pub mod Lone

@@ -6,7 +6,7 @@ use Rattle.exact.proofs.Compare.{lt_or_ge, le_of_lt, le_antisymm}
 use Rattle.exact.proofs.Order.{mul_le, mul_lt, cancel_le, cancel_lt, cancel_lt_right}
 use Rattle.cov_types.specs.declared.coord.Coord.{Coord}
 use Rattle.cov_types.proofs.Order.{same_coords}
-use Rattle.plane.specs.Point.{Point, at_coord}
+use Rattle.plane.specs.Point.{Point, SamePoint, at_coord}
 use Rattle.plane.specs.Snapping.{IsInPixel}
 use Rattle.plane.proofs.Points.{d_positive}
 
@@ -190,6 +190,13 @@ pixel_unique p r q h k =
     let in_r = pixel-near p r h in
     let in_q = pixel-near p q k in
     same_coords r q (rounds_once r.x q.x p.x (pos p.d) (d_positive p) in_r.0 in_q.0) (rounds_once r.y q.y p.y (pos p.d) (d_positive p) in_r.1 in_q.1)
+
+-- one point as two fractions is in one pixel
+pub pixel_same : (p q : Point) (r : Coord) → SamePoint p q → IsInPixel p r → IsInPixel q r
+pixel_same p q r same h =
+    let at_p = pixel-near p r h in
+    near-pixel q r (near_same r.x p.x (pos p.d) q.x (pos q.d) (d_positive p) (d_positive q) same.0 at_p.0)
+    (near_same r.y p.y (pos p.d) q.y (pos q.d) (d_positive p) (d_positive q) same.1 at_p.1)
 
 -- a grid point is in the pixel of its own
 pub pixel_own : (c : Coord) → IsInPixel (at_coord c) c

@@ -2,15 +2,14 @@
 use mathlib.Core.List.{[], ◌∷◌}
 use Rattle.std.proofs.Common.{◌≡◌, ◌⊎◌, inl, inr, refl, sym, subst, zero, suc, List, arith}
 use Rattle.std.specs.Prelude.{Contains, AllPairs}
-use Rattle.exact.proofs.Compare.{lt_trans, lt_irrefl}
 use Rattle.cov_types.specs.declared.coord.Coord.{Coord}
 use Rattle.cov_types.specs.declared.seg.Seg.{Seg}
 use Rattle.plane.specs.Ray.{Rises}
 use Rattle.plane.specs.Snapping.{PassesFirst, IsChain}
-use Rattle.rounding.proofs.Passing.{before_sweep}
+use Rattle.rounding.proofs.First.{passes_one_way}
 
 -- an element is the first or one of the rest
-first_or_rest : (a r : Coord) (c : List Coord) → Contains (a ∷ c) r → (a ≡ r) ⊎ Contains c r
+pub first_or_rest : (a r : Coord) (c : List Coord) → Contains (a ∷ c) r → (a ≡ r) ⊎ Contains c r
 first_or_rest a r c (zero, within, is) = inl is
 first_or_rest a r c (suc k, within, is) = inr (k, omega arith, is)
 
@@ -74,12 +73,7 @@ module _ (R : Coord → Coord → Type 0) where
 module _ (segs : List Seg) (s : Seg) (rises : Rises s) where
   -- a segment does not pass two pixels that it meets one before the other both ways
   one_way : (c : List Coord) → IsChain segs s c → OneWay (PassesFirst s) c
-  one_way c chain a b has_a has_b before after =
-      let p = ((chain.members a).0 has_a).1 in
-      let q = ((chain.members b).0 has_b).1 in
-      lt_irrefl (lt_trans
-      (before_sweep s p.0 q.0 rises p.1.0 q.1.0 (before p.0 q.0 p.1.0 p.1.1 q.1.0 q.1.1))
-      (before_sweep s q.0 p.0 rises q.1.0 p.1.0 (after q.0 p.0 q.1.0 q.1.1 p.1.0 p.1.1)))
+  one_way c chain a b has_a has_b = passes_one_way s a b rises ((chain.members a).0 has_a).1 ((chain.members b).0 has_b).1
 
   -- a segment has one chain
   pub chain_unique : (c d : List Coord) → IsChain segs s c → IsChain segs s d → c ≡ d

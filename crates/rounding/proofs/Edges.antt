@@ -3,7 +3,7 @@ use mathlib.Core.List.{[], ◌∷◌}
 use Rattle.std.proofs.Common.{◌≡◌, ◌⊎◌, inl, inr, refl, sym, ap, subst, ℕ, zero, suc, ◌<◌, ℤ, pos, neg_ℤ, ◌+ℤ◌, ◌-ℤ◌, ◌*ℤ◌, ◌≤ℤ◌, ◌<ℤ◌, Bool, true, false, List, ◌++◌, length, get_or, Option, None, arith}
 use Rattle.std.specs.Prelude.{Contains, option_to_list}
 use Rattle.std.proofs.lemmas.List.Elements.{Contains-get_or, Contains-append_cases}
-use Rattle.exact.proofs.Ring.{lin, by_ring, Var, Lit, ◌⊕◌, ◌⊖◌, ◌⊗◌, Neg, mul_one}
+use Rattle.exact.proofs.Ring.{lin, by_ring, Var, Lit, ◌⊕◌, ◌⊖◌, ◌⊗◌, Neg, mul_one, neg_mul}
 use Rattle.exact.proofs.Compare.{le_of_lt}
 use Rattle.exact.proofs.Order.{cancel_lt_right}
 use Rattle.cov_types.specs.declared.coord.TheConstants.{LIMIT}
@@ -16,9 +16,9 @@ use Rattle.cov_types.specs.Uses.{seg_if, seg_between}
 use Rattle.plane.specs.Point.{Point, at_coord}
 use Rattle.plane.specs.Ray.{Rises}
 use Rattle.plane.specs.Snapping.{IsHot, MeetsPixel, IsChain, chain_edges}
-use Rattle.plane.proofs.Points.{d_positive}
+use Rattle.plane.proofs.Points.{d_positive, same_point-refl, first_between, second_between}
 use Rattle.plane.proofs.Forms.{form, form_not_negative-between}
-use Rattle.rounding.proofs.Near.{Near, pixel-near}
+use Rattle.rounding.proofs.Near.{Near, rounds_above, rounds_under, pixel-near, pixel_own}
 use Rattle.rounding.proofs.Pieces.{IsPiece, piece_turned, piece_at}
 
 -- ---- the segment between two points
@@ -101,20 +101,25 @@ chain_edge segs s c e rises chain h =
       | inr ends ↦ edge_along segs s e (get_or c (suc i) d) (get_or c i d) (piece_turned segs s (get_or c i d) (get_or c (suc i) d) piece) at_b at_a (sym ends.0) (sym ends.1)
     ]
 
--- ---- their range
+-- ---- the ends of a segment
 
--- over plain variables: a fraction between -l and l rounds to a whole number between them
+-- the ends of a listed segment are hot, and it meets their pixels
+pub lo_hot_met : (segs : List Seg) (s : Seg) → Contains segs s → IsHot segs s.lo × MeetsPixel s s.lo
+lo_hot_met segs s has = (
+  (at_coord s.lo, (pixel_own s.lo, inl (s, (has, inl (same_point-refl (at_coord s.lo)))))),
+  (at_coord s.lo, (first_between (at_coord s.lo) (at_coord s.hi), pixel_own s.lo)),
+)
+
+pub hi_hot_met : (segs : List Seg) (s : Seg) → Contains segs s → IsHot segs s.hi × MeetsPixel s s.hi
+hi_hot_met segs s has = (
+  (at_coord s.hi, (pixel_own s.hi, inl (s, (has, inr (same_point-refl (at_coord s.hi)))))),
+  (at_coord s.hi, (second_between (at_coord s.lo) (at_coord s.hi), pixel_own s.hi)),
+)
+
+-- ---- the range of centres
+
 rounds_low : (l r x d : ℤ) → pos 0 <ℤ d → pos 0 ≤ℤ (x +ℤ (l *ℤ d)) → Near (r *ℤ d) x d → neg_ℤ l ≤ℤ r
-rounds_low l r x d positive h near =
-    let u = near.high in
-    let below = cancel_lt_right d (neg_ℤ l -ℤ pos 1) r (le_of_lt positive) (omega (arith, lin, by_ring (l ∷ d ∷ []) ((Neg (Var 0) ⊖ Lit (pos 1)) ⊗ Var 1) (Neg (Var 0 ⊗ Var 1) ⊖ Var 1) refl)) in
-    omega (arith, lin)
-
-rounds_high : (l r x d : ℤ) → pos 0 <ℤ d → x ≤ℤ (l *ℤ d) → Near (r *ℤ d) x d → r ≤ℤ l
-rounds_high l r x d positive h near =
-    let low = near.low in
-    let below = cancel_lt_right d r (l +ℤ pos 1) (le_of_lt positive) (omega (arith, lin, by_ring (l ∷ d ∷ []) ((Var 0 ⊕ Lit (pos 1)) ⊗ Var 1) (Var 0 ⊗ Var 1 ⊕ Var 1) refl)) in
-    omega (arith, lin)
+rounds_low l r x d positive h near = rounds_above (neg_ℤ l) r x d positive (omega (arith, lin, neg_mul l d)) near
 
 -- the forms l + x, l - x, l + y and l - y
 from_left : (l : ℤ) (p : Point) → form (pos 1) (pos 0) l p ≡ p.x +ℤ (l *ℤ pos p.d)
@@ -150,9 +155,9 @@ centre_in_range s r in_range met =
     let top = form_not_negative-between (pos 0) (neg_ℤ (pos 1)) LIMIT p lo hi on (omega (arith, lin, from_top LIMIT lo)) (omega (arith, lin, from_top LIMIT hi)) in
     record {
       left = rounds_low LIMIT r.x p.x (pos p.d) (d_positive p) (omega (arith, lin, from_left LIMIT p)) near.0;
-      right = rounds_high LIMIT r.x p.x (pos p.d) (d_positive p) (omega (arith, lin, from_right LIMIT p)) near.0;
+      right = rounds_under LIMIT r.x p.x (pos p.d) (d_positive p) (omega (arith, lin, from_right LIMIT p)) near.0;
       bottom = rounds_low LIMIT r.y p.y (pos p.d) (d_positive p) (omega (arith, lin, from_bottom LIMIT p)) near.1;
-      top = rounds_high LIMIT r.y p.y (pos p.d) (d_positive p) (omega (arith, lin, from_top LIMIT p)) near.1;
+      top = rounds_under LIMIT r.y p.y (pos p.d) (d_positive p) (omega (arith, lin, from_top LIMIT p)) near.1;
     }
 
 -- so a chain edge of a segment in range is in range

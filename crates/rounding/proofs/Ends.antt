@@ -22,7 +22,7 @@ use Rattle.plane.proofs.Points.{same_point-refl, first_between, second_between}
 use Rattle.plane.proofs.Sweeps.{sweep-on_from, sweep-on_to}
 use Rattle.rounding.proofs.Near.{pixel_own}
 use Rattle.rounding.proofs.Pieces.{point_in, in_order}
-use Rattle.rounding.proofs.Edges.{seg_between-ends, edge_stands}
+use Rattle.rounding.proofs.Edges.{lo_hot_met, hi_hot_met, seg_between-ends, edge_stands}
 
 -- ---- the ends of the chain
 
@@ -35,20 +35,11 @@ module _ (segs : List Seg) (s : Seg) (c : List Coord) (rises : Rises s) (chain :
       lt_irrefl (in_order segs s c rises chain i j d before within p.0 p.0 p.1.0 p.1.1 p.1.0 moved)
 
   module _ (has : Contains segs s) where
-    -- the ends of a segment are in hot pixels that it meets
     lo_at : Contains c s.lo
-    lo_at =
-        (chain.members s.lo).1 (
-          (at_coord s.lo, (pixel_own s.lo, inl (s, (has, inl (same_point-refl (at_coord s.lo)))))),
-          (at_coord s.lo, (first_between (at_coord s.lo) (at_coord s.hi), pixel_own s.lo)),
-        )
+    lo_at = (chain.members s.lo).1 (lo_hot_met segs s has)
 
     hi_at : Contains c s.hi
-    hi_at =
-        (chain.members s.hi).1 (
-          (at_coord s.hi, (pixel_own s.hi, inl (s, (has, inr (same_point-refl (at_coord s.hi)))))),
-          (at_coord s.hi, (second_between (at_coord s.lo) (at_coord s.hi), pixel_own s.hi)),
-        )
+    hi_at = (chain.members s.hi).1 (hi_hot_met segs s has)
 
     -- the chain begins at lo
     lo_first : (k : ℕ) → k < length c → get_or c k s.lo ≡ s.lo → k ≡ 0

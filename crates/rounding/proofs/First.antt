@@ -15,7 +15,7 @@ use Rattle.plane.specs.Snapping.{IsInPixel, MeetsPixel, IsBefore, PassesFirst}
 use Rattle.plane.proofs.Points.{d_positive, between_by}
 use Rattle.plane.proofs.Sides.{side_zero-on}
 use Rattle.plane.proofs.Sweeps.{sweep-on_from, sweep-same}
-use Rattle.rounding.specs.Laws.{ComesFirst}
+use Rattle.rounding.specs.Formulas.{ComesFirst}
 use Rattle.rounding.proofs.Near.{Near, pixel-near}
 use Rattle.rounding.proofs.Passing.{before_sweep}
 
@@ -167,7 +167,7 @@ near_less a x d b y e hd he h k l =
     omega (arith, lin, add_mul x x e, add_mul y y d, pos_times 2 (((b -ℤ a) -ℤ pos 1) *ℤ (d *ℤ e)))
 
 -- a segment does not go left
-goes_right : (s : Seg) → s.lo.x ≤ℤ s.hi.x
+pub goes_right : (s : Seg) → s.lo.x ≤ℤ s.hi.x
 goes_right s = elim (cases_before s.lo s.hi s.ordered) [ inl l ↦ le_of_lt l | inr same ↦ le_of_eq same.0 ]
 
 -- of two pixels the one whose centre comes first is passed first

@@ -14,3 +14,4 @@ pub mod Unique
 pub mod InRange
 pub mod First
 pub mod Lone
+pub mod Meets

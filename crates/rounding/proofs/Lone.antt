@@ -12,10 +12,10 @@ use Rattle.plane.specs.Ray.{Rises}
 use Rattle.plane.specs.Contact.{IsOnlyCommon}
 use Rattle.plane.specs.Snapping.{IsInPixel, IsHot, IsCrossingOf, MeetsPixel, PassesFirst, IsChain}
 use Rattle.plane.proofs.Points.{same_point-refl, same_point-sym, first_between, second_between}
-use Rattle.rounding.specs.Laws.{ComesFirst}
+use Rattle.rounding.specs.Formulas.{ComesFirst}
 use Rattle.rounding.proofs.Near.{pixel_own, pixel_unique, pixel_same}
 use Rattle.rounding.proofs.First.{passes_by_centre}
-use Rattle.rounding.proofs.Edges.{in_one}
+use Rattle.rounding.proofs.Edges.{in_one, lo_hot_met, hi_hot_met}
 use Rattle.rounding.proofs.Unique.{first_or_rest}
 
 -- the hot centres that a segment meets, in the order of centres, are its chain
@@ -26,19 +26,6 @@ chain_by_centres segs s c rises members ordered = record {
 }
 
 -- ---- the ends of a segment
-
--- they are hot, and the segment meets their pixels
-pub lo_hot_met : (segs : List Seg) (s : Seg) → Contains segs s → IsHot segs s.lo × MeetsPixel s s.lo
-lo_hot_met segs s has = (
-  (at_coord s.lo, (pixel_own s.lo, inl (s, (has, inl (same_point-refl (at_coord s.lo)))))),
-  (at_coord s.lo, (first_between (at_coord s.lo) (at_coord s.hi), pixel_own s.lo)),
-)
-
-pub hi_hot_met : (segs : List Seg) (s : Seg) → Contains segs s → IsHot segs s.hi × MeetsPixel s s.hi
-hi_hot_met segs s has = (
-  (at_coord s.hi, (pixel_own s.hi, inl (s, (has, inr (same_point-refl (at_coord s.hi)))))),
-  (at_coord s.hi, (second_between (at_coord s.lo) (at_coord s.hi), pixel_own s.hi)),
-)
 
 -- lo comes before hi
 ends_ordered : (s : Seg) → ComesFirst s s.lo s.hi

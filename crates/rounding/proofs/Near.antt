@@ -136,6 +136,21 @@ rounds_below c c' x d positive h k =
 pub rounds_once : (c c' x d : ℤ) → pos 0 <ℤ d → Near (c *ℤ d) x d → Near (c' *ℤ d) x d → c ≡ c'
 rounds_once c c' x d positive h k = le_antisymm (rounds_below c c' x d positive h k) (rounds_below c' c x d positive k h)
 
+-- over a whole number it rounds to one that is not below it, and under one to one that is not above it
+pub rounds_above : (l r x d : ℤ) → pos 0 <ℤ d → (l *ℤ d) ≤ℤ x → Near (r *ℤ d) x d → l ≤ℤ r
+rounds_above l r x d positive h near =
+    let u = near.high in
+    let next = next_multiple r d in
+    let below = cancel_lt_right d l (r +ℤ pos 1) (le_of_lt positive) (omega (arith, lin)) in
+    omega (arith, lin)
+
+pub rounds_under : (l r x d : ℤ) → pos 0 <ℤ d → x ≤ℤ (l *ℤ d) → Near (r *ℤ d) x d → r ≤ℤ l
+rounds_under l r x d positive h near =
+    let low = near.low in
+    let next = next_multiple l d in
+    let below = cancel_lt_right d r (l +ℤ pos 1) (le_of_lt positive) (omega (arith, lin)) in
+    omega (arith, lin)
+
 -- the fractions x/d and y/e are one number and x/d rounds to c: so does y/e
 pub near_same : (c x d y e : ℤ) → pos 0 <ℤ d → pos 0 <ℤ e → x *ℤ e ≡ y *ℤ d → Near (c *ℤ d) x d → Near (c *ℤ e) y e
 near_same c x d y e hd he same h =

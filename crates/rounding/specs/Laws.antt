@@ -1,5 +1,5 @@
 -- The laws of snap rounding, for lists of segments in range.
-use Rattle.std.specs.Prelude.{◌≡◌, ◌-◌, ◌%◌, ◌<◌, ◌<ℤ◌, ◌≤ℤ◌, ◌↔◌, Bool, List, length, slice_index_or, sum_by, All, AllPairs, Contains, ◌⊎◌}
+use Rattle.std.specs.Prelude.{◌≡◌, ◌-◌, ◌%◌, ◌<◌, ◌↔◌, Bool, List, [], ◌∷◌, length, slice_index_or, sum_by, All, AllPairs, Contains, ◌⊎◌}
 use Rattle.cov_types.specs.declared.coord.Coord.{Coord}
 use Rattle.cov_types.specs.declared.seg.Seg.{Seg}
 use Rattle.cov_types.specs.Range.{IsInRange, IsSegInRange}
@@ -7,6 +7,7 @@ use Rattle.cov_types.specs.Uses.{ends_inside}
 use Rattle.plane.specs.Point.{Point, at_coord}
 use Rattle.plane.specs.Segment.{IsOn}
 use Rattle.plane.specs.Snapping.{IsInPixel, IsHot, MeetsPixel, PassesFirst, IsChain, chain_edges}
+use Rattle.rounding.specs.Formulas.{ComesFirst, IsBeside}
 use Rattle.plane.specs.Noded.{MeetInEnds, IsWithinHalf}
 
 -- c is the chain of s, a segment of a list of segments in range
@@ -55,13 +56,21 @@ CentresDiffer = (segs : List Seg) (s : Seg) (c : List Coord) → IsChainInRange 
 abbrev pub EdgesDiffer : Type 0
 EdgesDiffer = (segs : List Seg) (s : Seg) (c : List Coord) → IsChainInRange segs s c → AllPairs (λ e f. ¬ (e ≡ f)) (chain_edges c)
 
--- from lo to hi, the centre a comes before b: by x, then by y, upwards or downwards as the segment goes
-abbrev pub ComesFirst : Seg → Coord → Coord → Type 0
-ComesFirst s a b = (a.x <ℤ b.x) ⊎ ((a.x ≡ b.x) × (((s.lo.y ≤ℤ s.hi.y) × (a.y <ℤ b.y)) ⊎ ((s.hi.y <ℤ s.lo.y) × (b.y <ℤ a.y))))
+-- a segment meets exactly the pixels whose centres are beside it
+abbrev pub MeetsWhereBeside : Type 0
+MeetsWhereBeside = (s : Seg) (r : Coord) → MeetsPixel s r ↔ IsBeside s r
 
--- so a segment in range passes two pixels that it meets in the order of their centres
+-- and in range it passes two of them in the order of their centres
 abbrev pub PassingOrder : Type 0
 PassingOrder = (s : Seg) (a b : Coord) → IsSegInRange s → MeetsPixel s a → MeetsPixel s b → PassesFirst s a b ↔ ComesFirst s a b
+
+-- the hot centres that a segment meets, in the order of centres, are its chain
+abbrev pub ChainByCentres : Type 0
+ChainByCentres = (segs : List Seg) (s : Seg) (c : List Coord) → IsSegInRange s → ((r : Coord) → Contains c r ↔ (IsHot segs r × IsBeside s r)) → AllPairs (ComesFirst s) c → IsChain segs s c
+
+-- the chain of a segment alone is its two ends
+abbrev pub LoneChain : Type 0
+LoneChain = (s : Seg) → IsSegInRange s → IsChain (s ∷ []) s (s.lo ∷ s.hi ∷ [])
 
 -- of any set of points, the edges of a chain have an even number of ends in it just where the segment has
 abbrev pub EvenEnds : Type 0

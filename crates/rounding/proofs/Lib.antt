@@ -10,8 +10,8 @@ pub mod Crossing
 pub mod NoCrossing
 pub mod Noded
 pub mod Ends
-pub mod Unique
-pub mod InRange
 pub mod First
-pub mod Lone
+pub mod Unique
 pub mod Meets
+pub mod Lone
+pub mod InRange

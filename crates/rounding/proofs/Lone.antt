@@ -12,9 +12,10 @@ use Rattle.plane.specs.Ray.{Rises}
 use Rattle.plane.specs.Contact.{IsOnlyCommon}
 use Rattle.plane.specs.Snapping.{IsInPixel, IsHot, IsCrossingOf, MeetsPixel, PassesFirst, IsChain}
 use Rattle.plane.proofs.Points.{same_point-refl, same_point-sym, first_between, second_between}
-use Rattle.rounding.specs.Formulas.{ComesFirst}
+use Rattle.rounding.specs.Formulas.{ComesFirst, IsBeside}
 use Rattle.rounding.proofs.Near.{pixel_own, pixel_unique, pixel_same}
 use Rattle.rounding.proofs.First.{passes_by_centre}
+use Rattle.rounding.proofs.Meets.{meets-is}
 use Rattle.rounding.proofs.Edges.{in_one, lo_hot_met, hi_hot_met}
 use Rattle.rounding.proofs.Unique.{first_or_rest}
 
@@ -24,6 +25,14 @@ chain_by_centres segs s c rises members ordered = record {
   members = members;
   in_order = λ i j d before within. passes_by_centre s _ _ rises (ordered i j d before within);
 }
+
+-- the same where what it meets is told by the centres
+pub chain_by_formulas : (segs : List Seg) (s : Seg) (c : List Coord) → Rises s → ((r : Coord) → Contains c r ↔ (IsHot segs r × IsBeside s r)) → AllPairs (ComesFirst s) c → IsChain segs s c
+chain_by_formulas segs s c rises members ordered =
+    chain_by_centres segs s c rises (λ r. (λ has. met r ((members r).0 has), λ h. (members r).1 (h.0, (meets-is s r).0 h.1))) ordered
+  where
+    met : (r : Coord) → IsHot segs r × IsBeside s r → IsHot segs r × MeetsPixel s r
+    met r h = (h.0, (meets-is s r).1 h.1)
 
 -- ---- the ends of a segment
 

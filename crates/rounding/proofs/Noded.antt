@@ -1,7 +1,8 @@
 -- Snap rounding is fully noded: two chain edges are equal, or have at most common ends in common.
 use mathlib.Core.List.{[], ◌∷◌}
 use Rattle.std.proofs.Common.{◌≡◌, ◌⊎◌, inl, inr, refl, sym, ◌∙◌, ap, subst, ◌^◌, ℤ, pos, neg_ℤ, ◌-ℤ◌, ◌*ℤ◌, ◌<ℤ◌, ◌≤ℤ◌, List, arith}
-use Rattle.std.specs.Prelude.{Contains}
+use Rattle.std.specs.Prelude.{Contains, All}
+use Rattle.std.proofs.lemmas.List.Elements.{All-contains}
 use Rattle.exact.proofs.Ring.{lin, by_ring, Var, Lit, ◌⊖◌, ◌⊗◌, Neg, mul_zero}
 use Rattle.exact.proofs.Compare.{eq_or_not, trichotomy, le_cases, le_of_lt, lt_excludes_eq}
 use Rattle.exact.proofs.Order.{cancel_eq, cancel_lt_right}
@@ -13,7 +14,7 @@ use Rattle.plane.specs.Point.{Point, SamePoint, at_coord}
 use Rattle.plane.specs.Segment.{IsOn, IsEnd, turn_of, side}
 use Rattle.plane.specs.Ray.{sweep, Rises}
 use Rattle.plane.specs.Contact.{IsCommon}
-use Rattle.plane.specs.Noded.{MeetInEnds}
+use Rattle.plane.specs.Noded.{MeetInEnds, IsNodedFully}
 use Rattle.plane.specs.Snapping.{IsHot, IsChain, chain_edges}
 use Rattle.plane.proofs.Points.{d_positive, same_point-refl, same_point-sym, between-moved}
 use Rattle.plane.proofs.Forms.{form}
@@ -22,6 +23,7 @@ use Rattle.plane.proofs.Sweeps.{sweep-one_to_one, rises-in_range, sweep-on_from,
 use Rattle.plane.proofs.Contacts.{end-same}
 use Rattle.plane.proofs.Meeting.{turns-balance, AreOpposite, MeetOnce, opposite_meet}
 use Rattle.plane.proofs.Along.{on_from_turn}
+use Rattle.rounding.specs.Laws.{IsNodedEdge}
 use Rattle.rounding.proofs.Pieces.{piece_turned}
 use Rattle.rounding.proofs.NoCrossing.{opposite_from_common, three_on_line, rise-line, is_end_or_not, no_crossing}
 use Rattle.rounding.proofs.Crossing.{CentresCross}
@@ -267,3 +269,12 @@ module _ (segs : List Seg) (s t : Seg) (has_s : Contains segs s) (has_t : Contai
         first_range = edge_in_range segs s e range_s first;
         second_range = edge_in_range segs t f range_t second;
       })
+
+-- so a list of chain edges is fully noded
+pub list_fully_noded : (segs : List Seg) → All IsSegInRange segs → (edges : List Seg) → All (IsNodedEdge segs) edges → IsNodedFully edges
+list_fully_noded segs in_range edges noded e f has_e has_f =
+    let first = All-contains (IsNodedEdge segs) edges e noded has_e in
+    let second = All-contains (IsNodedEdge segs) edges f noded has_f in
+    fully_noded segs first.0 second.0 first.1.1.0 second.1.1.0
+    (All-contains IsSegInRange segs first.0 in_range first.1.1.0) (All-contains IsSegInRange segs second.0 in_range second.1.1.0)
+    first.1.0 second.1.0 first.1.1.1 second.1.1.1 e f first.1.1.2 second.1.1.2

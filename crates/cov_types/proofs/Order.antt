@@ -1,11 +1,8 @@
--- The order of coordinates, and segments by their ends.
-use mathlib.Core.Bool.{Bool-set}
-use mathlib.Core.HLevel.{is_prop→PathP}
-use Rattle.std.proofs.Common.{◌≡◌, ℤ, ◌<ℤ◌, ◌≤ℤ◌, int_lt, ◌&&◌, ◌||◌, not, true, false, ◌⊎◌, IsTrue, inl, inr, refl, arith}
+-- The order of coordinates.
+use Rattle.std.proofs.Common.{◌≡◌, ◌<ℤ◌, true, false, ◌⊎◌, IsTrue, inl, inr, refl, arith}
 use Rattle.std.proofs.lemmas.Int.{ints}
 use Rattle.cov_types.specs.Coord.{is_before}
 use Rattle.cov_types.specs.declared.coord.Coord.{Coord}
-use Rattle.cov_types.specs.declared.seg.Seg.{Seg}
 
 -- a coordinate that comes before another has the lesser x, or the same x and the lesser y
 pub cases_before : (a b : Coord) → IsTrue (is_before a b) → (a.x <ℤ b.x) ⊎ ((a.x ≡ b.x) × (a.y <ℤ b.y))
@@ -32,7 +29,7 @@ pub same_coords : (a b : Coord) → a.x ≡ b.x → a.y ≡ b.y → a ≡ b
 same_coords a b e f = λ i. record { x = e i; y = f i }
 
 -- two coordinates of which neither comes before the other are one
-same_from_neither : (a b : Coord) → is_before a b ≡ false → is_before b a ≡ false → a ≡ b
+pub same_from_neither : (a b : Coord) → is_before a b ≡ false → is_before b a ≡ false → a ≡ b
 same_from_neither a b h k =
     let e : a.x ≡ b.x = grind (arith, ints) in
     let f : a.y ≡ b.y = grind (arith, ints) in
@@ -48,8 +45,3 @@ cases_coords a b =
         | false ↦ λ k. inr (inl (same_from_neither a b h k))
       ] refl
     ] refl
-
--- two segments with the same ends are one
-pub same_segs : (s t : Seg) → s.lo ≡ t.lo → s.hi ≡ t.hi → s ≡ t
-same_segs s t e f =
-    λ i. record { lo = e i; hi = f i; ordered = is_prop→PathP (λ j. IsTrue (is_before (e j) (f j))) (λ j. Bool-set (is_before (e j) (f j)) true) s.ordered t.ordered i }

@@ -1,5 +1,5 @@
 -- Coverages as lists: members of polygons of rings of points.
-use Rattle.std.specs.Prelude.{ℕ, ◌≤◌, ◌<◌, ◌^◌, List, length, All}
+use Rattle.std.specs.Prelude.{◌≤◌, ◌<◌, ◌^◌, List, length, All}
 use Rattle.cov_types.specs.Range.{IsInRange}
 use Rattle.cov_types.specs.declared.coord.Coord.{Coord}
 

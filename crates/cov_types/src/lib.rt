@@ -10,13 +10,19 @@ mod coverage;
 mod edge_use;
 mod no_memory;
 mod range;
+mod same;
 mod seg;
 mod shape;
+#[cfg(test)]
+mod tests;
+mod use_list;
 
 pub use coord::{Coord, LIMIT};
 pub use coverage::{Coverage, Member, Poly, Ring};
 pub use edge_use::EdgeUse;
 pub use no_memory::NoMemory;
 pub use range::in_range;
+pub use same::same_coverage;
 pub use seg::Seg;
 pub use shape::formed;
+pub use use_list::uses;

@@ -13,10 +13,19 @@ pub struct Seg {
 
 impl Seg {
     ghost use Rattle.cov_types.specs.Seg.{IsSegBetween};
+    ghost use Rattle.cov_types.specs.Uses.{seg_between};
+
+    /// Whether the two are one segment.
+    pub fn is_same(self, other: Seg) -> bool
+        ensures { IsTrue result ↔ (self ≡ other) }
+    {
+        self == other
+    }
 
     /// The segment between two points, or None where they are one point.
     pub fn between(a: Coord, b: Coord) -> Option<Seg>
         ensures same { IsNone result ↔ (a ≡ b) }
+        ensures value { result ≡ seg_between a b }
         ensures ends { IfSome result (λ s. IsSegBetween a b s) }
     {
         if a < b {

@@ -1,5 +1,5 @@
 -- Arithmetic in 128 bits that cannot overflow.
-use Rattle.std.proofs.Common.{◌≡◌, ◌≤◌, ◌<◌, ◌^◌, ◌-ℤ◌, ◌*ℤ◌, ℤ, unsigned_abs, FitsSigned, to_z, of_z, arith, lit<}
+use Rattle.std.proofs.Common.{◌≡◌, ◌≤◌, ◌^◌, ◌-ℤ◌, ◌*ℤ◌, ℤ, unsigned_abs, FitsSigned, to_z, of_z, arith, lit<}
 use Rattle.std.proofs.Math.Nat.{mul-le-mul}
 use Rattle.std.proofs.lemmas.Int.{ints, to_z-of_z, fits_signed_mul, unsigned_abs-mul}
 use mir.Syntax.{w128}

@@ -1,6 +1,6 @@
 -- Segments one after the other, and segments on a common line.
-use mathlib.Core.List.{List, [], ◌∷◌}
-use Rattle.std.proofs.Common.{◌≡◌, ◌⊎◌, inl, inr, refl, sym, ◌∙◌, ap, subst, ◌^◌, ℤ, pos, neg_ℤ, ◌+ℤ◌, ◌-ℤ◌, ◌*ℤ◌, ◌<ℤ◌, ◌≤ℤ◌, arith}
+use mathlib.Core.List.{[], ◌∷◌}
+use Rattle.std.proofs.Common.{◌≡◌, ◌⊎◌, inl, inr, refl, sym, ◌∙◌, ap, subst, ◌^◌, ℤ, pos, ◌+ℤ◌, ◌-ℤ◌, ◌*ℤ◌, ◌<ℤ◌, ◌≤ℤ◌, arith}
 use Rattle.exact.proofs.Ring.{lin, by_two, Term, Var, Lit, ◌⊕◌, ◌⊖◌, ◌⊗◌, Neg, mul_one, mul_zero}
 use Rattle.exact.proofs.Order.{cancel_eq, lt_mul}
 use Rattle.exact.proofs.Compare.{lt_or_ge}
@@ -8,13 +8,13 @@ use Rattle.cov_types.specs.declared.coord.Coord.{Coord}
 use Rattle.cov_types.specs.declared.seg.Seg.{Seg}
 use Rattle.plane.specs.declared.contact.Contact.TheVariants.{CommonEnd}
 use Rattle.plane.specs.Point.{Point, SamePoint, at_coord}
-use Rattle.plane.specs.Segment.{IsOn, IsEnd, turn_of, side}
+use Rattle.plane.specs.Segment.{IsOn, turn_of}
 use Rattle.plane.specs.Ray.{sweep, Rises}
 use Rattle.plane.specs.Contact.{IsCommon, IsOnlyCommon, HaveTwoCommon, IsContact}
 use Rattle.plane.proofs.Points.{d_positive, same_point-refl, first_between, second_between}
 use Rattle.plane.proofs.Sides.{side-at_coord, side_zero-on}
 use Rattle.plane.proofs.Sweeps.{sweep-same, sweep-on_from, sweep-on_to, on_from_sweep, same_as_hi}
-use Rattle.plane.proofs.Meeting.{turns-balance}
+use Rattle.plane.proofs.Meeting.{turns-balance, turn_term}
 
 -- ---- segments one after the other
 
@@ -52,9 +52,6 @@ pub common_end-exchange : (s t : Seg) → IsContact t s CommonEnd → IsContact 
 common_end-exchange s t c = (c.0, (only-exchange s t c.0 c.1.0, c.1.2, c.1.1))
 
 -- ---- segments on a common line
-
-abbrev turn_term : Term → Term → Term → Term → Term → Term → Term
-turn_term ax ay bx by cx cy = (bx ⊖ ax) ⊗ (cy ⊖ ay) ⊖ (by ⊖ ay) ⊗ (cx ⊖ ax)
 
 -- the rise of ab times the turn of a against cd, in the numbers k, a, b, c, d
 line_turn : (k ax ay bx by cx cy dx dy : ℤ)

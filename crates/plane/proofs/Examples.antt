@@ -10,7 +10,7 @@ use Rattle.plane.specs.Contact.{IsOnlyCommon, HaveTwoCommon}
 use Rattle.plane.specs.Examples.{grid, segment, bottom, right, top, OverExamples, SquareExamples, ContactExamples}
 use Rattle.plane.proofs.Points.{same_point-refl, first_between, second_between}
 use Rattle.plane.proofs.Sides.{side_zero-on}
-use Rattle.plane.proofs.Contacts.{common_end_in_a_row}
+use Rattle.plane.proofs.Along.{chained}
 
 pub over_examples : OverExamples
 unfolding side sweep
@@ -103,8 +103,8 @@ unfolding side sweep
 contact_examples = record {
   apart = λ q h. (let low = side_zero-on bottom q h.0 in let high = side_zero-on top q h.1 in let d = q.positive in omega (arith, ints));
   same = refl;
-  common_end = common_end_in_a_row bottom right refl (record { lt = tt }) (record { lt = tt });
-  straight_on = common_end_in_a_row level (segment (grid 4 0) (grid 6 0) refl) refl (record { lt = tt }) (record { lt = tt });
+  common_end = chained bottom right (record { lt = tt }) (record { lt = tt }) refl;
+  straight_on = chained level (segment (grid 4 0) (grid 6 0) refl) (record { lt = tt }) (record { lt = tt }) refl;
   cross = (
     half,
     (

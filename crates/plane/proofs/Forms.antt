@@ -1,21 +1,15 @@
 -- Linear forms a·x + b·y + c·d at points, and their signs between two points.
 use mathlib.Core.List.{[], ◌∷◌}
-use Rattle.std.proofs.Common.{◌≡◌, refl, ◌∙◌, ap, ℕ, zero, suc, ◌+◌, ◌*◌, ◌≤◌, ◌<◌, ℤ, pos, neg_ℤ, ◌+ℤ◌, ◌*ℤ◌, ◌<ℤ◌, ◌≤ℤ◌, arith}
+use Rattle.std.proofs.Common.{◌≡◌, refl, ◌∙◌, ap, ℕ, zero, suc, ◌+◌, ◌*◌, ◌≤◌, ℤ, pos, neg_ℤ, ◌+ℤ◌, ◌*ℤ◌, ◌<ℤ◌, ◌≤ℤ◌, arith}
 use Rattle.exact.proofs.Ring.{lin, by_ring, by_two, Term, Var, ◌⊕◌, ◌⊗◌, Neg, mul_comm}
 use Rattle.exact.proofs.Compare.{le_of_lt}
 use Rattle.exact.proofs.Sign.{nonneg_times_nonneg, positive_times_positive, nonneg_factor, positive_factor}
 use Rattle.plane.specs.Point.{Point, SamePoint, IsBetween}
-use Rattle.plane.proofs.Points.{d_positive}
+use Rattle.plane.proofs.Points.{d_positive, weights_positive}
 
 -- the form with the coefficients a, b, c at a point, times the point's denominator
 unfoldable pub form : ℤ → ℤ → ℤ → Point → ℤ
 form a b c p = ((a *ℤ p.x) +ℤ (b *ℤ p.y)) +ℤ (c *ℤ pos p.d)
-
--- a weighted denominator is positive
-pub weights_positive : (m n d e : ℕ) → 1 ≤ m + n → 1 ≤ d → 1 ≤ e → 0 < m * d + n * e
-weights_positive zero zero d e w h k = absurd (omega arith)
-weights_positive zero (suc n) d e w h k = omega arith
-weights_positive (suc m) n d e w h k = omega arith
 
 -- ---- over plain variables: a mean with the weights m and n, whose sum is w
 

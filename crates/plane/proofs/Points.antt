@@ -1,6 +1,6 @@
 -- One point, and points between two points.
 use mathlib.Core.List.{[], ◌∷◌}
-use Rattle.std.proofs.Common.{◌≡◌, ◌⊎◌, inl, inr, refl, sym, ◌+◌, ◌*◌, ℤ, pos, negsuc, ◌+ℤ◌, ◌*ℤ◌, ◌<ℤ◌, ◌≤ℤ◌, arith}
+use Rattle.std.proofs.Common.{◌≡◌, ◌⊎◌, inl, inr, refl, sym, ℕ, zero, suc, ◌+◌, ◌*◌, ◌≤◌, ◌<◌, ℤ, pos, negsuc, ◌+ℤ◌, ◌*ℤ◌, ◌<ℤ◌, ◌≤ℤ◌, arith}
 use Rattle.exact.proofs.Ring.{lin, by_ring, by_one, by_two, Var, Lit, ◌⊕◌, ◌⊗◌, Neg}
 use Rattle.exact.proofs.Compare.{eq_or_not}
 use Rattle.exact.proofs.Order.{cancel_eq}
@@ -96,6 +96,34 @@ between-moved r s p q same h =
       x = moved_mean r.x (pos r.d) s.x (pos s.d) w ((pos h.first *ℤ p.x) +ℤ (pos h.second *ℤ q.x)) (d_positive r) same.0 h.x;
       y = moved_mean r.y (pos r.d) s.y (pos s.d) w ((pos h.first *ℤ p.y) +ℤ (pos h.second *ℤ q.y)) (d_positive r) same.1 h.y;
     }
+
+-- a weighted denominator is positive
+pub weights_positive : (m n d e : ℕ) → 1 ≤ m + n → 1 ≤ d → 1 ≤ e → 0 < m * d + n * e
+weights_positive zero zero d e w h k = absurd (omega arith)
+weights_positive zero (suc n) d e w h k = omega arith
+weights_positive (suc m) n d e w h k = omega arith
+
+-- over plain variables: the end p/pd is the same number as o/od
+moved_end : (r d p pd q qd o od m n : ℤ) → p *ℤ od ≡ o *ℤ pd → r *ℤ ((m *ℤ pd) +ℤ (n *ℤ qd)) ≡ d *ℤ ((m *ℤ p) +ℤ (n *ℤ q))
+    → r *ℤ (((m *ℤ pd) *ℤ od) +ℤ ((n *ℤ od) *ℤ qd)) ≡ d *ℤ (((m *ℤ pd) *ℤ o) +ℤ ((n *ℤ od) *ℤ q))
+moved_end r d p pd q qd o od m n same h =
+    by_two (r ∷ d ∷ p ∷ pd ∷ q ∷ qd ∷ o ∷ od ∷ m ∷ n ∷ [])
+    (Var 0 ⊗ ((Var 8 ⊗ Var 3) ⊗ Var 7 ⊕ (Var 9 ⊗ Var 7) ⊗ Var 5)) (Var 1 ⊗ ((Var 8 ⊗ Var 3) ⊗ Var 6 ⊕ (Var 9 ⊗ Var 7) ⊗ Var 4))
+    (Var 1 ⊗ Var 8) (Var 2 ⊗ Var 7) (Var 6 ⊗ Var 3)
+    (Var 7) (Var 0 ⊗ (Var 8 ⊗ Var 3 ⊕ Var 9 ⊗ Var 5)) (Var 1 ⊗ (Var 8 ⊗ Var 2 ⊕ Var 9 ⊗ Var 4)) refl same h
+
+-- a point between two points stays so where an end is written as another fraction
+pub between-first_moved : (r p q o : Point) → SamePoint p o → IsBetween r p q → IsBetween r o q
+between-first_moved r p q o same h = record {
+  first = h.first * p.d;
+  second = h.second * o.d;
+  weighted = weights_positive h.first h.second p.d o.d h.weighted p.positive o.positive;
+  x = moved_end r.x (pos r.d) p.x (pos p.d) q.x (pos q.d) o.x (pos o.d) (pos h.first) (pos h.second) same.0 h.x;
+  y = moved_end r.y (pos r.d) p.y (pos p.d) q.y (pos q.d) o.y (pos o.d) (pos h.first) (pos h.second) same.1 h.y;
+}
+
+pub between-second_moved : (r p q o : Point) → SamePoint q o → IsBetween r p q → IsBetween r p o
+between-second_moved r p q o same h = between-sym r o p (between-first_moved r q p o same (between-sym r p q h))
 
 -- over plain variables: a combination of p and q with the whole weights m and n, times some k
 combined : (k r d p pd q qd m n : ℤ) → k *ℤ r ≡ (m *ℤ p) +ℤ (n *ℤ q) → k *ℤ d ≡ (m *ℤ pd) +ℤ (n *ℤ qd) → r *ℤ ((m *ℤ pd) +ℤ (n *ℤ qd)) ≡ d *ℤ ((m *ℤ p) +ℤ (n *ℤ q))

@@ -35,10 +35,13 @@ ContactLaw = (s t : Seg) (c k : Contact) → IsContact s t c → IsContact s t k
 
 -- of one point as two fractions p and q the same holds
 pub record AreAlike (p q : Point) : Type 0 where
+  pub on_right : (s : Seg) → (side s p <ℤ pos 0) ↔ (side s q <ℤ pos 0)
+  pub on_line : (s : Seg) → (side s p ≡ pos 0) ↔ (side s q ≡ pos 0)
   pub on : (s : Seg) → IsOn s p ↔ IsOn s q
   pub over : (e : Seg) → is_over e p ≡ is_over e q
   pub held : (edges : List Seg) → holds edges p ≡ holds edges q
   pub held_by_member : (uses : List EdgeUse) (member : ℕ) → member_holds uses member p ≡ member_holds uses member q
 
+-- the definitions speak of points and not of the fractions that write them
 abbrev pub SamePointLaw : Type 0
 SamePointLaw = (p q : Point) → SamePoint p q → AreAlike p q

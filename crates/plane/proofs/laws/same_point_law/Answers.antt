@@ -1,8 +1,10 @@
-use Rattle.plane.proofs.Same.{on-same, over-same, holds-same, member_holds-same}
+use Rattle.plane.proofs.Same.{side_negative-same, side_zero-same, on-same, over-same, holds-same, member_holds-same}
 use Rattle.plane.proofs.laws.same_point_law.Goals as goal
 
 pub returns : goal.returns
 returns c = λ p q same. record {
+  on_right = λ s. side_negative-same s p q same;
+  on_line = λ s. side_zero-same s p q same;
   on = λ s. on-same s p q same;
   over = λ e. over-same e p q same;
   held = λ edges. holds-same edges p q same;

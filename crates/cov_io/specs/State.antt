@@ -1,5 +1,5 @@
 -- What a files object tells of itself.
-use Rattle.std.specs.Prelude.{ℕ, List, Option, Bool, IsTrue}
+use Rattle.std.specs.Prelude.{ℕ, List, [], Option, None, Bool, false, IsTrue}
 
 -- the faults so far, the current input and output, and what the files hold, as far as it is told
 pub record State : Type 0 where
@@ -21,3 +21,20 @@ pub record IsTelling (s : State) : Type 0 where
   pub output : IsTrue s.tells_files → IsTrue s.tells_output
   pub left : IsTrue s.tells_files → IsTrue s.tells_left
   pub files : IsTrue s.tells_room → IsTrue s.tells_files
+
+-- an object that tells the two counts and whether there is an input and an output, and nothing besides
+abbrev pub untold : ℕ → ℕ → Bool → Bool → State
+untold reads writes input output = record {
+  read_faults = reads;
+  write_faults = writes;
+  has_input = input;
+  has_output = output;
+  tells_output = false;
+  tells_left = false;
+  tells_files = false;
+  tells_room = false;
+  output = [];
+  left = [];
+  files = λ _. None;
+  room = 0;
+}

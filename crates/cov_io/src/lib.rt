@@ -5,10 +5,24 @@
 //! the file with all of the bytes, or at a fault with the first of them; both leave every other file alone.
 #![tactic(auto)]
 
+mod disk;
+mod fail;
+mod faults;
 mod files;
 mod input;
 mod output;
+mod plan;
+mod shelf;
+mod shelf_file;
+mod store;
 
+pub use disk::Disk;
+pub use fail::{Call, Fail};
 pub use files::{Failed, Files};
 pub use input::{SlurpError, slurp};
 pub use output::{WriteFault, spill};
+pub use shelf::Shelf;
+pub use shelf_file::ShelfFile;
+
+#[cfg(test)]
+mod tests;

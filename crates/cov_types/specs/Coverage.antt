@@ -3,13 +3,15 @@ use Rattle.std.specs.Prelude.{◌≤◌, ◌<◌, ◌^◌, List, length, All}
 use Rattle.cov_types.specs.Range.{IsInRange}
 use Rattle.cov_types.specs.declared.coord.Coord.{Coord}
 
--- each point of the ring, of each ring of the polygon, of each polygon of the member is in range
+-- every point of the ring is in range
 abbrev pub IsRingInRange : List Coord → Type 0
 IsRingInRange points = All IsInRange points
 
+-- every point of the polygon is in range
 abbrev pub IsPolyInRange : List (List Coord) → Type 0
 IsPolyInRange rings = All IsRingInRange rings
 
+-- every point of the member is in range
 abbrev pub IsMemberInRange : List (List (List Coord)) → Type 0
 IsMemberInRange polys = All IsPolyInRange polys
 
@@ -18,13 +20,15 @@ pub record AllInRange (members : List (List (List (List Coord)))) : Type 0 where
   pub coords : All IsMemberInRange members
   pub count : length members < 2 ^ 32
 
--- a ring of three points or more; a polygon of at least a ring, all such; a member of such polygons
+-- the ring has three points or more
 abbrev pub IsRingFormed : List Coord → Type 0
 IsRingFormed points = 3 ≤ length points
 
+-- the polygon has a ring, and every ring of it has three points or more
 abbrev pub IsPolyFormed : List (List Coord) → Type 0
 IsPolyFormed rings = (1 ≤ length rings) × All IsRingFormed rings
 
+-- every polygon of the member has a ring, and every ring three points or more
 abbrev pub IsMemberFormed : List (List (List Coord)) → Type 0
 IsMemberFormed polys = All IsPolyFormed polys
 

@@ -34,3 +34,21 @@ segments_line (s ∷ segs) = codes "MULTILINESTRING " ++ in_parentheses (separat
 -- one line for each list of segments
 abbrev pub lines_text : List (List Seg) → List ℕ
 lines_text lists = flat_map segments_line lists
+
+-- a ring: its positions, the first again at the end
+abbrev pub ring_text : List Coord → List ℕ
+ring_text points = in_parentheses (separated position_text (points ++ take 1 points))
+
+-- a polygon: its rings
+abbrev pub polygon_text : List (List Coord) → List ℕ
+polygon_text rings = in_parentheses (separated ring_text rings)
+
+-- the line of a member, by its polygons: none, one or several
+abbrev pub member_line : List (List (List Coord)) → List ℕ
+member_line [] = codes "POLYGON EMPTY\n"
+member_line (p ∷ []) = codes "POLYGON " ++ polygon_text p ++ codes "\n"
+member_line polys = codes "MULTIPOLYGON " ++ in_parentheses (separated polygon_text polys) ++ codes "\n"
+
+-- one line for each member
+abbrev pub coverage_text : List (List (List (List Coord))) → List ℕ
+coverage_text members = flat_map member_line members

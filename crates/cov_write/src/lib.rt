@@ -4,9 +4,11 @@
 //! Its promise: the bytes are exactly the written form, whatever the coverage or the segments.
 #![tactic(auto)]
 
+mod coverage;
 mod segment;
 mod written;
 
+pub use coverage::text_of;
 pub use segment::lines_of;
 
 #[cfg(test)]

@@ -1,27 +1,100 @@
-use crate::lines_of;
-use cov_types::{Coord, Seg};
+use crate::{lines_of, text_of};
+use cov_types::{Coord, Coverage, Member, Poly, Ring, Seg};
+use std::alloc::{AllocError, Global};
 use std::test::Fail;
 
 fn same(written: &[u8], wanted: &[u8]) -> bool {
     written == wanted
 }
 
+fn ring(alloc: Global, places: &[(i32, i32)]) -> Result<Ring, AllocError> {
+    let mut points = Vec::new(alloc);
+    for (x, y) in places {
+        points.push(Coord { x: *x, y: *y })?;
+    }
+    Ok(Ring { points })
+}
+
 #[test]
-fn a_list_of_segments_is_one_line(rt: HostRuntime) -> Result<(), Fail> {
-    let from = Coord { x: 0, y: 0 };
-    let unit = Seg::between(from, Coord { x: 1, y: 0 }).ok_or("one point")?;
-    let long = Seg::between(Coord { x: 7, y: -5 }, from).ok_or("one point")?;
-    let none = lines_of(rt.alloc(), &[])?;
-    assert!(rt; none.is_empty());
-    let lists = vec![in rt.alloc();
-        Vec::new(rt.alloc()),
-        vec![in rt.alloc(); unit]?,
-        vec![in rt.alloc(); unit, long]?,
-    ]?;
+fn a_member_without_polygons_and_a_square(rt: HostRuntime) -> Result<(), Fail> {
+    let square = ring(rt.alloc(), &[(0, 0), (10, 0), (10, 10), (0, 10)])?;
+    let poly = Poly {
+        rings: vec![in rt.alloc(); square]?,
+    };
+    let none = Member {
+        polys: Vec::new(rt.alloc()),
+    };
+    let one = Member {
+        polys: vec![in rt.alloc(); poly]?,
+    };
+    let coverage = Coverage {
+        members: vec![in rt.alloc(); none, one]?,
+    };
+    let written = text_of(rt.alloc(), &coverage)?;
+    let wanted = b"POLYGON EMPTY\n\
+        POLYGON ((0 0, 10 0, 10 10, 0 10, 0 0))\n";
+    assert!(rt; same(&written, wanted));
+    Ok(())
+}
+
+#[test]
+fn no_members_are_the_empty_text(rt: HostRuntime) -> Result<(), Fail> {
+    let coverage = Coverage {
+        members: Vec::new(rt.alloc()),
+    };
+    assert!(rt; text_of(rt.alloc(), &coverage)?.is_empty());
+    assert!(rt; lines_of(rt.alloc(), &[])?.is_empty());
+    Ok(())
+}
+
+#[test]
+fn two_polygons_a_hole_a_bare_ring_and_both_ends_of_the_range(rt: HostRuntime) -> Result<(), Fail> {
+    let shell = ring(
+        rt.alloc(),
+        &[(i32::MIN, i32::MIN), (i32::MAX, -1), (7, i32::MAX)],
+    )?;
+    let hole = ring(rt.alloc(), &[(-10, 0), (100, 20), (3, 9999)])?;
+    let bare = ring(rt.alloc(), &[])?;
+    let point = ring(rt.alloc(), &[(5, -5)])?;
+    let holed = Poly {
+        rings: vec![in rt.alloc(); shell, hole]?,
+    };
+    let odd = Poly {
+        rings: vec![in rt.alloc(); bare, point]?,
+    };
+    let two = Member {
+        polys: vec![in rt.alloc(); holed, odd]?,
+    };
+    let coverage = Coverage {
+        members: vec![in rt.alloc(); two]?,
+    };
+    let written = text_of(rt.alloc(), &coverage)?;
+    let wanted = b"MULTIPOLYGON (\
+        ((-2147483648 -2147483648, 2147483647 -1, 7 2147483647, -2147483648 -2147483648), \
+        (-10 0, 100 20, 3 9999, -10 0)), \
+        ((), (5 -5, 5 -5)))\n";
+    assert!(rt; same(&written, wanted));
+    Ok(())
+}
+
+#[test]
+fn an_empty_list_and_one_segment(rt: HostRuntime) -> Result<(), Fail> {
+    let unit = Seg::between(Coord { x: 0, y: 0 }, Coord { x: 1, y: 0 }).ok_or("one point")?;
+    let lists = vec![in rt.alloc(); Vec::new(rt.alloc()), vec![in rt.alloc(); unit]?]?;
     let written = lines_of(rt.alloc(), &lists)?;
-    let wanted = b"MULTILINESTRING EMPTY\n\
-        MULTILINESTRING ((0 0, 1 0))\n\
-        MULTILINESTRING ((0 0, 1 0), (0 0, 7 -5))\n";
+    let wanted = b"MULTILINESTRING EMPTY\nMULTILINESTRING ((0 0, 1 0))\n";
+    assert!(rt; same(&written, wanted));
+    Ok(())
+}
+
+#[test]
+fn several_segments_share_a_line(rt: HostRuntime) -> Result<(), Fail> {
+    let zero = Coord { x: 0, y: 0 };
+    let right = Seg::between(zero, Coord { x: 7, y: -5 }).ok_or("one point")?;
+    let left = Seg::between(zero, Coord { x: -1, y: 12 }).ok_or("one point")?;
+    let lists = vec![in rt.alloc(); vec![in rt.alloc(); right, left, right]?]?;
+    let written = lines_of(rt.alloc(), &lists)?;
+    let wanted = b"MULTILINESTRING ((0 0, 7 -5), (-1 12, 0 0), (0 0, 7 -5))\n";
     assert!(rt; same(&written, wanted));
     Ok(())
 }

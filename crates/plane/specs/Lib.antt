@@ -7,3 +7,7 @@ pub mod Snapping
 pub mod Noded
 pub mod Laws
 pub mod Examples
+pub mod Joined
+pub mod Region
+pub mod Label
+pub mod Validity

@@ -1,0 +1,15 @@
+pub mod Sides
+pub mod Windows
+pub mod Tests
+pub mod OneEdge
+pub mod Lists
+pub mod Ways
+pub mod Sums
+pub mod Coverages
+pub mod Meetings
+pub mod Beside
+pub mod Changes
+pub mod Separated
+pub mod Instances
+pub mod Rings
+pub mod Located

@@ -1,0 +1,6 @@
+pub mod Crossing
+pub mod Meeting
+pub mod Laws
+pub mod Across
+pub mod Examples
+pub mod Winding

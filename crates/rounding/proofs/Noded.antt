@@ -9,7 +9,8 @@ use Rattle.exact.proofs.Order.{cancel_eq, cancel_lt_right}
 use Rattle.cov_types.specs.declared.coord.Coord.{Coord}
 use Rattle.cov_types.specs.declared.seg.Seg.{Seg}
 use Rattle.cov_types.specs.Range.{IsSegInRange}
-use Rattle.cov_types.proofs.Order.{same_coords, same_segs}
+use Rattle.cov_types.proofs.Order.{same_coords}
+use Rattle.cov_types.proofs.Equal.{same_segs}
 use Rattle.plane.specs.Point.{Point, SamePoint, at_coord}
 use Rattle.plane.specs.Segment.{IsOn, IsEnd, turn_of, side}
 use Rattle.plane.specs.Ray.{sweep, Rises}
@@ -25,7 +26,7 @@ use Rattle.plane.proofs.Meeting.{turns-balance, AreOpposite, MeetOnce, opposite_
 use Rattle.plane.proofs.Along.{on_from_turn}
 use Rattle.rounding.specs.Laws.{IsNodedEdge}
 use Rattle.rounding.proofs.Pieces.{piece_turned}
-use Rattle.rounding.proofs.NoCrossing.{opposite_from_common, three_on_line, rise-line, is_end_or_not, no_crossing}
+use Rattle.rounding.proofs.NoCrossing.{opposite_from_common, not_parallel, three_on_line, rise-line, is_end_or_not, no_crossing}
 use Rattle.rounding.proofs.Crossing.{CentresCross}
 use Rattle.rounding.proofs.Shadow.{no_centre_inside}
 use Rattle.rounding.proofs.Edges.{IsChainEdge, chain_edge, edge_in_range}
@@ -184,7 +185,8 @@ module _ (segs : List Seg) (s t e f : Seg) (two : TwoEdges segs s t e f) (r : Po
   Differ = ¬ ((turn_of e.lo e.hi f.lo ≡ pos 0) × (turn_of e.lo e.hi f.hi ≡ pos 0))
 
   once : Differ → MeetOnce e f
-  once differ = opposite_meet e f (opposite_from_common e f r inside.common) (opposite_from_common f e r (inside.common.1, inside.common.0)) differ
+  once differ = opposite_meet e f (opposite_from_common e f r inside.common) (opposite_from_common f e r (inside.common.1, inside.common.0))
+      (not_parallel e f (opposite_from_common e f r inside.common) differ)
 
   -- no end is on the line of the other edge
   e_off : Differ → (turn_of f.lo f.hi e.lo ≡ pos 0) ⊎ (turn_of f.lo f.hi e.hi ≡ pos 0) → ⊥

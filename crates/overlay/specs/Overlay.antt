@@ -1,0 +1,43 @@
+-- Overlays: edges, the uses that members make of them, and the regions on their two sides.
+use Rattle.std.specs.Prelude.{◌≡◌, ℕ, ◌+◌, ◌*◌, ◌<◌, ◌⊎◌, Bool, not, List, length, flat_map, option_to_list, slice_get}
+use Rattle.std.specs.List.{enumerate_from}
+use Rattle.cov_types.specs.declared.edge_use.EdgeUse.{EdgeUse}
+use Rattle.cov_types.specs.declared.seg.Seg.{Seg}
+use Rattle.plane.specs.Label.{label_at}
+use Rattle.plane.specs.Point.{Point}
+use Rattle.plane.specs.Region.{side_points, IsSide, IsRegionOf}
+
+-- edges that meet in ends alone, the uses of them by members below a number, and the region of each side
+pub record Overlay : Type 0 where
+  pub edges : List Seg
+  pub uses : List EdgeUse
+  pub members : ℕ
+  pub number : ℕ → ℕ
+
+-- the edges, each with its number
+abbrev pub numbered_edges : Overlay → List (ℕ × Seg)
+numbered_edges o = enumerate_from 0 o.edges
+
+-- the region above edge k, on its upper side
+abbrev pub region_above : Overlay → ℕ → ℕ
+region_above o k = o.number (2 * k)
+
+-- the region below edge k, on its lower side
+abbrev pub region_below : Overlay → ℕ → ℕ
+region_below o k = o.number (2 * k + 1)
+
+-- r is a region: the region of its own side point
+pub record IsRegion (edges : List Seg) (r : ℕ) : Type 0 where
+  pub at : Point
+  pub side : IsSide edges r at
+  pub own : IsRegionOf edges at r
+
+-- the label of a region, which is that of its side point
+abbrev pub label_of : Overlay → ℕ → List ℕ
+label_of o r = flat_map (label_at o.uses o.members) (option_to_list (slice_get (side_points o.edges) r))
+
+-- the two regions are the two sides of an edge
+pub record AreBeside (o : Overlay) (r s : ℕ) : Type 0 where
+  pub edge : ℕ
+  pub listed : edge < length o.edges
+  pub sides : ((region_above o edge ≡ r) × (region_below o edge ≡ s)) ⊎ ((region_above o edge ≡ s) × (region_below o edge ≡ r))

@@ -6,3 +6,4 @@ pub mod Owner
 pub mod Lines
 pub mod Parts
 pub mod Cleaned
+pub mod Laws

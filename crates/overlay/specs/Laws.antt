@@ -1,0 +1,99 @@
+-- The laws that make the definitions of overlays believable.
+use Rattle.std.specs.Prelude.{◌≡◌, ℕ, ◌+◌, ◌*◌, ◌<◌, ◌≤◌, ◌↔◌, nat_lt, int_lt, List, length, Option, Some}
+use Rattle.std.specs.List.{IsFirstBest}
+use Rattle.cov_types.specs.declared.edge_use.EdgeUse.{EdgeUse}
+use Rattle.cov_types.specs.declared.seg.Seg.{Seg}
+use Rattle.plane.specs.Label.{label_at}
+use Rattle.plane.specs.Parity.{member_holds}
+use Rattle.plane.specs.Point.{Point}
+use Rattle.plane.specs.Region.{IsSide, AreRegions}
+use Rattle.overlay.specs.declared.candidate.Candidate.{Candidate}
+use Rattle.overlay.specs.declared.odd_use.OddUse.{OddUse}
+use Rattle.overlay.specs.Noding.{IsOdd, AreEdges, AreLiveEdges, odd_uses}
+use Rattle.overlay.specs.Overlay.{Overlay}
+use Rattle.overlay.specs.Measure.{root, region_area2, border, owned_border}
+use Rattle.overlay.specs.Gap.{HasRoomWithin, IsClearance, IsNarrow}
+use Rattle.overlay.specs.Owner.{Rule, least_index, greatest_area, least_area, longest_border, IsOwner}
+use Rattle.overlay.specs.Parts.{InOnePart}
+
+-- ---- lengths
+
+-- r is the whole part of the square root of n
+pub record IsRoot (n r : ℕ) : Type 0 where
+  pub at_most : r * r ≤ n
+  pub next_more : n < (r + 1) * (r + 1)
+
+-- the root is the one number that is
+abbrev pub RootLaw : Type 0
+RootLaw = (n r : ℕ) → (root n ≡ r) ↔ IsRoot n r
+
+-- ---- odd edges
+
+-- the odd uses are held by each member where all uses are, of all edges and of the live ones
+abbrev pub OddUsesLaw : Type 0
+OddUsesLaw = (uses : List EdgeUse) (edges : List Seg) (odd : List OddUse) → AreEdges uses edges odd
+    → (member : ℕ) (p : Point) → member_holds (odd_uses edges odd) member p ≡ member_holds uses member p
+
+abbrev pub LiveUsesLaw : Type 0
+LiveUsesLaw = (uses : List EdgeUse) (edges : List Seg) (odd : List OddUse) → AreLiveEdges uses edges odd
+    → (member : ℕ) (p : Point) → member_holds (odd_uses edges odd) member p ≡ member_holds uses member p
+
+-- the live edges of the odd uses are the live edges of the uses
+abbrev pub LiveAgainLaw : Type 0
+LiveAgainLaw = (uses : List EdgeUse) (edges : List Seg) (odd : List OddUse) → AreEdges uses edges odd
+    → (live : List Seg) (live_odd : List OddUse) → AreLiveEdges (odd_uses edges odd) live live_odd → AreLiveEdges uses live live_odd
+
+-- ---- numberings
+
+-- two numberings of the regions agree at each side
+abbrev pub NumberingLaw : Type 0
+NumberingLaw = (edges : List Seg) (f g : ℕ → ℕ) → AreRegions edges f → AreRegions edges g → (n : ℕ) (p : Point) → IsSide edges n p → f n ≡ g n
+
+-- the measures of region r in both overlays are equal
+pub record HaveSameMeasures (o q : Overlay) (r : ℕ) : Type 0 where
+  pub areas : region_area2 o r ≡ region_area2 q r
+  pub borders : (member : ℕ) → border o r member ≡ border q r member
+  pub owned_borders : (owners : ℕ → Option ℕ) (member : ℕ) → owned_border o owners r member ≡ owned_border q owners r member
+
+-- so the measures do not depend on the numbering that is taken
+abbrev pub MeasuresLaw : Type 0
+MeasuresLaw = (o : Overlay) (number : ℕ → ℕ) → AreRegions o.edges o.number → AreRegions o.edges number
+    → (r : ℕ) → HaveSameMeasures o (record o { number = number }) r
+
+-- ---- clearances
+
+-- a region has one clearance at most
+abbrev pub ClearanceLaw : Type 0
+ClearanceLaw = (edges : List Seg) (r v w : ℕ) → IsClearance edges r v → IsClearance edges r w → v ≡ w
+
+-- and is narrow at w where w is past its clearance
+abbrev pub NarrowLaw : Type 0
+NarrowLaw = (edges : List Seg) (r c w : ℕ) → IsClearance edges r c → IsNarrow edges r w ↔ (c < w)
+
+-- ---- owners
+
+-- of candidates, each of the four rules picks the first that is best
+pub record ArePicks (candidates : List Candidate) : Type 0 where
+  pub index : least_index candidates < length candidates
+  pub greatest : IsFirstBest (λ c d. int_lt d.area2 c.area2) candidates (length candidates) (greatest_area candidates)
+  pub least : IsFirstBest (λ c d. int_lt c.area2 d.area2) candidates (length candidates) (least_area candidates)
+  pub longest : IsFirstBest (λ c d. nat_lt d.border c.border) candidates (length candidates) (longest_border candidates)
+
+abbrev pub PickLaw : Type 0
+PickLaw = (candidates : List Candidate) → 0 < length candidates → ArePicks candidates
+
+-- a region has one owner at most
+abbrev pub OwnerLaw : (State : Type 0) → Type 0
+OwnerLaw State = (rule : Rule State) (state : State) (o : Overlay) (w r : ℕ) (a b : Option ℕ)
+    → IsOwner rule state o w r a → IsOwner rule state o w r b → a ≡ b
+
+-- ---- parts
+
+-- to be in one part is an equivalence on the regions of an owner
+pub record IsPartEquivalence (o : Overlay) (owners : ℕ → Option ℕ) (i : ℕ) : Type 0 where
+  pub itself : (r : ℕ) → owners r ≡ Some i → InOnePart o owners i r r
+  pub back : (r s : ℕ) → InOnePart o owners i r s → InOnePart o owners i s r
+  pub on : (r s t : ℕ) → InOnePart o owners i r s → InOnePart o owners i s t → InOnePart o owners i r t
+
+abbrev pub PartLaw : Type 0
+PartLaw = (o : Overlay) (owners : ℕ → Option ℕ) (i : ℕ) → IsPartEquivalence o owners i

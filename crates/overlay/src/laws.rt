@@ -1,0 +1,40 @@
+ghost use Rattle.overlay.specs.Laws.{RootLaw, OddUsesLaw, LiveUsesLaw, LiveAgainLaw, NumberingLaw, MeasuresLaw, ClearanceLaw, NarrowLaw, PickLaw, OwnerLaw, PartLaw};
+
+/// The root of a number is the whole part of its square root. A call does nothing.
+pub fn root_law()
+    ensures { RootLaw }
+{}
+
+/// Members hold points by their odd edges alone. A call does nothing.
+pub fn odd_uses_law()
+    ensures edges { OddUsesLaw }
+    ensures live { LiveUsesLaw }
+    ensures again { LiveAgainLaw }
+{}
+
+/// Areas and borders are those of any numbering of the regions. A call does nothing.
+pub fn numbering_law()
+    ensures sides { NumberingLaw }
+    ensures measures { MeasuresLaw }
+{}
+
+/// A region has one clearance at most, and is narrow where that is passed. A call does nothing.
+pub fn clearance_law()
+    ensures one { ClearanceLaw }
+    ensures narrow { NarrowLaw }
+{}
+
+/// What the four rules pick. A call does nothing.
+pub fn pick_law()
+    ensures { PickLaw }
+{}
+
+/// A region has one owner at most. A call does nothing.
+pub fn owner_law<State>()
+    ensures { OwnerLaw State }
+{}
+
+/// The parts of an owner are disjoint. A call does nothing.
+pub fn part_law()
+    ensures { PartLaw }
+{}

@@ -5,4 +5,6 @@ pub mod Owners
 pub mod SameParts
 pub mod Numberings
 pub mod OddUses
-pub mod Examples
+pub mod Computed
+pub mod Short
+pub mod HalfCrossing

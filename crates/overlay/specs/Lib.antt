@@ -8,3 +8,4 @@ pub mod Parts
 pub mod Cleaned
 pub mod Laws
 pub mod Examples
+pub mod Snaps

@@ -1,4 +1,4 @@
-use Rattle.overlay.proofs.Examples.{length_examples, snapped_examples, overlap_examples, rule_examples, moat_examples, notched_examples, angle_examples, state_examples}
+use Rattle.overlay.proofs.Computed.{length_examples, snapped_examples, overlap_examples, rule_examples, moat_examples, notched_examples, angle_examples, state_examples}
 use Rattle.overlay.proofs.examples.vectors.Goals as goal
 
 pub returns-clause-lengths : goal.returns-clause-lengths

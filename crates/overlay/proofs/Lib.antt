@@ -8,3 +8,4 @@ pub mod OddUses
 pub mod Computed
 pub mod Short
 pub mod HalfCrossing
+pub mod Straightening

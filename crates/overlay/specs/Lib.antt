@@ -9,3 +9,4 @@ pub mod Cleaned
 pub mod Laws
 pub mod Examples
 pub mod Snaps
+pub mod Runs

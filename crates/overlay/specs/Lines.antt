@@ -1,5 +1,5 @@
 -- Simplifying after Visvalingam and Whyatt (1993): nodes, lines from node to node, and the greedy run over them.
-use Rattle.std.specs.Prelude.{◌≡◌, ◌≢◌, ◌⊎◌, ℕ, ◌+◌, ◌-◌, ◌*◌, ◌<◌, ◌≤◌, Bool, true, false, ◌&&◌, ◌||◌, not, cond, IsTrue, ◌↔◌, List, [], ◌∷◌, length, map, reverse, take, drop, zip, filter, flat_map, count_by, All, AllPairs, Contains, Option, Some, slice_get, ⊤, ℤ, pos, ◌+ℤ◌, ◌*ℤ◌, unsigned_abs}
+use Rattle.std.specs.Prelude.{◌≡◌, ◌≢◌, ◌⊎◌, ℕ, ◌+◌, ◌-◌, ◌*◌, ◌<◌, ◌≤◌, Bool, true, false, ◌&&◌, ◌||◌, not, cond, IsTrue, ◌↔◌, List, [], ◌∷◌, length, map, reverse, take, drop, zip, filter, flat_map, count_by, All, AllPairs, Contains, Option, Some, option_and_then, slice_get, ⊤, ℤ, pos, ◌+ℤ◌, ◌*ℤ◌, unsigned_abs}
 use Rattle.std.specs.List.{list_any, list_all}
 use Rattle.std.specs.declared.cmp.Ordering.{Ordering}
 use Rattle.std.specs.Ordering.{ordering_then, nat_cmp, int_eq, is_lt, is_le}
@@ -104,6 +104,10 @@ pub record Spot : Type 0 where
   pub line : ℕ
   pub place : ℕ
 
+-- the point at a spot
+abbrev pub point_at : List (List Coord) → Spot → Option Coord
+point_at lines spot = option_and_then (λ points. slice_get points spot.place) (slice_get lines spot.line)
+
 -- spots are ordered by their triangles, then by line, then by place in the line before any removal
 abbrev pub spot_cmp : Spot → Spot → Ordering
 spot_cmp s t = ordering_then (nat_cmp s.size t.size) (ordering_then (nat_cmp s.line t.line) (nat_cmp s.place t.place))
@@ -149,7 +153,7 @@ pub record IsNext (s : Simplification) (removed : List Coord) (b : Coord) : Type
   pub spot : Spot
   pub removable : IsRemovable s removed spot
   pub least : (other : Spot) → IsRemovable s removed other → IsTrue (is_le (spot_cmp spot other))
-  pub is : removable.b ≡ b
+  pub is : point_at s.lines spot ≡ Some b
 
 -- the run reaches the state, whose first point was removed last
 abbrev pub IsReached : Simplification → List Coord → Type 0

@@ -9,3 +9,6 @@ pub mod Computed
 pub mod Short
 pub mod HalfCrossing
 pub mod Straightening
+pub mod Squares
+pub mod SquareRegions
+pub mod SquareCleaned

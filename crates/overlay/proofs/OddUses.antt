@@ -41,7 +41,7 @@ decides x e = (there, back)
 passes_later : (c n : ℕ) → c ≡ 0 → (c + n) % 2 ≡ 1 → n % 2 ≡ 1
 passes_later c n none odd = omega arith
 
-some_passes : {X : Type 0} (p : X → Bool) (xs : List X) → count_by p xs % 2 ≡ 1 → (x : X) × (Contains xs x × (p x ≡ true))
+pub some_passes : {X : Type 0} (p : X → Bool) (xs : List X) → count_by p xs % 2 ≡ 1 → (x : X) × (Contains xs x × (p x ≡ true))
 some_passes p [] h = absurd (omega arith)
 some_passes {X} p (x ∷ xs) h = by (λ rest. some_passes p xs rest) (p x) refl
   where
@@ -180,7 +180,7 @@ module _ (uses : List EdgeUse) (edges : List Seg) (odd : List OddUse) (ascending
   odd_again member e = same_parity (λ u. cond ((u.member == member) && is_same_seg e u.seg) 1 0)
 
 -- an odd edge is used
-odd_used : (uses : List EdgeUse) (member : ℕ) (e : Seg) → IsOdd uses member e → Contains (segments uses) e
+pub odd_used : (uses : List EdgeUse) (member : ℕ) (e : Seg) → IsOdd uses member e → Contains (segments uses) e
 odd_used uses member e h =
     let found = some_passes (λ u. (u.member == member) && is_same_seg e u.seg) uses h in
     let same = (Decides-same_segs e (found.0).seg).0 (and_parts _ _ found.1.1).1 in

@@ -10,3 +10,4 @@ pub mod Laws
 pub mod Examples
 pub mod Snaps
 pub mod Runs
+pub mod Square

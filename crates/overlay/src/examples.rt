@@ -1,4 +1,7 @@
 ghost use Rattle.overlay.specs.Examples.{LengthExamples, SnappedExamples, OverlapExamples, RuleExamples, MoatExamples, NotchedExamples, AngleExamples, StateExamples};
+ghost use Rattle.overlay.specs.Snaps.{HotExamples, ChainExamples};
+ghost use Rattle.overlay.specs.Runs.{RunExamples};
+ghost use Rattle.overlay.specs.Square.{SquareExamples};
 
 /// Examples with numbers, by computation. A call does nothing.
 pub fn vectors()
@@ -10,4 +13,12 @@ pub fn vectors()
     ensures notched { NotchedExamples }
     ensures angles { AngleExamples }
     ensures states { StateExamples }
+{}
+
+/// Small instances of the definitions that do not compute. A call does nothing.
+pub fn instances()
+    ensures hot { HotExamples }
+    ensures chains { ChainExamples }
+    ensures run { RunExamples }
+    ensures square { SquareExamples }
 {}

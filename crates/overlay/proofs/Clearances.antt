@@ -1,14 +1,12 @@
 -- A region has one clearance at most, and is narrow where that is passed.
-use Rattle.std.proofs.Common.{◌≡◌, ◌↔◌, ℕ, ◌*◌, ◌<◌, ◌≤◌, zero, suc, List, Contains, inl, inr, ℤ, pos, ◌*ℤ◌, ◌≤ℤ◌, arith}
+use Rattle.std.proofs.Common.{◌≡◌, ◌↔◌, ℕ, ◌*◌, ◌<◌, ◌≤◌, zero, suc, List, inl, inr, pos, ◌*ℤ◌, ◌≤ℤ◌, arith}
 use Rattle.std.proofs.lemmas.Bool.{cases_lt}
 use Rattle.std.proofs.lemmas.Nat.{mul-le}
 use Rattle.exact.proofs.Compare.{le_trans}
 use Rattle.exact.proofs.Order.{le_mul}
 use Rattle.exact.proofs.Ring.{lin}
-use Rattle.cov_types.specs.declared.coord.Coord.{Coord}
 use Rattle.cov_types.specs.declared.seg.Seg.{Seg}
-use Rattle.plane.specs.Point.{Point}
-use Rattle.overlay.specs.Gap.{HasRoom, HasRoomWithin, IsClearance, IsNarrow}
+use Rattle.overlay.specs.Gap.{HasRoomWithin, IsClearance, IsNarrow}
 
 -- a lesser number has a lesser square
 squares : (v w : ℕ) → v ≤ w → v * v ≤ w * w

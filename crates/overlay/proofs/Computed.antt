@@ -1,6 +1,5 @@
 -- The examples, by computation.
 use Rattle.std.proofs.Common.{refl}
-use lib.Ieee.{size, root_below}
 use Rattle.plane.specs.Segment.{side, turn_of}
 use Rattle.plane.specs.Ray.{sweep}
 use Rattle.overlay.specs.Measure.{root, edge_length, trapezoid}

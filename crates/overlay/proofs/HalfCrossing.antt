@@ -1,7 +1,7 @@
 -- The crossing at (1/2, 1/2): which pixels it makes hot, and the chains of the segments.
 use mathlib.Core.List.{[], ◌∷◌}
-use Rattle.std.proofs.Common.{◌≡◌, ◌⊎◌, inl, inr, refl, sym, ◌∙◌, ap, subst, ℕ, zero, suc, ◌≤◌, ◌↔◌, List, ◌++◌, ℤ, pos, negsuc, neg_ℤ, ◌*ℤ◌, ◌≤ℤ◌, ◌<ℤ◌, lit≤, arith}
-use Rattle.std.specs.Prelude.{All, AllPairs, Contains, ⊤}
+use Rattle.std.proofs.Common.{◌≡◌, ◌⊎◌, inl, inr, refl, sym, ap, subst, ℕ, zero, suc, ◌≤◌, List, ◌++◌, ℤ, pos, negsuc, ◌*ℤ◌, ◌≤ℤ◌, lit≤, arith}
+use Rattle.std.specs.Prelude.{Contains}
 use Rattle.std.specs.List.{AllByRecursion}
 use Rattle.std.proofs.lemmas.Int.{ints}
 use Rattle.std.proofs.lemmas.List.Elements.{All-from_recursion, All-contains}
@@ -14,7 +14,7 @@ use Rattle.plane.specs.Point.{Point, SamePoint, at_coord}
 use Rattle.plane.specs.Segment.{IsOn, IsEnd, side, turn_of}
 use Rattle.plane.specs.Ray.{sweep, Rises}
 use Rattle.plane.specs.Contact.{IsOnlyCommon}
-use Rattle.plane.specs.Snapping.{IsInPixel, IsEndOf, IsHot, MeetsPixel, IsChain}
+use Rattle.plane.specs.Snapping.{IsInPixel, IsHot, MeetsPixel, IsChain}
 use Rattle.plane.proofs.Points.{d_positive, same_point-sym, first_between, second_between, between-moved}
 use Rattle.plane.proofs.Sides.{side_zero-on}
 use Rattle.plane.proofs.Contacts.{two_with_itself, one_is_not_two}
@@ -24,7 +24,7 @@ use Rattle.rounding.proofs.Near.{rounds_above, rounds_under, pixel-near, pixel_u
 use Rattle.rounding.proofs.Edges.{lo_hot_met, hi_hot_met}
 use Rattle.rounding.proofs.Meets.{meets-is}
 use Rattle.rounding.proofs.Lone.{chain_by_centres}
-use Rattle.overlay.specs.Noding.{segments, AreSnapped, snapped_uses}
+use Rattle.overlay.specs.Noding.{segments}
 use Rattle.overlay.specs.Examples.{at, half_crossing, half_chains}
 use Rattle.overlay.specs.Snaps.{half, wide_rising, wide_falling, wide_crossing, HotExamples, ChainExamples}
 use Rattle.overlay.proofs.Short.{PairsByRecursion, AllPairs-from_recursion, both_in}

@@ -1,6 +1,6 @@
 -- Two numberings of the regions agree at each side, so the measures do not depend on the numbering.
 use mathlib.Core.List.{[], ◌∷◌}
-use Rattle.std.proofs.Common.{◌≡◌, refl, sym, ◌∙◌, ap, subst, ℕ, zero, suc, ◌+◌, ◌*◌, ◌==◌, ◌||◌, ◌&&◌, cond, Bool, List, Contains, sum_by, ℤ, pos, ◌+ℤ◌, arith}
+use Rattle.std.proofs.Common.{◌≡◌, refl, sym, ◌∙◌, ap, subst, ℕ, zero, suc, ◌+◌, ◌*◌, ◌==◌, ◌||◌, ◌&&◌, cond, Bool, List, Contains, sum_by, ℤ, ◌+ℤ◌, arith}
 use Rattle.std.specs.Cmp.Lexicographic.{pointwise}
 use Rattle.std.specs.Prelude.{Some, slice_get, option_map, nat_eq, not, length}
 use Rattle.std.specs.List.{enumerate_from}
@@ -8,7 +8,7 @@ use Rattle.std.proofs.lemmas.Option.{none-some}
 use Rattle.std.proofs.lemmas.List.Sums.{sum_by-cons}
 use Rattle.cov_types.specs.declared.seg.Seg.{Seg}
 use Rattle.plane.specs.Point.{Point}
-use Rattle.plane.specs.Region.{side_points, IsSide, AreRegions}
+use Rattle.plane.specs.Region.{IsSide, AreRegions}
 use Rattle.plane.specs.Segment.{upper, lower}
 use Rattle.crossings.specs.Crossing.{int_sum_by}
 use Rattle.crossings.proofs.Lists.{contains_here, contains_there}

@@ -1,13 +1,13 @@
 -- The odd uses are held by each member where all uses are.
 use mathlib.Core.List.{[], ◌∷◌}
-use Rattle.std.proofs.Common.{◌≡◌, ◌⊎◌, inl, inr, refl, sym, ◌∙◌, ap, subst, ℕ, zero, suc, ◌+◌, ◌<◌, ◌%◌, ◌==◌, ◌&&◌, ◌↔◌, Bool, true, false, cond, List, length, get_or, ◌++◌, map, IsTrue, Decides, arith}
-use Rattle.std.specs.Prelude.{Contains, AllPairs, sum_by, count_by, flat_map, Option, Some, None, slice_get, option_to_list, unwrap_or}
-use Rattle.std.proofs.lemmas.Bool.{cases_order, cases_eq, and_parts, and_from, false≢true}
+use Rattle.std.proofs.Common.{◌≡◌, inl, inr, refl, sym, ◌∙◌, ap, subst, ℕ, zero, suc, ◌+◌, ◌<◌, ◌%◌, ◌==◌, ◌&&◌, ◌↔◌, Bool, true, false, cond, List, get_or, ◌++◌, map, IsTrue, Decides, arith}
+use Rattle.std.specs.Prelude.{Contains, AllPairs, sum_by, count_by, Option, Some, None, slice_get, option_to_list, unwrap_or}
+use Rattle.std.proofs.lemmas.Bool.{cases_order, and_parts, and_from, false≢true}
 use Rattle.std.proofs.lemmas.Bool.Decides.{Decides-eqb, nat_tests}
 use Rattle.std.proofs.lemmas.List.{get_or_default}
 use Rattle.std.proofs.lemmas.List.Elements.{Contains-append_cases, Contains-append_left, Contains-append_right}
 use Rattle.std.proofs.lemmas.List.Sums.{sum_by-cons}
-use Rattle.std.proofs.lemmas.Option.{none-some, slice_get_within, slice_get-get_or, get_or_from_slice_get}
+use Rattle.std.proofs.lemmas.Option.{slice_get_within, slice_get-get_or, get_or_from_slice_get}
 use Rattle.cov_types.specs.declared.edge_use.EdgeUse.{EdgeUse}
 use Rattle.cov_types.specs.declared.seg.Seg.{Seg}
 use Rattle.cov_types.specs.Seg.{is_seg_before}

@@ -1,6 +1,6 @@
 -- What the four rules pick: the first place whose element no element beats, which is the first best one.
 use mathlib.Core.List.{[], ◌∷◌}
-use Rattle.std.proofs.Common.{◌≡◌, sym, ◌∙◌, ap, refl, subst, ℕ, ◌<◌, Bool, true, false, not, nat_lt, int_lt, List, length, get_or, ℤ, arith}
+use Rattle.std.proofs.Common.{◌≡◌, sym, subst, ℕ, ◌<◌, Bool, true, false, not, nat_lt, int_lt, List, length, get_or, ℤ, arith}
 use Rattle.std.specs.Cmp.{IsStrictWeakOrder}
 use Rattle.std.specs.List.{IsFirstBest, list_any}
 use Rattle.std.proofs.lemmas.Bool.{not_from_true, not_from_false}

@@ -1,7 +1,6 @@
 -- The root is the whole part of the square root.
-use Rattle.std.proofs.Common.{◌≡◌, ◌↔◌, sym, subst, ℕ, ◌+◌, ◌*◌, ◌<◌, ◌≤◌, inl, inr, arith}
+use Rattle.std.proofs.Common.{◌≡◌, ◌↔◌, subst, ℕ, ◌+◌, ◌*◌, ◌<◌, ◌≤◌, inl, inr, arith}
 use Rattle.std.proofs.lemmas.Bool.{cases_order}
-use lib.Ieee.{size, root_below}
 use lib.Ieee.Root.{whole_part}
 use Rattle.overlay.specs.Measure.{root}
 use Rattle.overlay.specs.Laws.{IsRoot}

@@ -1,7 +1,7 @@
 -- Facts of short lists, element by element.
 use mathlib.Core.List.{[], ◌∷◌}
-use Rattle.std.proofs.Common.{◌≡◌, refl, sym, ◌∙◌, ap, subst, ℕ, zero, suc, Bool, true, false, not, ◌&&◌, ◌≢◌, List, get_or, arith}
-use Rattle.std.specs.Prelude.{All, AllPairs, Contains, ⊤}
+use Rattle.std.proofs.Common.{◌≡◌, sym, ◌∙◌, ap, subst, zero, suc, Bool, true, false, not, ◌&&◌, ◌≢◌, List, get_or, arith}
+use Rattle.std.specs.Prelude.{AllPairs, Contains, ⊤}
 use Rattle.std.specs.List.{AllByRecursion, list_any, list_all}
 use Rattle.std.proofs.lemmas.Bool.{false≢true, not-true, and_parts, and_from}
 use Rattle.std.proofs.lemmas.List.Elements.{All-from_recursion, All-contains}

@@ -1,9 +1,8 @@
 -- The coverage of one square is what clean makes of it.
 use mathlib.Core.List.{[], ◌∷◌}
-use Rattle.std.proofs.Common.{◌≡◌, ◌⊎◌, inl, inr, refl, sym, ◌∙◌, ap, subst, ℕ, zero, suc, ◌+◌, ◌*◌, ◌%◌, ◌<◌, ◌==◌, ◌&&◌, ◌↔◌, Bool, true, false, true≢false, List, ◌++◌, length, IsTrue, cond, arith}
-use Rattle.std.specs.Prelude.{All, AllPairs, Contains, Option, Some, None, slice_get, flat_map, unwrap_or, is_some}
-use Rattle.std.specs.List.{AllByRecursion}
-use Rattle.std.proofs.lemmas.Bool.{and_parts, false≢true}
+use Rattle.std.proofs.Common.{◌≡◌, ◌⊎◌, inl, inr, refl, sym, ◌∙◌, ap, subst, ℕ, zero, suc, ◌<◌, ◌==◌, ◌&&◌, Bool, true, false, List, ◌++◌, length, IsTrue, cond, arith}
+use Rattle.std.specs.Prelude.{Contains, Option, Some, None, slice_get, flat_map, unwrap_or}
+use Rattle.std.proofs.lemmas.Bool.{and_parts}
 use Rattle.std.proofs.lemmas.Bool.Decides.{Decides-eqb}
 use Rattle.std.proofs.lemmas.Int.{ints}
 use Rattle.std.proofs.lemmas.List.Elements.{All-from_recursion, All-contains}
@@ -19,9 +18,9 @@ use Rattle.plane.specs.Noded.{MeetInEnds, IsNodedFully}
 use Rattle.plane.specs.Point.{Point}
 use Rattle.plane.specs.Ray.{sweep, Rises}
 use Rattle.plane.specs.Contact.{IsOnlyCommon}
-use Rattle.plane.specs.Region.{IsSide, IsRegionOf}
-use Rattle.plane.specs.Segment.{side, turn_of, IsEnd}
-use Rattle.plane.specs.Snapping.{IsInPixel, IsHot, MeetsPixel, IsChain}
+use Rattle.plane.specs.Region.{IsSide}
+use Rattle.plane.specs.Segment.{side, turn_of, IsEnd, lower}
+use Rattle.plane.specs.Snapping.{IsHot, MeetsPixel, IsChain}
 use Rattle.plane.proofs.Contacts.{two_with_itself, one_is_not_two}
 use Rattle.crossings.specs.Across.{is_same_seg}
 use Rattle.crossings.proofs.Located.{one_region}
@@ -30,18 +29,20 @@ use Rattle.rounding.proofs.Edges.{lo_hot_met, hi_hot_met}
 use Rattle.rounding.proofs.Lone.{chain_by_centres}
 use Rattle.rounding.proofs.Meets.{meets-is}
 use Rattle.overlay.specs.declared.odd_use.OddUse.{OddUse}
-use Rattle.overlay.specs.Noding.{segments, IsAscending, IsOdd, is_odd_before, AreOddPairs, AreLiveEdges, AreSnapped}
-use Rattle.overlay.specs.Overlay.{IsRegion, AreBeside, label_of}
-use Rattle.overlay.specs.Owner.{IsNarrowGap, IsOwner, AreOwners}
-use Rattle.overlay.specs.Parts.{LeadsWithin, InOnePart, IsPartOf, IsSimple, IsSound, ring_edges, boundary, corners, is_free_corner}
-use Rattle.overlay.specs.Cleaned.{IsSnappedOverlay, IsOverlayOf, IsPolyCanonical, IsMemberCanonical, IsSoundFor, IsOwned, ArePolygonsOf, IsBuilt, IsCleaned, BeginsAtLeast}
+use Rattle.overlay.specs.Noding.{IsOdd, is_odd_before, AreOddPairs, AreLiveEdges, AreSnapped}
+use Rattle.overlay.specs.Overlay.{IsRegion, label_of}
+use Rattle.overlay.specs.Gap.{IsGap}
+use Rattle.overlay.specs.Owner.{IsOwner, AreOwners}
+use Rattle.overlay.specs.Parts.{LeadsWithin, IsPartOf, IsSimple, IsSound, boundary, corners, is_free_corner}
+use Rattle.overlay.specs.Cleaned.{IsSnappedOverlay, IsPolyCanonical, IsSoundFor, IsOwned, ArePolygonsOf, IsBuilt, BeginsAtLeast}
 use Rattle.overlay.specs.Examples.{at, pairs, shell}
-use Rattle.overlay.specs.Square.{square_edges, square_number, lone, lone_owners, lone_square, by_index, SquareExamples}
+use Rattle.overlay.specs.Square.{square_edges, square_number, lone, unheld, lone_owners, lone_square, by_index, SquareExamples}
+use Rattle.overlay.proofs.Clearances.{narrow_is}
 use Rattle.overlay.proofs.HalfCrossing.{own_pixel}
 use Rattle.overlay.proofs.OddUses.{odd_used, some_passes}
-use Rattle.overlay.proofs.Short.{PairsByRecursion, AllPairs-from_recursion, coords_apart, ways_apart, ways_in, segs_in}
+use Rattle.overlay.proofs.Short.{AllPairs-from_recursion, coords_apart, ways_apart, ways_in, segs_in}
 use Rattle.overlay.proofs.Squares.{square_noded}
-use Rattle.overlay.proofs.SquareRegions.{square_regions, square_clearance, outer_region}
+use Rattle.overlay.proofs.SquareRegions.{square_regions, square_clearance, outer_region, inside_not_outer}
 
 -- ---- hot pixels and chains
 
@@ -209,13 +210,25 @@ region_cases r h = zero_or_one r h.at h.side (one_region square_edges h.at r (sq
 not_empty : (x : ℕ) (xs : List ℕ) → (x ∷ xs) ≡ [] → ⊥
 not_empty x xs e = let l = ap length e in omega arith
 
+inside_labelled : label_of lone 1 ≡ [] → ⊥
+unfolding sweep side
+inside_labelled e = not_empty 0 [] e
+
+-- where no member holds it, the inside is a gap
+inside_gap : IsGap unheld 1
+inside_gap = record {
+  region = record { at = lower left; side = refl; own = square_regions 1 (lower left) refl };
+  not_outer = inside_not_outer;
+  empty = refl;
+}
+
 outside_owner : (w : ℕ) → IsOwner by_index 0 lone w 0 (lone_owners 0)
 unfolding sweep side
 outside_owner w = inr ((λ h. h.gap.not_outer outer_region), refl)
 
 inside_owner : (w : ℕ) → IsOwner by_index 0 lone w 1 (lone_owners 1)
 unfolding sweep side
-inside_owner w = inr ((λ h. not_empty 0 [] h.gap.empty), refl)
+inside_owner w = inr ((λ h. inside_labelled h.gap.empty), refl)
 
 square_owners : (w : ℕ) → AreOwners by_index 0 lone w lone_owners
 square_owners w r region =
@@ -312,6 +325,10 @@ pub square_examples : SquareExamples
 square_examples = record {
   regions = square_regions;
   clearance = square_clearance;
+  narrow = (narrow_is square_edges 1 10 11 square_clearance).1 (omega arith);
+  not_narrow = λ h. (let less = (narrow_is square_edges 1 10 10 square_clearance).0 h in omega arith);
+  gap = inside_gap;
+  no_gap = λ h. inside_labelled h.empty;
   simple = square_simple;
   overlay = square_overlay;
   owners = square_owners;

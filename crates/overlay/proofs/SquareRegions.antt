@@ -1,7 +1,7 @@
 -- The regions of the square of size 10, and the clearance of its inside.
 use mathlib.Core.List.{[], ◌∷◌}
-use Rattle.std.proofs.Common.{◌≡◌, ◌⊎◌, inl, inr, refl, sym, ◌∙◌, ap, subst, ℕ, zero, suc, ◌+◌, ◌*◌, ◌-◌, ◌<◌, ◌≤◌, List, ℤ, pos, negsuc, ◌+ℤ◌, ◌-ℤ◌, ◌*ℤ◌, ◌≤ℤ◌, ◌<ℤ◌, arith}
-use Rattle.std.specs.Prelude.{Contains, Option, Some, None, slice_get, unwrap_or}
+use Rattle.std.proofs.Common.{◌≡◌, inl, inr, refl, sym, ◌∙◌, ap, subst, ℕ, zero, suc, ◌*◌, ◌≤◌, ℤ, pos, negsuc, ◌+ℤ◌, ◌-ℤ◌, ◌*ℤ◌, ◌≤ℤ◌, arith}
+use Rattle.std.specs.Prelude.{Contains, Some, unwrap_or}
 use Rattle.std.proofs.lemmas.Bool.{cases_lt}
 use Rattle.std.proofs.lemmas.Int.{ints}
 use Rattle.std.proofs.lemmas.List.Elements.{All-from_recursion, All-contains}
@@ -9,22 +9,21 @@ use Rattle.std.proofs.lemmas.Nat.{mul-le}
 use Rattle.std.proofs.lemmas.Option.{none-some}
 use Rattle.cov_types.specs.declared.coord.Coord.{Coord}
 use Rattle.cov_types.specs.declared.seg.Seg.{Seg}
-use Rattle.exact.proofs.Compare.{lt_or_ge, le_or_gt, trichotomy}
+use Rattle.exact.proofs.Compare.{lt_or_ge, le_or_gt}
 use Rattle.exact.proofs.Order.{mul_le_mul}
-use Rattle.exact.proofs.Ring.{lin, by_ring, Var, Lit, ◌⊖◌, ◌⊗◌}
+use Rattle.exact.proofs.Ring.{by_ring, Var, Lit, ◌⊖◌, ◌⊗◌}
 use Rattle.exact.proofs.Sign.{square_nonneg}
 use Rattle.plane.specs.Examples.{grid, left, bottom, top, right}
-use Rattle.plane.specs.Joined.{IsOff, Joined}
-use Rattle.plane.specs.Point.{Point, at_coord, IsBetween}
-use Rattle.plane.specs.Region.{side_points, IsSide, IsJoinedSide, IsRegionOf, AreRegions, IsOuterRegion, far_point}
+use Rattle.plane.specs.Joined.{Joined}
+use Rattle.plane.specs.Point.{Point, at_coord}
+use Rattle.plane.specs.Region.{IsJoinedSide, IsRegionOf, AreRegions, IsOuterRegion, far_point}
 use Rattle.plane.specs.Segment.{IsOn, side, upper, lower}
 use Rattle.plane.proofs.Points.{between_by}
 use Rattle.plane.proofs.Sides.{side_zero-on}
-use Rattle.crossings.proofs.Ways.{joined-sym, joined-trans, joined_off}
-use Rattle.crossings.proofs.Located.{region-joined}
+use Rattle.crossings.proofs.Ways.{joined-sym, joined-trans}
 use Rattle.overlay.specs.Gap.{squared_distance, HasRoom, HasRoomWithin, IsClearance}
 use Rattle.overlay.specs.Square.{square_edges, square_number}
-use Rattle.overlay.proofs.Squares.{IsWest, IsSouth, IsEast, IsNorth, corner, west_joined, south_joined, east_joined, north_joined, IsInside, inside_joined, sides_apart}
+use Rattle.overlay.proofs.Squares.{corner, west_joined, south_joined, east_joined, north_joined, IsInside, inside_joined, sides_apart}
 
 -- ---- side points
 
@@ -145,6 +144,13 @@ module _ (q : Coord) (j : Joined square_edges (at_coord q) (lower left)) where
 
   from_north : q.y ≤ℤ pos 10
   from_north = elim (le_or_gt q.y (pos 10)) [ inl less ↦ less | inr more ↦ absurd (not_out (north_joined (at_coord q) (omega (arith, ints)))) ]
+
+-- so it is not outer
+pub inside_not_outer : ¬ IsOuterRegion square_edges 1
+inside_not_outer h =
+    let here : lower left ≡ h.at = ap (λ o. unwrap_or o (lower left)) h.side in
+    let out = joined-trans square_edges (lower left) far_point corner (subst (λ at. Joined square_edges at far_point) (sym here) h.outer) (east_joined far_point (record { lt = tt })) in
+    not_outside (lower left) (inside_joined (lower left) (lower left) inner inner) out
 
 -- ---- no more than 10
 

@@ -1,20 +1,15 @@
 -- The square of size 10: its edges meet in ends alone, and which points are joined.
 use mathlib.Core.List.{[], ◌∷◌}
-use Rattle.std.proofs.Common.{◌≡◌, ◌⊎◌, inl, inr, refl, sym, ◌∙◌, ap, subst, ◌+◌, ◌%◌, cond, ℕ, zero, suc, List, Bool, true, false, true≢false, ℤ, pos, negsuc, ◌*ℤ◌, ◌≤ℤ◌, ◌<ℤ◌, arith}
-use Rattle.std.specs.Prelude.{All, Contains, ◌^◌}
-use Rattle.std.specs.List.{AllByRecursion}
+use Rattle.std.proofs.Common.{◌≡◌, inl, inr, refl, sym, ◌∙◌, ◌+◌, ◌%◌, cond, ℕ, true, false, true≢false, ℤ, pos, negsuc, ◌*ℤ◌, ◌≤ℤ◌, ◌<ℤ◌, arith}
 use Rattle.std.proofs.lemmas.Int.{ints}
 use Rattle.std.proofs.lemmas.List.Elements.{All-from_recursion, All-contains}
-use Rattle.cov_types.specs.declared.coord.Coord.{Coord}
 use Rattle.cov_types.specs.declared.seg.Seg.{Seg}
-use Rattle.exact.proofs.Ring.{lin}
 use Rattle.plane.specs.Examples.{grid, left, bottom, top, right}
 use Rattle.plane.specs.Joined.{IsClear, Joined}
 use Rattle.plane.specs.Noded.{MeetInEnds, IsNodedFully}
 use Rattle.plane.specs.Parity.{holds}
 use Rattle.plane.specs.Point.{Point, at_coord, IsBetween}
 use Rattle.plane.specs.Ray.{sweep, Rises}
-use Rattle.plane.specs.Region.{far_point}
 use Rattle.plane.specs.Segment.{IsOn, side, upper, lower}
 use Rattle.plane.proofs.Forms.{form}
 use Rattle.plane.proofs.Sides.{side_zero-on}
@@ -22,7 +17,7 @@ use Rattle.crossings.specs.Crossing.{IsSwept, HaveEvenEnds}
 use Rattle.crossings.proofs.Lists.{contains_here}
 use Rattle.crossings.proofs.Separated.{IsOnFarSide, separated}
 use Rattle.crossings.proofs.Sums.{holds-joined}
-use Rattle.crossings.proofs.Ways.{joined-sym, joined-trans, joined_by_clear}
+use Rattle.crossings.proofs.Ways.{joined-trans, joined_by_clear}
 use Rattle.overlay.specs.Square.{square_edges}
 use Rattle.overlay.proofs.Short.{both_in}
 

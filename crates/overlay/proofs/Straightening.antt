@@ -1,7 +1,7 @@
 -- The square with a point in the middle of its bottom: its node, its line and the run at tolerance 0.
 use mathlib.Core.List.{[], ◌∷◌}
-use Rattle.std.proofs.Common.{◌≡◌, ◌⊎◌, inl, inr, refl, sym, ◌∙◌, ap, subst, ℕ, zero, suc, ◌+◌, ◌<◌, ◌≤◌, Bool, true, false, not, ◌&&◌, ◌||◌, true≢false, List, ◌++◌, length, ℤ, pos, ◌+ℤ◌, ◌*ℤ◌, ◌≢◌, unsigned_abs, IsTrue, arith}
-use Rattle.std.specs.Prelude.{All, AllPairs, Contains, Option, Some, None, slice_get, unwrap_or}
+use Rattle.std.proofs.Common.{◌≡◌, inl, inr, refl, sym, ◌∙◌, ap, subst, ℕ, zero, suc, ◌+◌, ◌<◌, ◌≤◌, Bool, true, false, not, ◌&&◌, ◌||◌, true≢false, List, ◌++◌, length, ℤ, pos, ◌+ℤ◌, ◌*ℤ◌, ◌≢◌, unsigned_abs, IsTrue, arith}
+use Rattle.std.specs.Prelude.{All, Contains, Some, slice_get, unwrap_or}
 use Rattle.std.specs.List.{AllByRecursion}
 use Rattle.std.specs.Ordering.{is_le}
 use Rattle.std.proofs.lemmas.Bool.{and_from, or_parts, not-true, false≢true}
@@ -13,15 +13,14 @@ use Rattle.cov_types.specs.declared.coord.Coord.{Coord}
 use Rattle.cov_types.specs.declared.seg.Seg.{Seg}
 use Rattle.cov_types.specs.Coord.{is_before}
 use Rattle.cov_types.specs.Seg.{IsSegBetween}
-use Rattle.cov_types.proofs.Equal.{Decides-same_coords, Decides-same_segs}
+use Rattle.cov_types.proofs.Equal.{Decides-same_coords}
 use Rattle.plane.specs.Examples.{grid}
 use Rattle.plane.specs.Segment.{turn_of}
 use Rattle.plane.specs.Snapping.{chain_edges}
-use Rattle.crossings.specs.Across.{is_same_seg}
-use Rattle.overlay.specs.Lines.{is_same_coord, degree, steps, IsAlongEdge, IsWalk, IsLeastOfLoop, IsNode, IsLine, current_points, current_edges, point_before, point_after, is_removed, Spot, spot_cmp, IsInTriangle, IsRemovable, IsNext, IsLast}
+use Rattle.overlay.specs.Lines.{is_same_coord, degree, steps, IsAlongEdge, IsWalk, IsNode, IsLine, current_edges, point_before, point_after, is_removed, Spot, spot_cmp, IsInTriangle, IsRemovable, IsNext, IsLast}
 use Rattle.overlay.specs.Examples.{at, round_line}
 use Rattle.overlay.specs.Runs.{five_edges, straightening, RunExamples}
-use Rattle.overlay.proofs.Short.{apart_coords, segs_apart}
+use Rattle.overlay.proofs.Short.{segs_apart}
 
 -- ---- walks
 

@@ -1,5 +1,5 @@
--- What clean and simplify answer: the overlay of a coverage, the polygons of its owners, and the canonical order.
-use Rattle.std.specs.Prelude.{◌≡◌, ℕ, Bool, false, IsTrue, List, [], ◌∷◌, length, drop, take, All, AllPairs, Contains, Option, Some, slice_get}
+-- What clean answers: the overlay of a coverage, the polygons of its owners, and the canonical order.
+use Rattle.std.specs.Prelude.{◌≡◌, ℕ, Bool, false, IsTrue, List, [], ◌∷◌, length, drop, All, AllPairs, Contains, Option, Some, slice_get}
 use Rattle.std.specs.Ordering.{is_lt}
 use Rattle.cov_types.specs.declared.coord.Coord.{Coord}
 use Rattle.cov_types.specs.declared.edge_use.EdgeUse.{EdgeUse}
@@ -7,10 +7,10 @@ use Rattle.cov_types.specs.Coord.{is_before}
 use Rattle.cov_types.specs.Uses.{uses_of}
 use Rattle.plane.specs.Region.{AreRegions}
 use Rattle.overlay.specs.declared.odd_use.OddUse.{OddUse}
-use Rattle.overlay.specs.Noding.{segments, AreSnapped, AreEdges, AreLiveEdges, odd_uses}
+use Rattle.overlay.specs.Noding.{AreSnapped, AreLiveEdges, odd_uses}
 use Rattle.overlay.specs.Overlay.{Overlay, IsRegion}
 use Rattle.overlay.specs.Owner.{Rule, AreOwners}
-use Rattle.overlay.specs.Lines.{AreLines, Simplification, IsLast, points_cmp, coverage_without}
+use Rattle.overlay.specs.Lines.{points_cmp}
 use Rattle.overlay.specs.Parts.{IsPartOf, IsSound}
 
 -- ---- overlays of a coverage

@@ -1,5 +1,5 @@
 -- Examples of the definitions of overlays, with numbers.
-use Rattle.std.specs.Prelude.{◌≡◌, ℕ, ◌+◌, ◌*◌, ◌^◌, Bool, true, false, not, List, [], ◌∷◌, ◌++◌, map, flat_map, length, option_to_list, Option, Some, None, slice_index, pos, negsuc, ℤ, refl}
+use Rattle.std.specs.Prelude.{◌≡◌, ℕ, ◌+◌, Bool, true, false, List, [], ◌∷◌, ◌++◌, map, flat_map, option_to_list, Option, Some, None, slice_index, pos}
 use Rattle.std.specs.List.{list_all}
 use Rattle.cov_types.specs.declared.coord.Coord.{Coord}
 use Rattle.cov_types.specs.declared.edge_use.EdgeUse.{EdgeUse}
@@ -13,9 +13,9 @@ use Rattle.overlay.specs.declared.odd_use.OddUse.{OddUse}
 use Rattle.overlay.specs.Noding.{segments, odd_uses, snapped_uses}
 use Rattle.overlay.specs.Overlay.{Overlay, label_of}
 use Rattle.overlay.specs.Measure.{root, edge_length, member_area2, region_area2, border, owned_border}
-use Rattle.overlay.specs.Owner.{Facts, Rule, rule_by, least_index, greatest_area, least_area, longest_border, shared_regions, last_state, label_owner, first_best, neighbour_of}
-use Rattle.overlay.specs.Lines.{degree, point_before, point_after, ring_without, coverage_without}
-use Rattle.overlay.specs.Parts.{is_counter_clockwise, is_clockwise, is_within_angle, corners, is_free_corner, boundary, is_in_polygon}
+use Rattle.overlay.specs.Owner.{Rule, rule_by, least_index, greatest_area, least_area, longest_border, shared_regions, last_state, label_owner, neighbour_of}
+use Rattle.overlay.specs.Lines.{degree, point_before, point_after, ring_without}
+use Rattle.overlay.specs.Parts.{is_counter_clockwise, is_clockwise, is_within_angle, corners, is_free_corner}
 
 -- ---- writing edges, rings and odd pairs
 

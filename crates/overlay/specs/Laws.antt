@@ -3,16 +3,15 @@ use Rattle.std.specs.Prelude.{◌≡◌, ℕ, ◌+◌, ◌*◌, ◌<◌, ◌≤�
 use Rattle.std.specs.List.{IsFirstBest}
 use Rattle.cov_types.specs.declared.edge_use.EdgeUse.{EdgeUse}
 use Rattle.cov_types.specs.declared.seg.Seg.{Seg}
-use Rattle.plane.specs.Label.{label_at}
 use Rattle.plane.specs.Parity.{member_holds}
 use Rattle.plane.specs.Point.{Point}
 use Rattle.plane.specs.Region.{IsSide, AreRegions}
 use Rattle.overlay.specs.declared.candidate.Candidate.{Candidate}
 use Rattle.overlay.specs.declared.odd_use.OddUse.{OddUse}
-use Rattle.overlay.specs.Noding.{IsOdd, AreEdges, AreLiveEdges, odd_uses}
+use Rattle.overlay.specs.Noding.{AreEdges, AreLiveEdges, odd_uses}
 use Rattle.overlay.specs.Overlay.{Overlay}
 use Rattle.overlay.specs.Measure.{root, region_area2, border, owned_border}
-use Rattle.overlay.specs.Gap.{HasRoomWithin, IsClearance, IsNarrow}
+use Rattle.overlay.specs.Gap.{IsClearance, IsNarrow}
 use Rattle.overlay.specs.Owner.{Rule, least_index, greatest_area, least_area, longest_border, IsOwner}
 use Rattle.overlay.specs.Parts.{InOnePart}
 

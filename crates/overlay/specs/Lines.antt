@@ -1,5 +1,5 @@
 -- Simplifying after Visvalingam and Whyatt (1993): nodes, lines from node to node, and the greedy run over them.
-use Rattle.std.specs.Prelude.{◌≡◌, ◌≢◌, ◌⊎◌, ℕ, ◌+◌, ◌-◌, ◌*◌, ◌<◌, ◌≤◌, Bool, true, false, ◌&&◌, ◌||◌, not, cond, IsTrue, ◌↔◌, List, [], ◌∷◌, length, map, reverse, take, drop, zip, filter, flat_map, count_by, All, AllPairs, Contains, Option, Some, option_and_then, slice_get, ⊤, ℤ, pos, ◌+ℤ◌, ◌*ℤ◌, unsigned_abs}
+use Rattle.std.specs.Prelude.{◌≡◌, ◌≢◌, ◌⊎◌, ℕ, ◌+◌, ◌-◌, ◌*◌, ◌<◌, ◌≤◌, Bool, true, false, ◌&&◌, ◌||◌, not, cond, IsTrue, ◌↔◌, List, [], ◌∷◌, length, map, reverse, take, drop, zip, filter, flat_map, count_by, All, AllPairs, Contains, Option, Some, option_and_then, slice_get, ⊤, pos, ◌+ℤ◌, ◌*ℤ◌, unsigned_abs}
 use Rattle.std.specs.List.{list_any, list_all}
 use Rattle.std.specs.declared.cmp.Ordering.{Ordering}
 use Rattle.std.specs.Ordering.{ordering_then, nat_cmp, int_eq, is_lt, is_le}
@@ -9,9 +9,11 @@ use Rattle.cov_types.specs.declared.edge_use.EdgeUse.{EdgeUse}
 use Rattle.cov_types.specs.declared.seg.Seg.{Seg}
 use Rattle.cov_types.specs.Coord.{is_before, coord_cmp}
 use Rattle.cov_types.specs.Seg.{IsSegBetween}
+use Rattle.cov_types.specs.Uses.{uses_of}
 use Rattle.plane.specs.Segment.{turn_of}
 use Rattle.plane.specs.Snapping.{chain_edges}
-use Rattle.overlay.specs.Noding.{segments}
+use Rattle.overlay.specs.declared.odd_use.OddUse.{OddUse}
+use Rattle.overlay.specs.Noding.{AreEdges}
 
 -- ---- nodes and lines
 
@@ -178,3 +180,14 @@ ring_without removed points = cond (is_one_point points) points (current removed
 -- the members of a coverage without the removed points
 abbrev pub coverage_without : List Coord → List (List (List (List Coord))) → List (List (List (List Coord)))
 coverage_without removed members = map (λ polys. map (λ rings. map (ring_without removed) rings) polys) members
+
+-- out is the coverage, simplified: that of the state in which the run over its lines ends
+pub record IsSimplified (members : List (List (List (List Coord)))) (tolerance : ℕ) (inner_only : Bool) (out : List (List (List (List Coord)))) : Type 0 where
+  pub edges : List Seg
+  pub odd : List OddUse
+  pub are_edges : AreEdges (uses_of members) edges odd
+  pub lines : List (List Coord)
+  pub are_lines : AreLines edges lines
+  pub removed : List Coord
+  pub last : IsLast (record { uses = uses_of members; lines = lines; tolerance = tolerance; inner_only = inner_only }) removed
+  pub without : out ≡ coverage_without removed members

@@ -1,5 +1,5 @@
 -- An instance of simplifying: a square with a point in the middle of its bottom, at tolerance 0.
-use Rattle.std.specs.Prelude.{◌≡◌, ℕ, false, List, [], ◌∷◌, ◌++◌}
+use Rattle.std.specs.Prelude.{false, List, [], ◌∷◌, ◌++◌}
 use Rattle.cov_types.specs.declared.seg.Seg.{Seg}
 use Rattle.cov_types.specs.Uses.{ring_uses}
 use Rattle.plane.specs.Examples.{grid}

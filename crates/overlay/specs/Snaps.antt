@@ -1,7 +1,6 @@
 -- Instances of snap rounding: a crossing on the corner of pixels, and what it does to the chains.
-use Rattle.std.specs.Prelude.{◌≡◌, List, [], ◌∷◌, refl, pos, negsuc}
+use Rattle.std.specs.Prelude.{List, [], ◌∷◌, refl, pos, negsuc}
 use Rattle.std.proofs.Common.{lit≤}
-use Rattle.cov_types.specs.declared.coord.Coord.{Coord}
 use Rattle.cov_types.specs.declared.seg.Seg.{Seg}
 use Rattle.plane.specs.Examples.{grid, segment}
 use Rattle.plane.specs.Point.{Point}

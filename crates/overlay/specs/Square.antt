@@ -7,7 +7,7 @@ use Rattle.plane.specs.Examples.{left, bottom, top, right}
 use Rattle.plane.specs.Region.{AreRegions}
 use Rattle.overlay.specs.Noding.{odd_uses}
 use Rattle.overlay.specs.Overlay.{Overlay}
-use Rattle.overlay.specs.Gap.{IsClearance}
+use Rattle.overlay.specs.Gap.{IsGap, IsClearance, IsNarrow}
 use Rattle.overlay.specs.Owner.{Rule, rule_by, least_index, AreOwners}
 use Rattle.overlay.specs.Parts.{IsSimple, IsPartOf, IsSound}
 use Rattle.overlay.specs.Cleaned.{IsSnappedOverlay, IsCleaned}
@@ -22,6 +22,10 @@ square_number n = slice_index (0 ∷ 1 ∷ 1 ∷ 0 ∷ 0 ∷ 1 ∷ 1 ∷ 0 ∷ [
 
 abbrev pub lone : Overlay
 lone = record { edges = square_edges; uses = odd_uses square_edges (pairs 0 (0 ∷ 1 ∷ 2 ∷ 3 ∷ [])); members = 1; number = square_number }
+
+-- the same square, of which no member has an edge
+abbrev pub unheld : Overlay
+unheld = record lone { uses = [] }
 
 -- region 1 has the owner 0
 abbrev pub lone_owners : ℕ → Option ℕ
@@ -38,6 +42,10 @@ by_index = rule_by least_index
 pub record SquareExamples : Type 0 where
   pub regions : AreRegions square_edges square_number
   pub clearance : IsClearance square_edges 1 10
+  pub narrow : IsNarrow square_edges 1 11
+  pub not_narrow : ¬ IsNarrow square_edges 1 10
+  pub gap : IsGap unheld 1
+  pub no_gap : ¬ IsGap lone 1
   pub simple : IsSimple shell
   pub overlay : IsSnappedOverlay (ring_uses 0 shell) 1 lone
   pub owners : (w : ℕ) → AreOwners by_index 0 lone w lone_owners

@@ -11,18 +11,18 @@ length_examples = record { none = refl; whole = refl; level = refl; steeper = re
 
 pub overlap_examples : OverlapExamples
 unfolding side sweep trapezoid root edge_length
-overlap_examples = record { labels = refl; regions = refl; members = refl; borders = refl; shared = refl; tie = refl; asked = refl }
+overlap_examples = record { labels = refl; regions = refl; members = refl; borders = refl; shared = refl; tie = refl; asked = refl; first = refl; second = refl }
 
 pub rule_examples : RuleExamples
 rule_examples = record { least_index = refl; greatest_area = refl; least_area = refl; longest_border = refl }
 
 pub moat_examples : MoatExamples
 unfolding side sweep trapezoid root edge_length
-moat_examples = record { labels = refl; areas = refl; borders = refl; neighbour = refl }
+moat_examples = record { labels = refl; areas = refl; borders = refl; neighbour = refl; first = refl; with_its_gap = refl }
 
 pub notched_examples : NotchedExamples
 unfolding side sweep turn_of trapezoid
-notched_examples = record { areas = refl; shell_turns = refl; hole_turns = refl; pinched_turns = refl; two_rings = refl; one_walk = refl }
+notched_examples = record { areas = refl; rings = refl; in_hole = refl; beside_hole = refl; shell_turns = refl; hole_turns = refl; pinched_turns = refl; two_rings = refl; one_walk = refl }
 
 pub snapped_examples : SnappedExamples
 snapped_examples = record { half_segments = refl; half_edges = refl; one_is_even = refl; thin_edges = refl; all_are_even = refl }

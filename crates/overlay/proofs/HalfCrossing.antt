@@ -279,36 +279,35 @@ falling_met = record {
 rising_chain : IsChain four rising (at 0 0 ++ at 1 1)
 unfolding sweep
 rising_chain =
-    chain_of rising (at 0 0 ++ at 1 1) (record { lt = tt }) ((lo_hot_met four rising (0, omega arith, refl), (hi_hot_met four rising (0, omega arith, refl), tt)))
+    chain_of rising (at 0 0 ++ at 1 1) (record { lt = tt }) (lo_hot_met four rising (0, omega arith, refl), (hi_hot_met four rising (0, omega arith, refl), tt))
     (by_corner (λ r. MeetsPixel rising r → Contains (at 0 0 ++ at 1 1) r) (λ m. (0, omega arith, refl)) (not_met rising (grid 0 1) rising_misses_left) (not_met rising (grid 1 0) rising_misses_right) (λ m. (1, omega arith, refl)))
-    (((inl (record { lt = tt }), tt), (tt, tt)))
+    ((inl (record { lt = tt }), tt), (tt, tt))
 
 top_chain : IsChain four top (at 0 1 ++ at 1 1)
 unfolding sweep
 top_chain =
-    chain_of top (at 0 1 ++ at 1 1) (record { lt = tt }) ((lo_hot_met four top (1, omega arith, refl), (hi_hot_met four top (1, omega arith, refl), tt)))
+    chain_of top (at 0 1 ++ at 1 1) (record { lt = tt }) (lo_hot_met four top (1, omega arith, refl), (hi_hot_met four top (1, omega arith, refl), tt))
     (by_corner (λ r. MeetsPixel top r → Contains (at 0 1 ++ at 1 1) r) (not_met top (grid 0 0) (top_misses 0)) (λ m. (0, omega arith, refl)) (not_met top (grid 1 0) (top_misses 1)) (λ m. (1, omega arith, refl)))
-    (((inl (record { lt = tt }), tt), (tt, tt)))
+    ((inl (record { lt = tt }), tt), (tt, tt))
 
 bottom_chain : IsChain four bottom (at 0 0 ++ at 1 0)
 unfolding sweep
 bottom_chain =
-    chain_of bottom (at 0 0 ++ at 1 0) (record { lt = tt }) ((lo_hot_met four bottom (3, omega arith, refl), (hi_hot_met four bottom (3, omega arith, refl), tt)))
+    chain_of bottom (at 0 0 ++ at 1 0) (record { lt = tt }) (lo_hot_met four bottom (3, omega arith, refl), (hi_hot_met four bottom (3, omega arith, refl), tt))
     (by_corner (λ r. MeetsPixel bottom r → Contains (at 0 0 ++ at 1 0) r) (λ m. (0, omega arith, refl)) (not_met bottom (grid 0 1) (bottom_misses 0)) (λ m. (1, omega arith, refl)) (not_met bottom (grid 1 1) (bottom_misses 1)))
-    (((inl (record { lt = tt }), tt), (tt, tt)))
+    ((inl (record { lt = tt }), tt), (tt, tt))
 
 falling_chain : IsChain four falling (at 0 1 ++ at 1 1 ++ at 1 0)
 unfolding sweep
 falling_chain =
-    chain_of falling (at 0 1 ++ at 1 1 ++ at 1 0) (record { lt = tt }) ((
+    chain_of falling (at 0 1 ++ at 1 1 ++ at 1 0) (record { lt = tt }) (
       lo_hot_met four falling (2, omega arith, refl),
       (((hi_hot_met four rising (0, omega arith, refl)).0, (meets-is falling (grid 1 1)).1 falling_met), (hi_hot_met four falling (2, omega arith, refl), tt)),
-    ))
-    (by_corner (λ r. MeetsPixel falling r → Contains (at 0 1 ++ at 1 1 ++ at 1 0) r) (λ m. absurd (falling_misses ((meets-is falling (grid 0 0)).0 m))) (λ m. (0, omega arith, refl)) (λ m. (2, omega arith, refl)) (λ m. (1, omega arith, refl)))
-    ((
+    )
+    (by_corner (λ r. MeetsPixel falling r → Contains (at 0 1 ++ at 1 1 ++ at 1 0) r) (λ m. absurd (falling_misses ((meets-is falling (grid 0 0)).0 m))) (λ m. (0, omega arith, refl)) (λ m. (2, omega arith, refl)) (λ m. (1, omega arith, refl))) (
       (inl (record { lt = tt }), (inl (record { lt = tt }), tt)),
       ((inr (refl, inr (record { lt = tt }, record { lt = tt })), tt), (tt, tt)),
-    ))
+    )
 
 near_five : IsBeside (segment (grid 0 0) (grid 10 1) refl) (grid 5 0)
 unfolding turn_of

@@ -12,6 +12,7 @@ use Rattle.cov_types.specs.declared.seg.Seg.{Seg}
 use Rattle.cov_types.proofs.Equal.{Decides-same_coords, Decides-same_segs}
 use Rattle.crossings.specs.Across.{is_same_seg}
 use Rattle.overlay.specs.Lines.{is_same_coord}
+use Rattle.overlay.specs.Examples.{is_same_way}
 
 -- R holds of each element and each later one, by recursion
 abbrev pub PairsByRecursion : {X : Type 0} → (X → X → Type 0) → List X → Type 0
@@ -55,9 +56,6 @@ coords_apart = apart_by_test is_same_coord (λ a b. (Decides-same_coords a b).1)
 
 pub segs_apart : (segs : List Seg) → all_apart is_same_seg segs ≡ true → AllPairs (λ a b. a ≢ b) segs
 segs_apart = apart_by_test is_same_seg (λ a b. (Decides-same_segs a b).1)
-
-abbrev pub is_same_way : Coord × Coord → Coord × Coord → Bool
-is_same_way a b = is_same_coord a.0 b.0 && is_same_coord a.1 b.1
 
 pub ways_apart : (ways : List (Coord × Coord)) → all_apart is_same_way ways ≡ true → AllPairs (λ a b. a ≢ b) ways
 ways_apart = apart_by_test is_same_way (λ a b e. and_from _ _ ((Decides-same_coords a.0 b.0).1 (ap (λ w. w.0) e)) ((Decides-same_coords a.1 b.1).1 (ap (λ w. w.1) e)))

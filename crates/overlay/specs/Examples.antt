@@ -1,11 +1,12 @@
 -- Examples of the definitions of overlays, with numbers.
-use Rattle.std.specs.Prelude.{◌≡◌, ℕ, ◌+◌, Bool, true, false, List, [], ◌∷◌, ◌++◌, map, flat_map, option_to_list, Option, Some, None, slice_index, pos}
-use Rattle.std.specs.List.{list_all}
+use Rattle.std.specs.Prelude.{◌≡◌, ℕ, ◌+◌, ◌==◌, ◌&&◌, ◌||◌, Bool, true, false, List, [], ◌∷◌, ◌++◌, map, flat_map, option_to_list, Option, Some, None, slice_index, pos}
+use Rattle.std.specs.List.{list_any, list_all}
 use Rattle.cov_types.specs.declared.coord.Coord.{Coord}
 use Rattle.cov_types.specs.declared.edge_use.EdgeUse.{EdgeUse}
 use Rattle.cov_types.specs.declared.seg.Seg.{Seg}
 use Rattle.cov_types.specs.Uses.{seg_between, sides, ring_uses}
 use Rattle.plane.specs.Examples.{grid}
+use Rattle.plane.specs.Point.{at_coord}
 use Rattle.plane.specs.Snapping.{chain_edges}
 use Rattle.crossings.specs.Across.{member_times}
 use Rattle.overlay.specs.declared.candidate.Candidate.{Candidate}
@@ -14,8 +15,8 @@ use Rattle.overlay.specs.Noding.{segments, odd_uses, snapped_uses}
 use Rattle.overlay.specs.Overlay.{Overlay, label_of}
 use Rattle.overlay.specs.Measure.{root, edge_length, member_area2, region_area2, border, owned_border}
 use Rattle.overlay.specs.Owner.{Rule, rule_by, least_index, greatest_area, least_area, longest_border, shared_regions, last_state, label_owner, neighbour_of}
-use Rattle.overlay.specs.Lines.{degree, point_before, point_after, ring_without}
-use Rattle.overlay.specs.Parts.{is_counter_clockwise, is_clockwise, is_within_angle, corners, is_free_corner}
+use Rattle.overlay.specs.Lines.{is_same_coord, degree, point_before, point_after, ring_without}
+use Rattle.overlay.specs.Parts.{is_counter_clockwise, is_clockwise, is_within_angle, corners, is_free_corner, boundary, is_in_polygon}
 
 -- ---- writing edges, rings and odd pairs
 
@@ -30,6 +31,17 @@ at x y = grid x y ∷ []
 -- the odd pairs of a member with these edges
 abbrev pub pairs : ℕ → List ℕ → List OddUse
 pairs member edges = map (λ k. record { member = member; edge = k }) edges
+
+-- whether each way is one of the others, and each of the others one of the ways
+abbrev pub is_same_way : Coord × Coord → Coord × Coord → Bool
+is_same_way a b = is_same_coord a.0 b.0 && is_same_coord a.1 b.1
+
+abbrev pub are_same_ways : List (Coord × Coord) → List (Coord × Coord) → Bool
+are_same_ways xs ys = list_all (λ x. list_any (is_same_way x) ys) xs && list_all (λ y. list_any (is_same_way y) xs) ys
+
+-- whether the rings go round the regions inside, with them on the left
+abbrev pub goes_round : Overlay → (ℕ → Bool) → List (List Coord) → Bool
+goes_round o inside rings = are_same_ways (flat_map sides rings) (boundary o inside)
 
 -- ---- lengths
 
@@ -98,6 +110,8 @@ pub record OverlapExamples : Type 0 where
   pub shared : shared_regions overlap ≡ 7 ∷ []
   pub tie : map (label_owner {State = ℕ} (rule_by longest_border) 0 overlap) (0 ∷ 1 ∷ 7 ∷ 13 ∷ []) ≡ None ∷ Some 0 ∷ Some 0 ∷ Some 1 ∷ []
   pub asked : last_state counting 5 overlap ≡ 6
+  pub first : goes_round overlap (λ r. (r == 1) || (r == 7)) ((at 0 0 ++ at 5 0 ++ at 10 0 ++ at 10 10 ++ at 5 10 ++ at 0 10) ∷ []) ≡ true
+  pub second : goes_round overlap (λ r. r == 13) ((at 10 0 ++ at 15 0 ++ at 15 10 ++ at 10 10) ∷ []) ≡ true
 
 -- ---- the four rules
 
@@ -139,6 +153,8 @@ pub record MoatExamples : Type 0 where
   pub areas : map (region_area2 moat) (1 ∷ 7 ∷ 13 ∷ 19 ∷ []) ≡ pos 800 ∷ pos 72 ∷ pos 128 ∷ pos 800 ∷ []
   pub borders : map (owned_border moat moat_owners 7) (0 ∷ 1 ∷ 2 ∷ []) ≡ 5120 ∷ 5120 ∷ 8192 ∷ []
   pub neighbour : neighbour_of moat moat_owners 7 ≡ 2
+  pub first : goes_round moat (λ r. r == 1) ((at 0 0 ++ at 15 0 ++ at 15 10 ++ at 10 10 ++ at 10 20 ++ at 15 20 ++ at 15 30 ++ at 0 30) ∷ []) ≡ true
+  pub with_its_gap : goes_round moat (λ r. (r == 7) || (r == 13)) ((at 10 10 ++ at 15 10 ++ at 20 10 ++ at 20 20 ++ at 15 20 ++ at 10 20) ∷ []) ≡ true
 
 -- ---- a hole that touches its shell
 
@@ -173,6 +189,9 @@ has_free_corners rings = list_all (is_free_corner (flat_map sides rings)) (flat_
 
 pub record NotchedExamples : Type 0 where
   pub areas : map (region_area2 notched) (1 ∷ 3 ∷ []) ≡ pos 173 ∷ pos 27 ∷ []
+  pub rings : goes_round notched (λ r. r == 1) (shell ∷ hole ∷ []) ≡ true
+  pub in_hole : is_in_polygon (shell ∷ hole ∷ []) (at_coord (grid 3 3)) ≡ false
+  pub beside_hole : is_in_polygon (shell ∷ hole ∷ []) (at_coord (grid 8 8)) ≡ true
   pub shell_turns : is_counter_clockwise shell ≡ true
   pub hole_turns : is_clockwise hole ≡ true
   pub pinched_turns : is_counter_clockwise pinched ≡ true

@@ -51,7 +51,7 @@ is_border o r passes k = ((region_above o k == r) && passes (region_below o k)) 
 abbrev pub border_with : Overlay → ℕ → (ℕ → Bool) → ℕ
 border_with o r passes = sum_by (λ p. cond (is_border o r passes p.0) (edge_length p.1) 0) (numbered_edges o)
 
--- the border of a region with a member: with the regions that are labelled with it alone
+-- the border of a region with a member: the length shared with the regions that are labelled with it alone
 abbrev pub border : Overlay → ℕ → ℕ → ℕ
 border o r member = border_with o r (λ g. pointwise nat_eq (label_of o g) (member ∷ []))
 
@@ -60,6 +60,6 @@ abbrev pub is_member : ℕ → Option ℕ → Bool
 is_member member None = false
 is_member member (Some i) = i == member
 
--- the owned border of a region with a member: with the regions that have a label and are owned by it
+-- the owned border of a region with a member: the length shared with the regions that have a label and are owned by it
 abbrev pub owned_border : Overlay → (ℕ → Option ℕ) → ℕ → ℕ → ℕ
 owned_border o owners r member = border_with o r (λ g. not (length (label_of o g) == 0) && is_member member (owners g))

@@ -56,7 +56,7 @@ AreChains uses chains = AllZip (λ u chain. IsChain (segments uses) u.seg chain)
 
 -- the uses of the snapped members: of each use its member with the edges of its chain, with repeats
 abbrev pub snapped_uses : List EdgeUse → List (List Coord) → List EdgeUse
-snapped_uses uses chains = flat_map (λ p. map (λ e. record { member = (p.0).member; seg = e }) (chain_edges p.1)) (zip uses chains)
+snapped_uses uses chains = flat_map (λ p. map (λ e. record { member = p.0.member; seg = e }) (chain_edges p.1)) (zip uses chains)
 
 -- snapped are the uses of the snapped members
 pub record AreSnapped (uses snapped : List EdgeUse) : Type 0 where

@@ -53,7 +53,7 @@ candidates_of o r = map (λ i. record { member = i; area2 = member_area2 o.uses 
 abbrev pub facts_of : Overlay → ℕ → Facts
 facts_of o r = record { candidates = candidates_of o r; region_area2 = region_area2 o r }
 
--- the shared regions, ascending: those with two members or more in their label
+-- the shared regions, where members overlap, ascending: those with two members or more in their label
 abbrev pub shared_regions : Overlay → List ℕ
 shared_regions o = filter (λ r. (o.number r == r) && nat_le 2 (length (label_of o r))) (numbers_below (2 * length o.edges))
 

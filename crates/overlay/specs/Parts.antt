@@ -1,4 +1,4 @@
--- The parts of an owner's regions, and the polygons that are sound for them.
+-- The parts of an owner's regions, which are edge-connected components, and the polygons that are sound for them.
 use Rattle.std.specs.Prelude.{◌≡◌, ◌≢◌, ℕ, ◌≤◌, Bool, true, false, ◌&&◌, ◌||◌, not, cond, IsTrue, ◌↔◌, List, [], ◌∷◌, ◌++◌, length, take, drop, zip, flat_map, option_to_list, All, AllPairs, Contains, Option, Some, pos, int_lt}
 use Rattle.std.specs.List.{list_any, list_all}
 use Rattle.cov_types.specs.declared.coord.Coord.{Coord}
@@ -51,11 +51,11 @@ is_counter_clockwise points = list_all (λ p. holds (ring_edges points) p) (flat
 abbrev pub is_clockwise : List Coord → Bool
 is_clockwise points = list_all (λ p. not (holds (ring_edges points) p)) (flat_map left_points (sides points))
 
--- ---- angles
+-- ---- angular sectors
 
--- w is strictly within the angle at v, counter-clockwise from a to c; where a and c are one point this is a full turn
-abbrev pub is_within_angle : Coord → Coord → Coord → Coord → Bool
-is_within_angle v a c w =
+-- w is strictly within the angular sector at v, counter-clockwise from a to c; where a and c are one point this is a full turn
+abbrev pub is_in_sector : Coord → Coord → Coord → Coord → Bool
+is_in_sector v a c w =
     cond (is_same_coord a c) (not (is_same_coord a w)) (
     cond (int_lt (pos 0) (turn_of v a c))
     (int_lt (pos 0) (turn_of v a w) && int_lt (pos 0) (turn_of v w c))
@@ -69,9 +69,9 @@ corners points = zip (sides points) (sides (drop 1 points ++ take 1 points))
 abbrev pub far_ends : Coord → List (Coord × Coord) → List Coord
 far_ends v ways = flat_map (λ way. cond (is_same_coord v way.0) (way.1 ∷ []) [] ++ cond (is_same_coord v way.1) (way.0 ∷ []) []) ways
 
--- no side of the rings is strictly within the angle on the right of the corner
+-- from a over v to c: no way round the rings that ends at v is strictly within the sector on the right there
 abbrev pub is_free_corner : List (Coord × Coord) → (Coord × Coord) × (Coord × Coord) → Bool
-is_free_corner ways corner = not (list_any (is_within_angle (corner.0).1 (corner.0).0 (corner.1).1) (far_ends (corner.0).1 ways))
+is_free_corner ways ((a, v), (u, c)) = not (list_any (is_in_sector v a c) (far_ends v ways))
 
 -- ---- polygons
 

@@ -1,0 +1,6 @@
+//! Validating a coverage.
+#![tactic(auto)]
+
+mod mark;
+
+pub use mark::{Kind, Mark};

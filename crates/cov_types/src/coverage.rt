@@ -1,4 +1,5 @@
 use crate::coord::Coord;
+use std::alloc::AllocError;
 use std::marker::Model;
 
 /// A ring, without the closing repeat of its first point.
@@ -16,6 +17,18 @@ impl Model for Ring {
     ghost view = { λ r. r.points.items };
 }
 
+impl Clone for Ring {
+    ghost use Rattle.std.specs.Prelude.{◌≡◌};
+
+    ghost is_clone = { λ a b. b ≡ a };
+
+    fn clone(&self) -> Result<Ring, AllocError> {
+        Ok(Ring {
+            points: self.points.clone()?,
+        })
+    }
+}
+
 /// A polygon: its shell and then its holes, though the even-odd rule reads all rings alike.
 #[derive(Debug, Drop)]
 pub struct Poly {
@@ -29,6 +42,18 @@ impl Model for Poly {
     ghost Value = { List (List Coord) };
 
     ghost view = { λ p. p.rings.items };
+}
+
+impl Clone for Poly {
+    ghost use Rattle.std.specs.Prelude.{◌≡◌};
+
+    ghost is_clone = { λ a b. b ≡ a };
+
+    fn clone(&self) -> Result<Poly, AllocError> {
+        Ok(Poly {
+            rings: self.rings.clone()?,
+        })
+    }
 }
 
 /// A member of a coverage: one parcel, of no polygon, one or several.
@@ -46,6 +71,18 @@ impl Model for Member {
     ghost view = { λ m. m.polys.items };
 }
 
+impl Clone for Member {
+    ghost use Rattle.std.specs.Prelude.{◌≡◌};
+
+    ghost is_clone = { λ a b. b ≡ a };
+
+    fn clone(&self) -> Result<Member, AllocError> {
+        Ok(Member {
+            polys: self.polys.clone()?,
+        })
+    }
+}
+
 /// A polygonal coverage: members that may share edges.
 #[derive(Debug, Drop)]
 pub struct Coverage {
@@ -59,4 +96,16 @@ impl Model for Coverage {
     ghost Value = { List (List (List (List Coord))) };
 
     ghost view = { λ c. c.members.items };
+}
+
+impl Clone for Coverage {
+    ghost use Rattle.std.specs.Prelude.{◌≡◌};
+
+    ghost is_clone = { λ a b. b ≡ a };
+
+    fn clone(&self) -> Result<Coverage, AllocError> {
+        Ok(Coverage {
+            members: self.members.clone()?,
+        })
+    }
 }

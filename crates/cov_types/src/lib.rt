@@ -13,6 +13,8 @@ mod range;
 mod same;
 mod seg;
 mod shape;
+#[cfg(test)]
+mod tests;
 mod use_list;
 
 pub use coord::{Coord, LIMIT};

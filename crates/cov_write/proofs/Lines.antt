@@ -1,5 +1,5 @@
 -- The line of a list that is not empty, piece by piece as it is written.
-use Rattle.std.proofs.Common.{◌≡◌, ◌++◌, ◌<◌, ℕ, List, [], ◌∷◌, length, append_assoc, refl, arith, rules}
+use Rattle.std.proofs.Common.{◌≡◌, ◌++◌, ◌<◌, ℕ, List, [], ◌∷◌, length, append_assoc, arith, rules}
 use Rattle.std.specs.Prelude.{codes}
 use Rattle.cov_types.specs.declared.seg.Seg.{Seg}
 use Rattle.cov_write.specs.Written.{separated, segment_text, segments_line}

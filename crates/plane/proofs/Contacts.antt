@@ -1,16 +1,19 @@
 -- Two segments meet in one way at most.
-use Rattle.std.proofs.Common.{◌≡◌, ◌⊎◌, inl, inr, refl, sym, subst, ◌∙◌, ap, ℤ, pos, ◌*ℤ◌, Bool, true, false, arith}
+use Rattle.std.proofs.Common.{◌≡◌, inl, inr, refl, sym, subst, ◌∙◌, ap, pos, ◌*ℤ◌, Bool, true, false, arith}
 use Rattle.exact.proofs.Ring.{lin, mul_one}
+use Rattle.exact.proofs.Compare.{le_of_lt}
 use Rattle.cov_types.specs.declared.seg.Seg.{Seg}
 use Rattle.cov_types.proofs.Order.{cases_before}
 use Rattle.plane.specs.declared.contact.Contact.{Contact}
 use Rattle.plane.specs.declared.contact.Contact.TheVariants.{Apart, SameSegment, CommonEnd, Bad}
-use Rattle.plane.specs.declared.contact.Badness.{Badness}
 use Rattle.plane.specs.declared.contact.Badness.TheVariants.{Cross, Touch, Overlap}
 use Rattle.plane.specs.Point.{Point, SamePoint, at_coord}
 use Rattle.plane.specs.Segment.{IsOn, IsEnd}
-use Rattle.plane.specs.Contact.{IsCommon, IsOnlyCommon, HaveTwoCommon, IsBad, IsContact}
-use Rattle.plane.proofs.Points.{same_point-sym, same_point-trans, first_between, second_between}
+use Rattle.plane.specs.Ray.{sweep, Rises}
+use Rattle.plane.specs.Contact.{IsCommon, IsOnlyCommon, HaveTwoCommon, IsContact}
+use Rattle.plane.proofs.Points.{same_point-refl, same_point-sym, same_point-trans, first_between, second_between}
+use Rattle.plane.proofs.Sides.{side_zero-on}
+use Rattle.plane.proofs.Sweeps.{sweep-on_from, sweep-on_to, same_as_hi}
 
 -- the two ends of a segment are two points
 pub ends_apart : (s : Seg) → ¬ SamePoint (at_coord s.lo) (at_coord s.hi)
@@ -115,3 +118,23 @@ contact_unique s t c k h i =
     let m = meeting_of s t c h in
     let n = meeting_of s t k i in
     sym m.1.1 ∙ ap contact_of (meeting_unique s t m.0 n.0 m.1.0 n.1.0) ∙ n.1.1
+
+-- ---- segments in a row
+
+-- two segments of which one ends where the other begins have just that point in common
+in_a_row : (s t : Seg) → s.hi ≡ t.lo → Rises s → Rises t → (q : Point) → IsCommon s t q → SamePoint q (at_coord s.hi)
+in_a_row s t joint rises_s rises_t q h =
+    let to = sweep-on_to s q (le_of_lt rises_s) h.0 in
+    let from = sweep-on_from t q (le_of_lt rises_t) h.1 in
+    let level = ap (λ c. sweep (at_coord c) *ℤ pos q.d) joint in
+    same_as_hi s q rises_s (side_zero-on s q h.0) (omega (arith, lin))
+
+pub only_in_a_row : (s t : Seg) → s.hi ≡ t.lo → Rises s → Rises t → IsOnlyCommon s t (at_coord s.hi)
+only_in_a_row s t joint rises_s rises_t = record {
+  common = (second_between (at_coord s.lo) (at_coord s.hi), subst (λ c. IsOn t (at_coord c)) (sym joint) (first_between (at_coord t.lo) (at_coord t.hi)));
+  only = in_a_row s t joint rises_s rises_t;
+}
+
+pub common_end_in_a_row : (s t : Seg) → s.hi ≡ t.lo → Rises s → Rises t → IsContact s t CommonEnd
+common_end_in_a_row s t joint rises_s rises_t =
+    (at_coord s.hi, (only_in_a_row s t joint rises_s rises_t, inr (same_point-refl (at_coord s.hi)), inl (subst (λ c. SamePoint (at_coord s.hi) (at_coord c)) joint (same_point-refl (at_coord s.hi)))))

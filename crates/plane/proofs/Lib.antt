@@ -5,3 +5,8 @@ pub mod Sweeps
 pub mod Over
 pub mod Same
 pub mod Contacts
+pub mod Examples
+pub mod Meeting
+pub mod Along
+pub mod Middle
+pub mod MeetsBadly

@@ -1,10 +1,10 @@
 -- One point, and points between two points.
-use mathlib.Core.List.{List, [], ◌∷◌}
-use Rattle.std.proofs.Common.{◌≡◌, ◌⊎◌, inl, inr, refl, sym, ◌∙◌, ap, ℕ, ◌+◌, ◌*◌, ◌≤◌, ℤ, pos, negsuc, ◌+ℤ◌, ◌-ℤ◌, ◌*ℤ◌, ◌<ℤ◌, ◌≤ℤ◌, arith}
-use Rattle.exact.proofs.Ring.{lin, by_ring, by_one, by_two, Var, Lit, ◌⊕◌, ◌⊖◌, ◌⊗◌, Neg}
+use mathlib.Core.List.{[], ◌∷◌}
+use Rattle.std.proofs.Common.{◌≡◌, ◌⊎◌, inl, inr, refl, sym, ◌+◌, ◌*◌, ℤ, pos, negsuc, ◌+ℤ◌, ◌*ℤ◌, ◌<ℤ◌, ◌≤ℤ◌, arith}
+use Rattle.exact.proofs.Ring.{lin, by_ring, by_one, by_two, Var, Lit, ◌⊕◌, ◌⊗◌, Neg}
 use Rattle.exact.proofs.Compare.{eq_or_not}
 use Rattle.exact.proofs.Order.{cancel_eq}
-use Rattle.plane.specs.Point.{Point, SamePoint, IsBetween, at_coord}
+use Rattle.plane.specs.Point.{Point, SamePoint, IsBetween}
 
 -- a denominator is positive
 pub d_positive : (p : Point) → pos 0 <ℤ pos p.d

@@ -1,7 +1,7 @@
 -- One point as two fractions: every test answers the same of both.
 use mathlib.Core.Bool.{Bool, true, false}
 use Rattle.std.specs.Prelude.{count_by, List, ◌&&◌, ◌%◌, ◌==◌}
-use Rattle.std.proofs.Common.{◌≡◌, refl, sym, ap, ℕ, ℤ, pos, ◌*ℤ◌, ◌<ℤ◌, ◌≤ℤ◌, ◌↔◌, IsTrue, arith}
+use Rattle.std.proofs.Common.{◌≡◌, refl, sym, ap, ℕ, pos, ◌*ℤ◌, ◌<ℤ◌, ◌↔◌, IsTrue, arith}
 use Rattle.exact.proofs.Ring.{lin, mul_comm, zero_mul}
 use Rattle.exact.proofs.Compare.{le_of_lt}
 use Rattle.exact.proofs.Order.{cancel_eq_right}

@@ -1,22 +1,22 @@
 -- Sweep values: their order on grid points, on a segment and on its line.
-use mathlib.Core.List.{List, [], ◌∷◌}
-use Rattle.std.proofs.Common.{◌≡◌, refl, sym, ◌∙◌, ap, ℕ, ◌^◌, ℤ, pos, negsuc, neg_ℤ, ◌+ℤ◌, ◌-ℤ◌, ◌*ℤ◌, ◌<ℤ◌, ◌≤ℤ◌, IsTrue, ◌↔◌, ◌⊎◌, inl, inr, int_lt, arith}
+use mathlib.Core.List.{[], ◌∷◌}
+use Rattle.std.proofs.Common.{◌≡◌, refl, sym, ◌∙◌, ap, ◌^◌, ℤ, pos, negsuc, neg_ℤ, ◌+ℤ◌, ◌-ℤ◌, ◌*ℤ◌, ◌<ℤ◌, ◌≤ℤ◌, IsTrue, ◌↔◌, inl, inr, arith}
 use borrow.Author.Differences.{product_is}
 use Rattle.exact.proofs.Ring.{lin, by_ring, by_one, by_three, Term, Var, Lit, ◌⊕◌, ◌⊖◌, ◌⊗◌, Neg, mul_one}
-use Rattle.exact.proofs.Compare.{int_lt_is}
+use Rattle.exact.proofs.Compare.{int_lt_is, le_of_lt}
 use Rattle.exact.proofs.Order.{cancel_eq}
 use Rattle.exact.proofs.Sign.{positive_times_positive}
 use Rattle.cov_types.specs.declared.coord.Coord.{Coord}
 use Rattle.cov_types.specs.declared.seg.Seg.{Seg}
 use Rattle.cov_types.specs.Coord.{is_before}
 use Rattle.cov_types.specs.Range.{IsInRange, IsSegInRange}
-use Rattle.cov_types.proofs.Order.{cases_before, before_by_x, before_by_y, cases_coords, is_before-irrefl}
-use Rattle.plane.specs.Point.{Point, SamePoint, IsBetween, at_coord}
+use Rattle.cov_types.proofs.Order.{cases_before, cases_coords}
+use Rattle.plane.specs.Point.{Point, SamePoint, at_coord}
 use Rattle.plane.specs.Segment.{IsOn, side}
 use Rattle.plane.specs.Ray.{sweep, sweep_below, Rises}
 use Rattle.plane.proofs.Points.{d_positive, between_by}
 use Rattle.plane.proofs.Forms.{form, form_not_negative-between, form_not_positive-between, form-same}
-use Rattle.plane.proofs.Sides.{side-lo, side-hi}
+use Rattle.plane.proofs.Sides.{side-lo, side-hi, side_zero-on}
 
 -- ---- grid points
 
@@ -187,3 +187,10 @@ same_as_hi s p rises on_line h = same_from_sweep s p (at_coord s.hi) rises on_li
 
 pub same_as_lo : (s : Seg) (p : Point) → Rises s → side s p ≡ pos 0 → sweep p ≡ sweep (at_coord s.lo) *ℤ pos p.d → SamePoint p (at_coord s.lo)
 same_as_lo s p rises on_line h = same_from_sweep s p (at_coord s.lo) rises on_line (side-lo s) (mul_one (sweep p) ∙ h)
+
+-- the points of a segment that rises are those of its line between the sweep values of its ends
+pub on-is : (s : Seg) (p : Point) → Rises s → IsOn s p ↔ ((side s p ≡ pos 0) × ((sweep (at_coord s.lo) *ℤ pos p.d) ≤ℤ sweep p) × (sweep p ≤ℤ (sweep (at_coord s.hi) *ℤ pos p.d)))
+on-is s p rises = (
+  λ h. (side_zero-on s p h, sweep-on_from s p (le_of_lt rises) h, sweep-on_to s p (le_of_lt rises) h),
+  λ h. on_from_sweep s p rises h.0 h.1 h.2,
+)

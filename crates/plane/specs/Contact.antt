@@ -1,5 +1,5 @@
 -- How two segments meet, by their common points.
-use Rattle.std.specs.Prelude.{◌≡◌, ◌⊎◌}
+use Rattle.std.specs.Prelude.{◌≡◌, ◌⊎◌, Bool, true, false}
 use Rattle.cov_types.specs.declared.seg.Seg.{Seg}
 use Rattle.plane.specs.declared.contact.Contact.{Contact}
 use Rattle.plane.specs.declared.contact.Contact.TheVariants.{Apart, SameSegment, CommonEnd, Bad}
@@ -37,3 +37,14 @@ IsContact s t Apart = (r : Point) → ¬ IsCommon s t r
 IsContact s t SameSegment = s ≡ t
 IsContact s t CommonEnd = (r : Point) × (IsOnlyCommon s t r × IsEnd s r × IsEnd t r)
 IsContact s t (Bad badness) = IsBad s t badness
+
+-- the segments are not equal and have a point in common that is not an end of both
+abbrev pub MeetsBadly : Seg → Seg → Type 0
+MeetsBadly s t = ¬ (s ≡ t) × ((r : Point) × (IsCommon s t r × ¬ (IsEnd s r × IsEnd t r)))
+
+-- the contact is one that may not stand in a coverage
+abbrev pub is_bad : Contact → Bool
+is_bad Apart = false
+is_bad SameSegment = false
+is_bad CommonEnd = false
+is_bad (Bad badness) = true

@@ -5,3 +5,6 @@ pub mod Parity
 pub mod Contact
 pub mod Snapping
 pub mod Noded
+pub mod Laws
+pub mod Examples
+pub mod Joined

@@ -1,5 +1,5 @@
 -- The sweep value, and the ray along which it is constant: it leans by one unit to the left in 2^30 upwards.
-use Rattle.std.specs.Prelude.{◌≡◌, ℕ, ◌^◌, Bool, ◌&&◌, not, ℤ, pos, ◌+ℤ◌, ◌*ℤ◌, ◌<ℤ◌, int_lt}
+use Rattle.std.specs.Prelude.{◌≡◌, ◌^◌, Bool, ◌&&◌, not, ℤ, pos, ◌+ℤ◌, ◌*ℤ◌, ◌<ℤ◌, int_lt}
 use Rattle.cov_types.specs.declared.seg.Seg.{Seg}
 use Rattle.plane.specs.Point.{Point, at_coord, SamePoint}
 use Rattle.plane.specs.Segment.{IsOn, side}

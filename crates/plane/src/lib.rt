@@ -5,5 +5,7 @@
 #![tactic(auto)]
 
 mod contact;
+mod laws;
 
 pub use contact::{Badness, Contact};
+pub use laws::{contact_law, on_law, over_law, same_point_law, sweep_law, vectors};

@@ -8,3 +8,6 @@ pub mod Noded
 pub mod Laws
 pub mod Examples
 pub mod Joined
+pub mod Region
+pub mod Label
+pub mod Validity

@@ -5,3 +5,6 @@ pub mod Frame
 pub mod Calls
 pub mod Slurp
 pub mod Spill
+pub mod Plan
+pub mod Entry
+pub mod Shelf

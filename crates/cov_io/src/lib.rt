@@ -6,12 +6,20 @@
 #![tactic(auto)]
 
 mod disk;
+mod fail;
 mod faults;
 mod files;
 mod input;
 mod output;
+mod plan;
+mod shelf;
+mod shelf_file;
+mod store;
 
 pub use disk::Disk;
+pub use fail::{Call, Fail};
 pub use files::{Failed, Files};
 pub use input::{SlurpError, slurp};
 pub use output::{WriteFault, spill};
+pub use shelf::Shelf;
+pub use shelf_file::ShelfFile;

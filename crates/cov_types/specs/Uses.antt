@@ -1,5 +1,5 @@
 -- The segments that a coverage uses, and their ends in a set of points.
-use Rattle.std.specs.Prelude.{ℕ, ◌+◌, ◌==◌, ◌≡◌, Bool, true, false, cond, List, ◌++◌, take, drop, map, zip, flat_map, sum_by, Option, Some, None, option_to_list, refl}
+use Rattle.std.specs.Prelude.{ℕ, ◌+◌, ◌%◌, ◌==◌, ◌≡◌, Bool, true, false, cond, List, ◌++◌, take, drop, map, zip, flat_map, sum_by, Option, Some, None, option_to_list, refl}
 use Rattle.std.specs.List.{enumerate_from}
 use Rattle.cov_types.specs.Coord.{is_before}
 use Rattle.cov_types.specs.declared.coord.Coord.{Coord}
@@ -46,3 +46,7 @@ ends_inside inside s = cond (inside s.lo) 1 0 + cond (inside s.hi) 1 0
 -- how many ends of the member's segments in the list pass the test
 abbrev pub ends_in : (Coord → Bool) → ℕ → List EdgeUse → ℕ
 ends_in inside member uses = sum_by (λ u. cond (u.member == member) (ends_inside inside u.seg) 0) uses
+
+-- of any set of points, each member has an even number of segment ends in it
+abbrev pub HasEvenEnds : List EdgeUse → Type 0
+HasEvenEnds uses = (inside : Coord → Bool) (member : ℕ) → ends_in inside member uses % 2 ≡ 0

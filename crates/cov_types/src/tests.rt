@@ -1,4 +1,6 @@
-use crate::{Coord, Coverage, EdgeUse, LIMIT, Member, Poly, Ring, formed, in_range, same_coverage, uses};
+use crate::{
+    Coord, Coverage, EdgeUse, LIMIT, Member, Poly, Ring, formed, in_range, same_coverage, uses,
+};
 use std::alloc::{AllocError, Global};
 use std::test::Fail;
 
@@ -38,7 +40,10 @@ fn uses_come_in_the_order_of_members_and_points(rt: HostRuntime) -> Result<(), F
     let both = Coverage { members };
     assert!(rt; in_range(&both));
 
-    let list: Vec<(u32, i32, i32, i32, i32)> = uses(alloc, &both)?.iter().map(numbers_of).collect(alloc)?;
+    let list: Vec<(u32, i32, i32, i32, i32)> = uses(alloc, &both)?
+        .iter()
+        .map(numbers_of)
+        .collect(alloc)?;
     let wanted = [
         (0, 0, 0, 10, 0),
         (0, 10, 0, 10, 10),

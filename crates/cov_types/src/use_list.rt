@@ -1,8 +1,7 @@
-ghost use Rattle.std.specs.Prelude.{ℕ, ◌≡◌, ◌++◌, ◌<◌, ◌%◌, Bool, All, length, IfOk, OnOk};
+ghost use Rattle.std.specs.Prelude.{◌≡◌, ◌++◌, ◌<◌, All, length, IfOk, OnOk};
 ghost use Rattle.cov_types.specs.Coverage.{AllInRange};
 ghost use Rattle.cov_types.specs.Range.{IsSegInRange};
-ghost use Rattle.cov_types.specs.Uses.{uses_of, member_uses, poly_uses, ring_uses, side_uses, ends_in};
-ghost use Rattle.cov_types.specs.declared.coord.Coord.{Coord};
+ghost use Rattle.cov_types.specs.Uses.{uses_of, member_uses, poly_uses, ring_uses, side_uses, HasEvenEnds};
 
 use crate::coord::Coord;
 use crate::coverage::{Coverage, Member, Poly, Ring};
@@ -22,7 +21,7 @@ pub fn uses(alloc: Global, c: &Coverage) -> Result<Vec<EdgeUse>, NoMemory>
     ensures members { IfOk result (λ v. All (λ u. u.member < length c.now) v.items) }
 
     // Of any set of points, each member has an even number of segment ends in it.
-    ensures even { IfOk result (λ v. (inside : Coord → Bool) (member : ℕ) → ends_in inside member v.items % 2 ≡ 0) }
+    ensures even { IfOk result (λ v. HasEvenEnds v.items) }
 {
     let mut list = Vec::new(alloc);
     for (number, member) in c.members.iter().enumerate() {

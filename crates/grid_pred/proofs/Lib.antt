@@ -1,1 +1,3 @@
 mod Wide
+mod Order
+mod BySides

@@ -4,7 +4,11 @@
 //! Its promise: each answer is the one that the definitions of the plane give, with no rounding.
 #![tactic(auto)]
 
+mod incidence;
+mod meeting;
 mod orientation;
 
+pub use incidence::on_segment;
+pub use meeting::{meets_badly, relation};
 pub use orientation::turn;
 pub use plane::{Badness, Contact};

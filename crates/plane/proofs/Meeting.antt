@@ -211,7 +211,8 @@ falls_from a b c d (inl h) k e l = absurd (omega (arith, lin))
 falls_from a b c d (inr h) (inl k) e l = (h.0, h.1, k.0, k.1)
 falls_from a b c d (inr h) (inr k) e l = absurd (omega (arith, lin))
 
-equal_opposite : (a b : ℤ) → AreOpposite a b → a ≡ b → (a ≡ pos 0) × (b ≡ pos 0)
+-- opposite and equal is 0
+pub equal_opposite : (a b : ℤ) → AreOpposite a b → a ≡ b → (a ≡ pos 0) × (b ≡ pos 0)
 equal_opposite a b (inl h) e = (omega (arith, lin), omega (arith, lin))
 equal_opposite a b (inr h) e = (omega (arith, lin), omega (arith, lin))
 
@@ -221,16 +222,16 @@ falls_if s t h k l =
     let f = falls_from (turn_of s.lo s.hi t.lo) (turn_of s.lo s.hi t.hi) (turn_of t.lo t.hi s.lo) (turn_of t.lo t.hi s.hi) h k (turns-balance s.lo s.hi t.lo t.hi) l in
     record { t_lo = f.0; t_hi = f.1; s_lo = f.2; s_hi = f.3; differ = l }
 
--- two segments of which neither lies strictly on one side of the other, on different lines, meet in one point
+-- two segments of which neither lies strictly on one side of the other, not parallel, meet in one point
 pub opposite_meet : (s t : Seg) → AreOpposite (turn_of s.lo s.hi t.lo) (turn_of s.lo s.hi t.hi) → AreOpposite (turn_of t.lo t.hi s.lo) (turn_of t.lo t.hi s.hi)
-    → ¬ ((turn_of s.lo s.hi t.lo ≡ pos 0) × (turn_of s.lo s.hi t.hi ≡ pos 0)) → MeetOnce s t
+    → ¬ (turn_of s.lo s.hi t.lo ≡ turn_of s.lo s.hi t.hi) → MeetOnce s t
 opposite_meet s t h k n =
     let balance = turns-balance s.lo s.hi t.lo t.hi in
     elim (trichotomy (turn_of s.lo s.hi t.hi) (turn_of s.lo s.hi t.lo)) [
-      | inl l ↦ falls_meet s t (falls_if s t h k l)
-      | inr rest ↦ elim rest [
-        | inl e ↦ absurd (n (equal_opposite (turn_of s.lo s.hi t.lo) (turn_of s.lo s.hi t.hi) h (sym e)))
-        | inr g ↦ exchange s t (falls_meet t s (falls_if t s k h (omega (arith, lin))))
+      inl l ↦ falls_meet s t (falls_if s t h k l)
+    | inr rest ↦ elim rest [
+        inl e ↦ absurd (n (sym e))
+      | inr g ↦ exchange s t (falls_meet t s (falls_if t s k h (omega (arith, lin))))
       ]
     ]
 

@@ -1,4 +1,4 @@
--- Which contacts are bad, and the contact of two segments with one common point.
+-- Which contacts are bad.
 use Rattle.std.proofs.Common.{◌≡◌, ◌⊎◌, inl, inr, refl, sym, subst, pos, Bool, true, false, IsTrue, ◌↔◌}
 use Rattle.cov_types.specs.declared.seg.Seg.{Seg}
 use Rattle.plane.specs.declared.contact.Contact.{Contact}
@@ -10,31 +10,7 @@ use Rattle.plane.specs.Ray.{Rises}
 use Rattle.plane.specs.Contact.{IsCommon, IsOnlyCommon, HaveTwoCommon, IsContact, MeetsBadly, is_bad}
 use Rattle.plane.proofs.Points.{same_point-sym, first_between}
 use Rattle.plane.proofs.Contacts.{end-same}
-use Rattle.plane.proofs.Meeting.{MeetOnce, end_on_line}
 use Rattle.plane.proofs.Middle.{middle, middle_on, middle_not_end}
-
--- ---- one common point
-
--- whether the common point of two segments is an end of s, and of t
-abbrev pub contact_at : Bool → Bool → Contact
-contact_at true true = CommonEnd
-contact_at true false = Bad Touch
-contact_at false true = Bad Touch
-contact_at false false = Bad Cross
-
-pub contact-meet_once : (s t : Seg) (m : MeetOnce s t) (end_of_s end_of_t : Bool)
-    → IsTrue end_of_s ↔ ((turn_of t.lo t.hi s.lo ≡ pos 0) ⊎ (turn_of t.lo t.hi s.hi ≡ pos 0))
-    → IsTrue end_of_t ↔ ((turn_of s.lo s.hi t.lo ≡ pos 0) ⊎ (turn_of s.lo s.hi t.hi ≡ pos 0))
-    → IsContact s t (contact_at end_of_s end_of_t)
-contact-meet_once s t m true true h k = (m.at, (m.only, m.is_end (h.0 refl), m.is_end_of_other (k.0 refl)))
-contact-meet_once s t m true false h k =
-    (m.at, (m.only, inl (m.is_end (h.0 refl), λ e. absurd (let i = k.1 (end_on_line t s m.at m.only.common.0 e) in cc))))
-contact-meet_once s t m false true h k =
-    (m.at, (m.only, inr (λ e. absurd (let i = h.1 (end_on_line s t m.at m.only.common.1 e) in cc), m.is_end_of_other (k.0 refl))))
-contact-meet_once s t m false false h k =
-    (m.at, (m.only, λ e. absurd (let i = h.1 (end_on_line s t m.at m.only.common.1 e) in cc), λ e. absurd (let i = k.1 (end_on_line t s m.at m.only.common.0 e) in cc)))
-
--- ---- bad contacts
 
 -- the only common point of equal segments would be an end of both
 equal_end : (s t : Seg) (r : Point) → IsOnlyCommon s t r → s ≡ t → IsEnd s r

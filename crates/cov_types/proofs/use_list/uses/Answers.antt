@@ -1,11 +1,10 @@
-use Rattle.std.proofs.Common.{◌≡◌, ◌∙◌, Bool, ℕ, ◌<◌, ◌%◌, All, List, length, subst, sym}
+use Rattle.std.proofs.Common.{◌≡◌, ◌∙◌, ◌<◌, All, List, length, subst, sym}
 use Rattle.cov_types.proofs.AllUses.{uses-in_range, uses-members}
 use Rattle.cov_types.proofs.EvenEnds.{even-ends}
 use Rattle.cov_types.proofs.Sides.{member_more, member_all}
 use Rattle.cov_types.proofs.use_list.uses.Goals as goal
 use Rattle.cov_types.specs.Range.{IsSegInRange}
-use Rattle.cov_types.specs.Uses.{member_uses, ends_in}
-use Rattle.cov_types.specs.declared.coord.Coord.{Coord}
+use Rattle.cov_types.specs.Uses.{member_uses, HasEvenEnds}
 use Rattle.cov_types.specs.declared.edge_use.EdgeUse.{EdgeUse}
 
 pub loop-number-preserved : goal.loop-number-preserved
@@ -30,4 +29,4 @@ returns-clause-members c =
 
 pub returns-clause-even : goal.returns-clause-even
 returns-clause-even c =
-    subst (λ (uses : List EdgeUse). (inside : Coord → Bool) (member : ℕ) → ends_in inside member uses % 2 ≡ 0) (sym (returns-clause-exact c)) (even-ends c.args.c.now)
+    subst HasEvenEnds (sym (returns-clause-exact c)) (even-ends c.args.c.now)

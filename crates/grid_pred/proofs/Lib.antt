@@ -1,3 +1,5 @@
 mod Wide
+mod Vectors
+mod Small
 mod Order
 mod BySides

@@ -1,1 +1,2 @@
+pub mod Ray
 pub mod Sides

@@ -7,8 +7,12 @@
 mod incidence;
 mod meeting;
 mod orientation;
+mod ray;
+#[cfg(test)]
+mod ray_tests;
 
 pub use incidence::on_segment;
 pub use meeting::{meets_badly, relation};
 pub use orientation::turn;
 pub use plane::{Badness, Contact};
+pub use ray::{over, over_mid, over_upper};

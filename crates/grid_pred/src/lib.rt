@@ -16,3 +16,6 @@ pub use meeting::{meets_badly, relation};
 pub use orientation::turn;
 pub use plane::{Badness, Contact};
 pub use ray::{over, over_mid, over_upper};
+
+#[cfg(test)]
+mod tests;

@@ -1,0 +1,48 @@
+ghost use Rattle.cov_types.specs.Range.{IsSegInRange};
+
+use crate::{Badness, Contact, relation, turn};
+use cov_types::{Coord, Seg};
+use std::process::Abort;
+
+#[test]
+fn turns_by_twice_the_area(rt: HostRuntime) {
+    let origin = Coord { x: 0, y: 0 };
+    let right = Coord { x: 1, y: 0 };
+    let above = Coord { x: 0, y: 1 };
+    assert_eq!(rt; turn(origin, right, above), 1);
+    assert_eq!(rt;
+        turn(Coord { x: 20, y: 0 }, Coord { x: 10, y: -4 }, origin),
+        -80
+    );
+}
+
+#[test]
+fn tells_how_segments_meet(rt: HostRuntime) {
+    let cases = [
+        ((0, 0, 4, 0), (0, 0, 4, 0), Contact::SameSegment),
+        ((0, 0, 4, 0), (4, 0, 8, 1), Contact::CommonEnd),
+        ((0, 0, 4, 0), (2, 0, 2, 5), Contact::Bad(Badness::Touch)),
+        ((0, 0, 4, 0), (2, 0, 6, 0), Contact::Bad(Badness::Overlap)),
+        ((0, 0, 4, 0), (4, 0, 6, 0), Contact::CommonEnd),
+        ((0, 0, 1, 1), (0, 1, 1, 0), Contact::Bad(Badness::Cross)),
+        ((0, 0, 4, 0), (5, 0, 6, 0), Contact::Apart),
+        ((0, 0, 4, 0), (5, -1, 5, 1), Contact::Apart),
+    ];
+    for (s, t, want) in cases {
+        let s = segment(&rt, s);
+        let t = segment(&rt, t);
+        assert_eq!(rt; relation(s, t), want);
+        assert_eq!(rt; relation(t, s), want);
+    }
+}
+
+fn segment(rt: &impl Abort, ends: (i32, i32, i32, i32)) -> Seg
+    ensures { IsSegInRange result }
+{
+    let (lo_x, lo_y, hi_x, hi_y) = ends;
+    let lo = Coord { x: lo_x, y: lo_y };
+    let hi = Coord { x: hi_x, y: hi_y };
+    let segment = Seg::between(lo, hi).expect(rt, "two different ends");
+    assert!(rt; segment.lo.is_in_range() && segment.hi.is_in_range());
+    segment
+}

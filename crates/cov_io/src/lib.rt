@@ -23,3 +23,6 @@ pub use input::{SlurpError, slurp};
 pub use output::{WriteFault, spill};
 pub use shelf::Shelf;
 pub use shelf_file::ShelfFile;
+
+#[cfg(test)]
+mod tests;

@@ -1,4 +1,4 @@
-ghost use Rattle.std.specs.Prelude.{◌≡◌, ◌<◌, ◌^◌, ◌↔◌, IfOk, All, Contains, IsTrue, MatchOption};
+ghost use Rattle.std.specs.Prelude.{◌≡◌, ◌<◌, ◌^◌, ◌↔◌, IfOk, All, Contains, IsTrue, MatchOption, length, slice_get};
 ghost use Rattle.cov_types.specs.Range.{IsSegInRange};
 ghost use Rattle.cov_valid.specs.Kinds.{IsMeeting, IsSameSide, IsInside, IsOfKind, IsFaultless};
 ghost use Rattle.plane.specs.Validity.{IsRepeated};
@@ -15,7 +15,12 @@ fn is_meeting(uses: &[EdgeUse], s: Seg) -> bool
     requires in_range { IsSegInRange s }
     ensures { IsTrue result ↔ IsMeeting uses.now s }
 {
-    uses.iter().any(|v| meets_badly(s, v.seg))
+    for other in uses {
+        if meets_badly(s, other.seg) {
+            return true;
+        }
+    }
+    false
 }
 
 // Whether the use stands at two places.
@@ -39,13 +44,27 @@ fn is_same_side(
     ensures { IfOk result (λ b. IsTrue b ↔ IsSameSide uses.now edge) }
 {
     let above = holders_above(alloc, uses, members, edge.seg)?;
-    let own = above[edge.member as usize];
     for v in uses {
-        if v.member != edge.member && v.seg == edge.seg && above[v.member as usize] == own {
+        if is_alike(&above, *v, edge) {
             return Ok(true);
         }
     }
     Ok(false)
+}
+
+// Whether another member has the segment of the edge, and its entry is that of the edge's member.
+fn is_alike(entries: &[bool], other: EdgeUse, edge: EdgeUse) -> bool
+    requires other_in { other.member < length entries.now }
+    requires edge_in { edge.member < length entries.now }
+    ensures { IsTrue result ↔ (¬ (other.member ≡ edge.member) × (other.seg ≡ edge.seg) × (slice_get entries.now other.member ≡ slice_get entries.now edge.member)) }
+{
+    if other.member == edge.member {
+        return false;
+    }
+    if !other.seg.is_same(edge.seg) {
+        return false;
+    }
+    entries[other.member as usize] == entries[edge.member as usize]
 }
 
 // Whether a member that doesn't have the segment holds its midpoint.
@@ -69,7 +88,8 @@ fn is_inside(alloc: Global, uses: &[EdgeUse], members: usize, s: Seg) -> Result<
 fn has_segment(uses: &[EdgeUse], member: u32, seg: Seg) -> bool
     ensures { IsTrue result ↔ Contains uses.now (record { member = member; seg = seg }) }
 {
-    uses.iter().any(|v| v.member == member && v.seg == seg)
+    let edge = EdgeUse { member, seg };
+    uses.iter().any(|v| v.is_same(edge))
 }
 
 /// The kind of fault of a use in the list, or None where it is not at fault.

@@ -1,4 +1,4 @@
-ghost use Rattle.std.specs.Prelude.{◌≡◌, IfOk};
+ghost use Rattle.std.specs.Prelude.{◌≡◌, ◌<◌, IfOk, All, length};
 ghost use Rattle.cov_types.specs.Coverage.{AllInRange};
 ghost use Rattle.cov_types.specs.Uses.{uses_of};
 ghost use Rattle.cov_valid.specs.Marks.{AreMarks};
@@ -12,8 +12,13 @@ use std::alloc::Global;
 pub fn marks(alloc: Global, c: &Coverage, gap: u32) -> Result<Vec<Mark>, NoMemory>
     requires in_range { AllInRange c.now }
     requires no_gap { gap ≡ 0 }
-    ensures { IfOk result (λ v. AreMarks (uses_of c.now) v.items) }
+    ensures exact { IfOk result (λ v. AreMarks (uses_of c.now) v.items) }
+
+    // Every mark has the place of a use and the number of a member.
+    ensures places { IfOk result (λ v. All (λ m. m.place < length (uses_of c.now)) v.items) }
+    ensures members { IfOk result (λ v. All (λ m. m.member < length c.now) v.items) }
 {
+    let _ = gap;
     let uses = uses(alloc, c)?;
     let mut marks = Vec::new(alloc);
     for (place, edge) in uses.iter().enumerate() {

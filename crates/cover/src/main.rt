@@ -2,12 +2,11 @@
 //! with its status.
 #![tactic(auto)]
 
+use cov_io::Disk;
+use cover_cli::{Outcome, cover, message, status};
 use std::env;
 use std::io::{self, ErrorKind};
 use std::process::ExitCode;
-
-use cov_io::Disk;
-use cover_cli::{Outcome, cover, message, status};
 
 // The words after the program's name.
 fn words(rt: &HostRuntime) -> io::Result<Vec<String>> {

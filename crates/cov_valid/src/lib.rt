@@ -6,6 +6,8 @@
 mod holders;
 mod kinds;
 mod mark;
+#[cfg(test)]
+mod tests;
 mod validator;
 
 pub use mark::{Kind, Mark};

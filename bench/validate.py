@@ -4,7 +4,7 @@
 Each square shares a side with the next, as parcels do, so nothing is at fault. For each count (500, 1,000, 2,000
 and 4,000 where none is given) it prints the seconds of processor and of clock, the peak memory of the program, and
 the power of the count by which the processor time grew since the count before. PROGRAM in the environment names
-another program than the proved one.
+another program than the proved one. It needs GNU time, as /usr/bin/time.
 """
 
 import math
@@ -13,7 +13,6 @@ import pathlib
 import subprocess
 import sys
 import tempfile
-import time
 
 TOP = pathlib.Path(__file__).resolve().parent.parent
 PROGRAM = pathlib.Path(os.environ.get("PROGRAM", TOP / "crates/cover/out/cover")).resolve()
@@ -28,15 +27,13 @@ def square(column):
 def validate(folder, count):
     """Validates a row of so many squares: processor seconds, clock seconds and peak KiB."""
     (folder / "row").write_text("".join(square(column) for column in range(count)))
-    begin = time.monotonic()
-    program = subprocess.Popen([PROGRAM, "validate", "row", "marks"], cwd=folder, stdout=subprocess.PIPE)
-    said = program.stdout.read()
-    _, status, usage = os.wait4(program.pid, 0)
-    clock = time.monotonic() - begin
+    words = ["/usr/bin/time", "-f", "%U %S %e %M", "-o", "figures", PROGRAM, "validate", "row", "marks"]
+    ran = subprocess.run(words, cwd=folder, stdout=subprocess.PIPE)
     written = (folder / "marks").read_text()
-    if said != b"done\n" or status != 0 or written != "MULTILINESTRING EMPTY\n" * count:
-        sys.exit(f"validate.py: {count} squares: a wrong answer {said!r}, status {status}")
-    return usage.ru_utime + usage.ru_stime, clock, usage.ru_maxrss
+    if ran.stdout != b"done\n" or ran.returncode != 0 or written != "MULTILINESTRING EMPTY\n" * count:
+        sys.exit(f"validate.py: {count} squares: a wrong answer {ran.stdout!r}, status {ran.returncode}")
+    user, system, clock, peak = (folder / "figures").read_text().split()
+    return float(user) + float(system), float(clock), int(peak)
 
 
 def main():

@@ -12,5 +12,8 @@ mod number;
 mod parser;
 mod place;
 mod reader;
+#[cfg(test)]
+mod tests;
 
 pub use error::{TextError, TextFault};
+pub use reader::read_text;

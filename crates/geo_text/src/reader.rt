@@ -108,3 +108,10 @@ fn read_all(alloc: Global, bytes: &[u8]) -> Result<Coverage, TextError>
         Err(stop) => Err(stopped(stop, at)),
     }
 }
+
+/// Reads a well-known text of polygons: each polygon or multipolygon is a member of the coverage, in order.
+pub fn read_text(alloc: Global, bytes: &[u8]) -> Result<Coverage, TextError>
+    requires { length bytes.now ≤ 67108864 }
+{
+    read_all(alloc, bytes)
+}

@@ -132,7 +132,8 @@ step_at places.ElementStart (Named Polygon) c m k = Some (at (places.Head kinds.
 step_at places.ElementStart (Named MultiPolygon) c m k = Some (at (places.Head kinds.MultiPolygon false) c m k)
 step_at places.ElementEnd Separator c m k = Some (at places.ElementStart c m k)
 step_at places.ElementEnd Closing c m k = Some (at places.Outside false m k)
-step_at (places.Head kind false) (Axes a) c m k = Some (at (places.Head kind true) c m (record k { faults = with_extra a k.faults }))
+step_at (places.Head kind dimension) (Axes a) c m k =
+    if dimension then None else Some (at (places.Head kind true) c m (record k { faults = with_extra a k.faults }))
 step_at (places.Head kinds.Polygon dimension) (Named Empty) c m k = Some (body_end c m k)
 step_at (places.Head kinds.Polygon dimension) Opening c m k = Some (at places.RingStart c m k)
 step_at (places.Head kinds.MultiPolygon dimension) (Named Empty) c m k = Some (element_end c k)
@@ -156,11 +157,6 @@ step_at place symbol c m k = None
 
 abbrev pub step : State → Symbol → Option State
 step s symbol = step_at s.place symbol s.in_collection s.in_multi s.kept
-
--- the state behind symbols
-abbrev pub run : State → List Symbol → Option State
-run s [] = Some s
-run s (symbol ∷ symbols) = option_and_then (λ after. run after symbols) (step s symbol)
 
 -- ---- words
 

@@ -1,3 +1,4 @@
 pub mod Limits
 pub mod Keeping
 pub mod Parsing
+pub mod Rests

@@ -2,3 +2,4 @@ pub mod Limits
 pub mod Keeping
 pub mod Parsing
 pub mod Rests
+pub mod Typing

@@ -3,3 +3,4 @@ pub mod Keeping
 pub mod Parsing
 pub mod Rests
 pub mod Typing
+pub mod Spelled

@@ -75,7 +75,7 @@ white_first (b ∷ white) bytes a s h =
 
 -- ---- words
 
-abbrev is_capital : ℕ → Bool
+abbrev pub is_capital : ℕ → Bool
 is_capital b = leb 65 b && leb b 90
 
 all_at : (p : ℕ → Bool) (xs : List ℕ) (n : ℕ) → list_all p xs ≡ true → n < length xs → p (get_or xs n 0) ≡ true
@@ -141,7 +141,7 @@ number_on-byte n m b e =
         (λ p. let dot : b ≡ 46 = eqb-true b 46 (and_parts (eqb b 46) (not n.point) p).0 in ap is_number_byte dot)
         (one_of_two (is_digit b) (eqb b 46 && not n.point) (with_digit n b) (record n { point = true }) m e)
 
-opened : {A B : Type 0} (o : Option A) (f : A → Option B) (y : B) → option_and_then f o ≡ Some y → (x : A) × (o ≡ Some x) × (f x ≡ Some y)
+pub opened : {A B : Type 0} (o : Option A) (f : A → Option B) (y : B) → option_and_then f o ≡ Some y → (x : A) × (o ≡ Some x) × (f x ≡ Some y)
 opened None f y e = absurd (none_some y e)
 opened (Some x) f y e = (x, refl, e)
 
@@ -173,7 +173,7 @@ or_false : (b : Bool) → (b || false) ≡ b
 or_false true = refl
 or_false false = refl
 
-or_true : (b : Bool) → (b || true) ≡ true
+pub or_true : (b : Bool) → (b || true) ≡ true
 or_true true = refl
 or_true false = refl
 

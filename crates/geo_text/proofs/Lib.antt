@@ -4,3 +4,4 @@ pub mod Parsing
 pub mod Rests
 pub mod Typing
 pub mod Spelled
+pub mod Lexed

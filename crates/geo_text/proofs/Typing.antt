@@ -130,7 +130,7 @@ abbrev pub through : Number → List ℕ → Option Number
 through n [] = Some n
 through n (b ∷ bytes) = option_and_then (λ m. through m bytes) (number_on n b)
 
-one_of_two : (d p : Bool) (x y m : Number) → cond d (Some x) (cond p (Some y) None) ≡ Some m → (d ≡ true) ⊎ (p ≡ true)
+pub one_of_two : (d p : Bool) (x y m : Number) → cond d (Some x) (cond p (Some y) None) ≡ Some m → (d ≡ true) ⊎ (p ≡ true)
 one_of_two true p x y m e = inl refl
 one_of_two false true x y m e = inr refl
 one_of_two false false x y m e = absurd (none_some m e)
@@ -169,7 +169,7 @@ through-append : (n : Number) (xs ys : List ℕ) → through n (xs ++ ys) ≡ op
 through-append n [] ys = refl
 through-append n (x ∷ xs) ys = through_more (number_on n x) xs ys (λ m. through-append m xs ys)
 
-or_false : (b : Bool) → (b || false) ≡ b
+pub or_false : (b : Bool) → (b || false) ≡ b
 or_false true = refl
 or_false false = refl
 

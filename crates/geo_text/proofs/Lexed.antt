@@ -21,11 +21,11 @@ use Rattle.geo_text.proofs.Spelled.{FirstByte, Begins, begins}
 
 -- ---- the digits of a number that was read
 
-if_some : {A : Type 0} (b : Bool) (x y : A) → cond b (Some x) None ≡ Some y → (b ≡ true) × (x ≡ y)
+pub if_some : {A : Type 0} (b : Bool) (x y : A) → cond b (Some x) None ≡ Some y → (b ≡ true) × (x ≡ y)
 if_some true x y e = (refl, some_equal x y e)
 if_some false x y e = absurd (none_some y e)
 
-on_digit : (n : NumberRead) (b : ℕ) → is_digit b ≡ true → number_on n b ≡ Some (with_digit n b)
+pub on_digit : (n : NumberRead) (b : ℕ) → is_digit b ≡ true → number_on n b ≡ Some (with_digit n b)
 on_digit n b d = rw d refl
 
 -- digits behind the point
@@ -244,7 +244,7 @@ at_end a (lexemes.Number n) s f e =
 abbrev Known : List ℕ → Type 0
 Known bytes = (a : ℕ) (l : Lexeme) (s f : State) → read_bytes a l s bytes ≡ Some f → Lexed a l s f bytes
 
-mapped : {A B : Type 0} (o : Option A) (g : A → B) (y : B) → option_map g o ≡ Some y → (x : A) × (o ≡ Some x) × (g x ≡ y)
+pub mapped : {A B : Type 0} (o : Option A) (g : A → B) (y : B) → option_map g o ≡ Some y → (x : A) × (o ≡ Some x) × (g x ≡ y)
 mapped None g y e = absurd (none_some y e)
 mapped (Some x) g y e = (x, refl, some_equal (g x) y e)
 
@@ -274,7 +274,7 @@ goes a (lexemes.Number n) s f b bytes more g e w =
 
 -- ---- a byte that begins a lexeme, or is a token
 
-pick : (b : Bool) (x k : Keyword) (o : Option Keyword) → cond b (Some x) o ≡ Some k → ((b ≡ true) × (x ≡ k)) ⊎ (o ≡ Some k)
+pub pick : (b : Bool) (x k : Keyword) (o : Option Keyword) → cond b (Some x) o ≡ Some k → ((b ≡ true) × (x ≡ k)) ⊎ (o ≡ Some k)
 pick true x k o e = inl (refl, some_equal x k e)
 pick false x k o e = inr e
 
@@ -282,7 +282,7 @@ pick false x k o e = inr e
 begins_with : (letter n : ℕ) (k x : Keyword) → (eqb letter n ≡ true) × (x ≡ k) → take 1 (letters x) ≡ n ∷ [] → take 1 (letters k) ≡ letter ∷ []
 begins_with letter n k x h e = ap (λ w. take 1 (letters w)) (sym h.1) ∙ e ∙ ap (λ i. i ∷ []) (sym (eqb-true letter n h.0))
 
-keyword_first : (place : Place) (letter : ℕ) (k : Keyword) → keyword_at place letter ≡ Some k → take 1 (letters k) ≡ letter ∷ []
+pub keyword_first : (place : Place) (letter : ℕ) (k : Keyword) → keyword_at place letter ≡ Some k → take 1 (letters k) ≡ letter ∷ []
 keyword_first Outside letter k e =
     ⊎_elim (λ h. begins_with letter 80 k keywords.Polygon h refl) (λ e1.
     ⊎_elim (λ h. begins_with letter 77 k keywords.MultiPolygon h refl) (λ e2.
@@ -371,7 +371,7 @@ begins_mark token mark a s last f b bytes apart spelled here e (tokens, more, r)
             (subst (λ (i : ℕ). Spells i (Some token) tokens bytes) (sym (add-zero (a + 1))) (spells_after token apart tokens (a + 1) bytes more)),
         ap (option_and_then (λ after. run after tokens)) e ∙ r)
 
-taken_some : {A : Type 0} (b : Bool) (o : Option A) (y : A) → cond b o None ≡ Some y → o ≡ Some y
+pub taken_some : {A : Type 0} (b : Bool) (o : Option A) (y : A) → cond b o None ≡ Some y → o ≡ Some y
 taken_some true o y e = e
 taken_some false o y e = absurd (none_some y e)
 

@@ -5,3 +5,5 @@ pub mod Rests
 pub mod Typing
 pub mod Spelled
 pub mod Lexed
+pub mod Closing
+pub mod Alive

@@ -209,11 +209,11 @@ element_grown : (d : Option Dimension) (polygons : List (List Ring)) (ms : Membe
 element_grown d polygons ms f = ap (λ g. kept (ms ++ polys_of polygons ∷ []) [] [] [] g) (grown-append f (dimension_places d) (bodies_extras polygons) [] (flat_map (λ rings. rings) polygons))
 
 -- the state behind an element whose member was kept
-abbrev element_place : Bool → Place
+abbrev pub element_place : Bool → Place
 element_place true = ElementEnd
 element_place false = Outside
 
-element_end_is : (c : Bool) (k : Kept) → element_end c k ≡ at (element_place c) c false (member_kept k)
+pub element_end_is : (c : Bool) (k : Kept) → element_end c k ≡ at (element_place c) c false (member_kept k)
 element_end_is true k = refl
 element_end_is false k = refl
 

@@ -215,28 +215,28 @@ takes_number (places.SecondNumber x) = true
 takes_number (places.PositionEnd further) = nat_lt further 2
 takes_number place = false
 
--- the size of a number, read no further than one past the range
-abbrev pub capped : ℕ → ℕ
-capped size = min size 16777217
+-- the size of a number, read no further than the cap
+abbrev pub capped : ℕ → ℕ → ℕ
+capped cap size = min size cap
 
 -- no byte of a number but its sign
 abbrev pub no_number : ℕ → Bool → Number
 no_number a negative = record { at = a; negative = negative; some_digit = false; point = false; whole = true; size = 0 }
 
-abbrev pub with_digit : Number → ℕ → Number
-with_digit n b =
+abbrev pub with_digit : ℕ → Number → ℕ → Number
+with_digit cap n b =
     if n.point
     then record n { some_digit = true; whole = n.whole && (b == 48) }
-    else record n { some_digit = true; size = capped (10 * n.size + (b - 48)) }
+    else record n { some_digit = true; size = capped cap (10 * n.size + (b - 48)) }
 
 -- the number with one byte more, where it may have it
-abbrev pub number_on : Number → ℕ → Option Number
-number_on n b =
-    if is_digit b then Some (with_digit n b)
+abbrev pub number_on : ℕ → Number → ℕ → Option Number
+number_on cap n b =
+    if is_digit b then Some (with_digit cap n b)
     else (if (b == 46) && not n.point then Some (record n { point = true }) else None)
 
-abbrev pub number_begun : ℕ → ℕ → Option Number
-number_begun a b = if b == 45 then Some (no_number a true) else (if b == 43 then Some (no_number a false) else number_on (no_number a false) b)
+abbrev pub number_begun : ℕ → ℕ → ℕ → Option Number
+number_begun cap a b = if b == 45 then Some (no_number a true) else (if b == 43 then Some (no_number a false) else number_on cap (no_number a false) b)
 
 -- a number's size is at most one past the range
 abbrev pub IsCapped : Number → Type 0
@@ -254,10 +254,10 @@ goes_on (lexemes.Word a keyword typed) b = is_letter b
 goes_on (lexemes.Number n) b = is_number_byte b
 
 -- the lexeme with a byte that goes on with it
-abbrev pub typed_on : Lexeme → ℕ → Option Lexeme
-typed_on lexemes.Blank b = None
-typed_on (lexemes.Word a keyword typed) b = option_map (λ more. lexemes.Word a keyword more) (letter_on keyword typed b)
-typed_on (lexemes.Number n) b = option_map (λ m. lexemes.Number m) (number_on n b)
+abbrev pub typed_on : ℕ → Lexeme → ℕ → Option Lexeme
+typed_on cap lexemes.Blank b = None
+typed_on cap (lexemes.Word a keyword typed) b = option_map (λ more. lexemes.Word a keyword more) (letter_on keyword typed b)
+typed_on cap (lexemes.Number n) b = option_map (λ m. lexemes.Number m) (number_on cap n b)
 
 -- the parser behind a lexeme that ends
 abbrev pub ending : Lexeme → State → Option State
@@ -266,22 +266,22 @@ ending (lexemes.Word a keyword typed) s = if is_complete keyword typed then step
 ending (lexemes.Number n) s = if n.some_digit then step s (Numbered n.at (signed n.negative n.size) n.whole) else None
 
 -- the lexeme and the parser behind a byte that begins a lexeme
-abbrev pub beginning : ℕ → State → ℕ → Option (Lexeme × State)
-beginning a s b =
+abbrev pub beginning : ℕ → ℕ → State → ℕ → Option (Lexeme × State)
+beginning cap a s b =
     if is_white b then Some (lexemes.Blank, s)
     else (if is_letter b then option_map (λ keyword. (lexemes.Word a keyword 1, s)) (keyword_at s.place (to_ascii_uppercase b))
-    else (if is_number_byte b then (if takes_number s.place then option_map (λ n. (lexemes.Number n, s)) (number_begun a b) else None)
+    else (if is_number_byte b then (if takes_number s.place then option_map (λ n. (lexemes.Number n, s)) (number_begun cap a b) else None)
     else (if b == 40 then option_map (λ after. (lexemes.Blank, after)) (step s Opening)
     else (if b == 41 then option_map (λ after. (lexemes.Blank, after)) (step s Closing)
     else (if b == 44 then option_map (λ after. (lexemes.Blank, after)) (step s Separator)
     else None)))))
 
 -- one byte more, behind `a` bytes
-abbrev pub read_byte : ℕ → Lexeme → State → ℕ → Option (Lexeme × State)
-read_byte a lexeme s b =
+abbrev pub read_byte : ℕ → ℕ → Lexeme → State → ℕ → Option (Lexeme × State)
+read_byte cap a lexeme s b =
     if goes_on lexeme b
-    then option_map (λ more. (more, s)) (typed_on lexeme b)
-    else option_and_then (λ after. beginning a after b) (ending lexeme s)
+    then option_map (λ more. (more, s)) (typed_on cap lexeme b)
+    else option_and_then (λ after. beginning cap a after b) (ending lexeme s)
 
 -- what a lexeme keeps: a number's size is capped, and no word has more letters than it may have
 abbrev pub IsLexeme : Lexeme → Type 0
@@ -309,9 +309,9 @@ answer_by a f None = Err (Syntax a)
 answer_by a f (Some x) = f x
 
 -- the answer to the bytes behind `a` bytes
-abbrev pub answer : ℕ → Lexeme → State → List ℕ → Result Members TextFault
-answer a lexeme s [] = answer_by a (λ (last : State). answer_at a last.place last.kept) (ending lexeme s)
-answer a lexeme s (b ∷ bytes) = answer_by a (λ (p : Lexeme × State). answer (a + 1) p.0 p.1 bytes) (read_byte a lexeme s b)
+abbrev pub answer : ℕ → ℕ → Lexeme → State → List ℕ → Result Members TextFault
+answer cap a lexeme s [] = answer_by a (λ (last : State). answer_at a last.place last.kept) (ending lexeme s)
+answer cap a lexeme s (b ∷ bytes) = answer_by a (λ (p : Lexeme × State). answer cap (a + 1) p.0 p.1 bytes) (read_byte cap a lexeme s b)
 
 -- ---- what the code answers
 

@@ -1,6 +1,7 @@
 ghost use Rattle.std.specs.Prelude.{◌≡◌, IfSome};
 ghost use Rattle.geo_text.specs.Machine.{goes_on, typed_on, is_letter, is_number_byte, IsLexeme};
 ghost use Rattle.geo_text.specs.Token.{is_white};
+ghost use Rattle.geo_text.specs.declared.number.TheConstants.{CAP};
 
 use crate::keyword::Keyword;
 use crate::number::Number;
@@ -52,7 +53,7 @@ impl Lexeme {
     /// The lexeme with a byte that goes on with it.
     pub(crate) fn typed_on(self, byte: u8) -> Option<Lexeme>
         requires { IsLexeme self }
-        ensures value { result ≡ typed_on self byte }
+        ensures value { result ≡ typed_on CAP self byte }
         ensures kept { IfSome result IsLexeme }
     {
         match self {

@@ -2,7 +2,7 @@ ghost use Rattle.std.specs.Prelude.{◌≡◌, IfSome, IsTrue};
 ghost use Rattle.geo_text.specs.Token.{is_digit, signed};
 
 /// One past the greatest size of a number in range.
-const CAP: u32 = 16_777_217;
+pub(crate) const CAP: u32 = 16_777_217;
 
 /// A number that is being typed.
 #[derive(Clone, Copy, Debug, PartialEq, Eq)]
@@ -38,7 +38,7 @@ impl Number {
 
     /// The number that a byte begins.
     pub(crate) fn begun(at: u64, byte: u8) -> Option<Number>
-        ensures value { result ≡ number_begun at byte }
+        ensures value { result ≡ number_begun CAP at byte }
         ensures capped { IfSome result IsCapped }
     {
         match byte {
@@ -51,7 +51,7 @@ impl Number {
     /// The number with one byte more, where it may have it.
     pub(crate) fn typed_on(self, byte: u8) -> Option<Number>
         requires { IsCapped self }
-        ensures value { result ≡ number_on self byte }
+        ensures value { result ≡ number_on CAP self byte }
         ensures capped { IfSome result IsCapped }
     {
         match byte {
@@ -76,7 +76,7 @@ impl Number {
     fn with_digit(self, byte: u8) -> Number
         requires capped { IsCapped self }
         requires digit { IsTrue (is_digit byte) }
-        ensures value { result ≡ with_digit self byte }
+        ensures value { result ≡ with_digit CAP self byte }
         ensures capped { IsCapped result }
     {
         if self.point {

@@ -1,5 +1,6 @@
 ghost use Rattle.std.specs.Prelude.{◌≡◌, ◌+◌, ◌^◌, ◌<◌, ◌≤◌, ℕ, length, IsErrOf, OnOk, IfOk, Some, None};
 ghost use Rattle.geo_text.specs.Machine.{ending, beginning, read_byte, IsLexeme, answer, Gives, error_of, start};
+ghost use Rattle.geo_text.specs.declared.number.TheConstants.{CAP};
 ghost use Rattle.geo_text.specs.declared.lexeme.Lexeme.TheVariants.{Blank};
 
 use crate::error::{Stop, TextError, TextFault};
@@ -32,9 +33,9 @@ fn end(lexeme: Lexeme, parser: &mut Parser) -> Result<(), Stop>
 /// Begins a lexeme with a byte behind `at` bytes, or lets the parser take the token that the byte is.
 fn begin(at: u64, parser: &mut Parser, byte: u8) -> Result<Lexeme, Stop>
     requires { parser.old.kept.faults.rings + 1 < 2 ^ 32 }
-    ensures ok { IfOk result (λ lexeme. beginning at parser.old byte ≡ Some (lexeme, parser.new)) }
+    ensures ok { IfOk result (λ lexeme. beginning CAP at parser.old byte ≡ Some (lexeme, parser.new)) }
     ensures kept { IfOk result IsLexeme }
-    ensures refused { IsErrOf result Stop.Refused → beginning at parser.old byte ≡ None }
+    ensures refused { IsErrOf result Stop.Refused → beginning CAP at parser.old byte ≡ None }
     ensures rings { OnOk result (parser.new.kept.faults.rings ≤ parser.old.kept.faults.rings + 1) }
 {
     if is_white(byte) {
@@ -68,9 +69,9 @@ fn begin(at: u64, parser: &mut Parser, byte: u8) -> Result<Lexeme, Stop>
 fn read_byte(at: u64, lexeme: Lexeme, parser: &mut Parser, byte: u8) -> Result<Lexeme, Stop>
     requires kept { IsLexeme lexeme }
     requires room { parser.old.kept.faults.rings + 1 < 2 ^ 32 }
-    ensures ok { IfOk result (λ next. read_byte at lexeme parser.old byte ≡ Some (next, parser.new)) }
+    ensures ok { IfOk result (λ next. read_byte CAP at lexeme parser.old byte ≡ Some (next, parser.new)) }
     ensures kept { IfOk result IsLexeme }
-    ensures refused { IsErrOf result Stop.Refused → read_byte at lexeme parser.old byte ≡ None }
+    ensures refused { IsErrOf result Stop.Refused → read_byte CAP at lexeme parser.old byte ≡ None }
     ensures rings { OnOk result (parser.new.kept.faults.rings ≤ parser.old.kept.faults.rings + 1) }
 {
     if lexeme.goes_on(byte) {
@@ -92,7 +93,7 @@ fn stopped(stop: Stop, at: u64) -> TextError
 
 fn read_all(alloc: Global, bytes: &[u8]) -> Result<Coverage, TextError>
     requires { length bytes.now ≤ 67108864 }
-    ensures { Gives result (answer 0 Blank start bytes.now) }
+    ensures { Gives result (answer CAP 0 Blank start bytes.now) }
 {
     let mut parser = Parser::new(alloc);
     let mut lexeme = Lexeme::Blank;

@@ -7,3 +7,4 @@ pub mod Spelled
 pub mod Lexed
 pub mod Closing
 pub mod Alive
+pub mod Numbers

@@ -4,13 +4,21 @@ use Rattle.std.specs.Option.{option_or}
 use Rattle.cov_types.specs.declared.coord.Coord.{Coord}
 use Rattle.geo_text.specs.Token.{Numeral, value}
 use Rattle.geo_text.specs.Grammar.{Position, Two, Three, Four, Ring}
-use Rattle.geo_text.specs.Reading.{positions}
+use Rattle.geo_text.specs.Reading.{x_of, y_of, positions}
 use Rattle.geo_text.specs.Fault.{ring_numbers}
 use Rattle.geo_text.specs.Machine.{with_extra, with_number, number_fault, with_ring, ring_fault}
 use Rattle.geo_text.specs.declared.error.TextFault.{TextFault}
 use Rattle.geo_text.specs.declared.error.TextFault.TheVariants.{NotPlanar}
 use Rattle.geo_text.specs.declared.faults.Faults.{Faults}
 use Rattle.geo_text.proofs.Limits.{limit}
+
+-- a position by the values of its first two numbers
+abbrev pub coordinate_by : (Numeral → ℤ) → Position → Coord
+coordinate_by v p = record { x = v (x_of p); y = v (y_of p) }
+
+pub flat_map-append : {A B : Type 0} (f : A → List B) (xs ys : List A) → flat_map f (xs ++ ys) ≡ flat_map f xs ++ flat_map f ys
+flat_map-append f [] ys = refl
+flat_map-append f (x ∷ xs) ys = ap (λ zs. f x ++ zs) (flat_map-append f xs ys) ∙ sym (append_assoc (f x) (flat_map f xs) (flat_map f ys))
 
 module _ (cap : ℕ) where
 
@@ -23,11 +31,6 @@ module _ (cap : ℕ) where
 
   abbrev pub is_whole : Numeral → Bool
   is_whole n = whole_from true n.fraction
-
-  abbrev pub coordinate_by : (Numeral → ℤ) → Position → Coord
-  coordinate_by v (Two x y) = record { x = v x; y = v y }
-  coordinate_by v (Three x y z) = record { x = v x; y = v y }
-  coordinate_by v (Four x y z m) = record { x = v x; y = v y }
 
   -- the points that are read of a ring, the last too
   abbrev pub ring_points : Ring → List Coord
@@ -73,10 +76,6 @@ module _ (cap : ℕ) where
       let shift : k + 1 + length xs ≡ k + length (x ∷ xs) = omega arith in
       ap (option_or (ring_fault k (ring_points x))) (first_ring_fault-append (k + 1) xs ys ∙ ap (λ n. option_or (first_ring_fault (k + 1) xs) (first_ring_fault n ys)) shift)
       ∙ sym (option_or-assoc (ring_fault k (ring_points x)) (first_ring_fault (k + 1) xs) (first_ring_fault (k + length (x ∷ xs)) ys))
-
-  pub flat_map-append : {A B : Type 0} (f : A → List B) (xs ys : List A) → flat_map f (xs ++ ys) ≡ flat_map f xs ++ flat_map f ys
-  flat_map-append f [] ys = refl
-  flat_map-append f (x ∷ xs) ys = ap (λ zs. f x ++ zs) (flat_map-append f xs ys) ∙ sym (append_assoc (f x) (flat_map f xs) (flat_map f ys))
 
   -- ---- faults with those of further places, numbers and rings
 

@@ -8,3 +8,7 @@ pub mod Lexed
 pub mod Closing
 pub mod Alive
 pub mod Numbers
+pub mod Rings
+pub mod Verdicts
+pub mod OneReading
+pub mod Formed

@@ -57,23 +57,23 @@ module _ (cap : ℕ) where
       ∙ (with_number-noted cap) m ((noted cap) f (z.at ∷ []) (x ∷ y ∷ z ∷ [])) ∙ (noted-append cap) f (z.at ∷ []) [] (x ∷ y ∷ z ∷ []) (m ∷ [])
 
   run_position : (p : Position) (c m : Bool) (ms : Members) (ps : List (List (List Coord))) (rs : List (List Coord)) (qs : List Coord) (f : Faults) (rest : List Token)
-      → run (at PositionStart c m (kept ms ps rs qs f)) (position p ++ rest) ≡ run (at (PositionEnd (further p)) c m (kept ms ps rs (qs ++ (coordinate_by cap) (read_value cap) p ∷ []) ((noted cap) f (third_places p) (position_numbers p)))) rest
-  run_position (Two x y) c m ms ps rs qs f rest = ap (λ g. run (at (PositionEnd 0) c m (kept ms ps rs (qs ++ (coordinate_by cap) (read_value cap) (Two x y) ∷ []) g)) rest) (note_two x y f)
-  run_position (Three x y z) c m ms ps rs qs f rest = ap (λ g. run (at (PositionEnd 1) c m (kept ms ps rs (qs ++ (coordinate_by cap) (read_value cap) (Two x y) ∷ []) g)) rest) (note_three x y z f)
-  run_position (Four x y z w) c m ms ps rs qs f rest = ap (λ g. run (at (PositionEnd 2) c m (kept ms ps rs (qs ++ (coordinate_by cap) (read_value cap) (Two x y) ∷ []) g)) rest) (note_four x y z w f)
+      → run (at PositionStart c m (kept ms ps rs qs f)) (position p ++ rest) ≡ run (at (PositionEnd (further p)) c m (kept ms ps rs (qs ++ coordinate_by (read_value cap) p ∷ []) ((noted cap) f (third_places p) (position_numbers p)))) rest
+  run_position (Two x y) c m ms ps rs qs f rest = ap (λ g. run (at (PositionEnd 0) c m (kept ms ps rs (qs ++ coordinate_by (read_value cap) (Two x y) ∷ []) g)) rest) (note_two x y f)
+  run_position (Three x y z) c m ms ps rs qs f rest = ap (λ g. run (at (PositionEnd 1) c m (kept ms ps rs (qs ++ coordinate_by (read_value cap) (Two x y) ∷ []) g)) rest) (note_three x y z f)
+  run_position (Four x y z w) c m ms ps rs qs f rest = ap (λ g. run (at (PositionEnd 2) c m (kept ms ps rs (qs ++ coordinate_by (read_value cap) (Two x y) ∷ []) g)) rest) (note_four x y z w f)
 
   -- further positions, up to the end of the ring
   run_positions : (ks : List Position) (n : ℕ) (c m : Bool) (ms : Members) (ps : List (List (List Coord))) (rs : List (List Coord)) (qs : List Coord) (f : Faults) (rest : List Token)
       → run (at (PositionEnd n) c m (kept ms ps rs qs f)) (flat_map (λ p. Comma ∷ position p) ks ++ Close ∷ rest)
-        ≡ run (at RingEnd c m (ring_kept (kept ms ps rs (qs ++ map ((coordinate_by cap) (read_value cap)) ks) ((noted cap) f (flat_map third_places ks) (flat_map position_numbers ks))))) rest
+        ≡ run (at RingEnd c m (ring_kept (kept ms ps rs (qs ++ map (coordinate_by (read_value cap)) ks) ((noted cap) f (flat_map third_places ks) (flat_map position_numbers ks))))) rest
   run_positions [] n c m ms ps rs qs f rest =
       ap₂ (λ (xs : List Coord) (g : Faults). run (at RingEnd c m (ring_kept (kept ms ps rs xs g))) rest) (sym (append-nil qs)) (sym ((noted-nil cap) f))
   run_positions (p ∷ ks) n c m ms ps rs qs f rest =
       ap (run (at PositionStart c m (kept ms ps rs qs f))) (append_assoc (position p) (flat_map (λ q. Comma ∷ position q) ks) (Close ∷ rest))
       ∙ run_position p c m ms ps rs qs f (flat_map (λ q. Comma ∷ position q) ks ++ Close ∷ rest)
-      ∙ run_positions ks (further p) c m ms ps rs (qs ++ (coordinate_by cap) (read_value cap) p ∷ []) ((noted cap) f (third_places p) (position_numbers p)) rest
+      ∙ run_positions ks (further p) c m ms ps rs (qs ++ coordinate_by (read_value cap) p ∷ []) ((noted cap) f (third_places p) (position_numbers p)) rest
       ∙ ap₂ (λ (xs : List Coord) (g : Faults). run (at RingEnd c m (ring_kept (kept ms ps rs xs g))) rest)
-          (append_assoc qs ((coordinate_by cap) (read_value cap) p ∷ []) (map ((coordinate_by cap) (read_value cap)) ks))
+          (append_assoc qs (coordinate_by (read_value cap) p ∷ []) (map (coordinate_by (read_value cap)) ks))
           ((noted-append cap) f (third_places p) (flat_map third_places ks) (position_numbers p) (flat_map position_numbers ks))
 
   -- ---- rings
@@ -93,9 +93,9 @@ module _ (cap : ℕ) where
       let regroup : ((position r.first ++ more) ++ Close ∷ []) ++ rest ≡ position r.first ++ (more ++ Close ∷ rest) = simp append_assoc in
       ap (run (at PositionStart c m (kept ms ps rs [] f))) regroup
       ∙ run_position r.first c m ms ps rs [] f (more ++ Close ∷ rest)
-      ∙ run_positions r.others (further r.first) c m ms ps rs ((coordinate_by cap) (read_value cap) r.first ∷ []) ((noted cap) f (third_places r.first) (position_numbers r.first)) rest
+      ∙ run_positions r.others (further r.first) c m ms ps rs (coordinate_by (read_value cap) r.first ∷ []) ((noted cap) f (third_places r.first) (position_numbers r.first)) rest
       ∙ ap₂ (λ (n : ℕ) (g : Faults). run (at RingEnd c m (kept ms ps (rs ++ take (n - 1) ((ring_points cap) r) ∷ []) [] (with_ring ((ring_points cap) r) g))) rest)
-          (length-map ((coordinate_by cap) (read_value cap)) (positions r))
+          (length-map (coordinate_by (read_value cap)) (positions r))
           ((noted-append cap) f (third_places r.first) (flat_map third_places r.others) (position_numbers r.first) (flat_map position_numbers r.others))
       ∙ ap (λ g. run (at RingEnd c m (kept ms ps (rs ++ open_points r ∷ []) [] g)) rest) ((with_ring-noted cap) r f (ring_extras r))
 
@@ -161,7 +161,7 @@ module _ (cap : ℕ) where
   with_bodies-cons ks polygons ms ps f =
       let all = flat_map (λ (rings : List Ring). rings) polygons in
       let same : flat_map (λ (rings : List Ring). rings) (ks ∷ []) ≡ ks = append-nil ks in
-      let places : bodies_extras (ks ∷ []) ++ bodies_extras polygons ≡ bodies_extras (ks ∷ polygons) = ap (λ (rings : List Ring). flat_map ring_extras rings ++ flat_map ring_extras all) same ∙ sym ((flat_map-append cap) ring_extras ks all) in
+      let places : bodies_extras (ks ∷ []) ++ bodies_extras polygons ≡ bodies_extras (ks ∷ polygons) = ap (λ (rings : List Ring). flat_map ring_extras rings ++ flat_map ring_extras all) same ∙ sym (flat_map-append ring_extras ks all) in
       ap₂ (λ (xs : List (List (List Coord))) (g : Faults). kept ms xs [] [] g)
           (append_assoc ps (polys_of (ks ∷ [])) (polys_of polygons) ∙ ap (λ xs. ps ++ xs) (sym (polys_of-cons ks polygons)))
           ((grown-append cap) f (bodies_extras (ks ∷ [])) (bodies_extras polygons) (flat_map (λ rings. rings) (ks ∷ [])) all
@@ -305,7 +305,7 @@ module _ (cap : ℕ) where
       ∙ ap₂ (λ (xs : Members) (h : Faults). Some (at Outside false false (kept xs [] [] [] h)))
           (append_assoc ms (map member_of (elements g)) (map member_of (flat_map elements gs)) ∙ ap (λ xs. ms ++ xs) (sym (map-append member_of (elements g) (flat_map elements gs))))
           ((grown-append cap) f (geometry_extras g) (extra_places gs) (flat_map rings_of (elements g)) (rings gs)
-          ∙ ap ((grown cap) f (extra_places (g ∷ gs))) (sym ((flat_map-append cap) rings_of (elements g) (flat_map elements gs))))
+          ∙ ap ((grown cap) f (extra_places (g ∷ gs))) (sym (flat_map-append rings_of (elements g) (flat_map elements gs))))
 
   -- the state behind a file
   abbrev pub end_of : List Geometry → State

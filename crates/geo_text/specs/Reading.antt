@@ -4,11 +4,19 @@ use Rattle.cov_types.specs.declared.coord.Coord.{Coord}
 use Rattle.geo_text.specs.Token.{Numeral, value}
 use Rattle.geo_text.specs.Grammar.{Position, Two, Three, Four, Ring, Element, OnePolygon, ManyPolygons, Geometry, Single, Collection, IsFile}
 
--- the first two numbers of a position
+abbrev pub x_of : Position → Numeral
+x_of (Two x y) = x
+x_of (Three x y z) = x
+x_of (Four x y z m) = x
+
+abbrev pub y_of : Position → Numeral
+y_of (Two x y) = y
+y_of (Three x y z) = y
+y_of (Four x y z m) = y
+
+-- the values of the first two numbers of a position
 abbrev pub coordinate : Position → Coord
-coordinate (Two x y) = record { x = value x; y = value y }
-coordinate (Three x y z) = record { x = value x; y = value y }
-coordinate (Four x y z m) = record { x = value x; y = value y }
+coordinate p = record { x = value (x_of p); y = value (y_of p) }
 
 abbrev pub positions : Ring → List Position
 positions r = r.first ∷ r.others

@@ -1,5 +1,5 @@
 -- What is read of a text without a fault is formed.
-use Rattle.std.proofs.Common.{◌≡◌, refl, ℕ, suc, ◌+◌, ◌-◌, ◌^◌, ◌<◌, ◌≤◌, List, [], ◌∷◌, ◌++◌, length, map, take, filter, flat_map, Option, Some, None, sym, ap, ◌∙◌, subst, arith, All, length-append, length-take}
+use Rattle.std.proofs.Common.{◌≡◌, refl, ℕ, suc, ◌+◌, ◌-◌, ◌^◌, ◌<◌, ◌≤◌, List, [], ◌∷◌, ◌++◌, length, map, take, filter, flat_map, Option, Some, None, sym, ap, ◌∙◌, Result, Ok, Err, IfOk, subst, arith, All, length-append, length-take}
 use Rattle.std.specs.List.{AllByRecursion}
 use Rattle.std.proofs.lemmas.List.Elements.{All-from_recursion, recursion_from_All, All-take}
 use Rattle.cov_types.specs.Coverage.{IsFormed, AllInRange, IsRingFormed, IsPolyFormed, IsMemberFormed, IsRingInRange, IsPolyInRange, IsMemberInRange}
@@ -9,11 +9,13 @@ use Rattle.geo_text.specs.Token.{Numeral, Token, Close, Comma, Spells}
 use Rattle.geo_text.specs.Grammar.{Position, Two, Three, Four, Ring, Element, OnePolygon, ManyPolygons, Geometry, Single, Collection, body, dimension, element, geometry, file}
 use Rattle.geo_text.specs.Reading.{coordinate, positions, points, elements, bodies, has_ring, member, coverage}
 use Rattle.geo_text.specs.Fault.{position_numbers, ring_numbers, rings_of, rings, numbers, IsNumberFine, IsRingFine}
+use Rattle.geo_text.specs.Machine.{Members, Gives}
+use Rattle.geo_text.specs.declared.error.TextError.{TextError}
 use Rattle.geo_text.proofs.Keeping.{flat_map-append}
 use Rattle.geo_text.proofs.Typing.{length-map}
 use Rattle.geo_text.proofs.Spelled.{begins}
 use Rattle.geo_text.proofs.Rings.{split_append}
-use Rattle.geo_text.proofs.Verdicts.{IsClean}
+use Rattle.geo_text.proofs.Verdicts.{IsClean, answer_to, ok_reads}
 
 -- ---- rings
 
@@ -121,3 +123,7 @@ formed bytes gs h w =
       };
       shapes = All-from_recursion IsMemberFormed (coverage gs) (map_members IsMemberFormed member_formed es clean);
     }
+
+pub result_formed : (bytes : List ℕ) (result : Result Members TextError) → length bytes ≤ 67108864 → Gives result (answer_to bytes) → IfOk result IsFormed
+result_formed bytes (Ok c) h g = let read = ok_reads bytes c g in subst IsFormed (sym read.2) (formed bytes read.0 h read.1)
+result_formed bytes (Err e) h g = tt

@@ -1,5 +1,5 @@
 -- The machine answers the reading of a text that has no fault, and otherwise its one fault.
-use Rattle.std.proofs.Common.{◌≡◌, ℕ, zero, suc, ◌+◌, ◌-◌, ◌<◌, ◌≤◌, List, [], ◌∷◌, ◌++◌, length, map, take, drop, flat_map, All, Option, Some, None, option_and_then, Result, Ok, Err, ℤ, ◌⊎◌, inl, inr, ⊎_elim, refl, ap, ap₂, ◌∙◌, sym, subst, arith, add-zero, take-add}
+use Rattle.std.proofs.Common.{◌≡◌, ℕ, zero, suc, ◌+◌, ◌-◌, ◌<◌, ◌≤◌, List, [], ◌∷◌, ◌++◌, length, map, take, drop, flat_map, All, Option, Some, None, option_and_then, Result, Ok, Err, IfOk, OnOk, IsErrOf, ℤ, ◌⊎◌, inl, inr, ⊎_elim, refl, ap, ap₂, ◌∙◌, sym, subst, arith, add-zero, take-add}
 use Rattle.std.specs.List.{AllByRecursion}
 use Rattle.std.specs.Option.{option_or}
 use Rattle.std.proofs.lemmas.Bool.{cases_order}
@@ -9,7 +9,9 @@ use Rattle.geo_text.specs.Token.{Numeral, value}
 use Rattle.geo_text.specs.Grammar.{Ring, Geometry, IsFile}
 use Rattle.geo_text.specs.Reading.{elements, coverage, Reads}
 use Rattle.geo_text.specs.Fault.{BeginsFile, IsSyntaxFault, rings, numbers, ring_numbers, extra_places, IsWhole, IsValueInRange, IsNumberFine, IsRingLong, IsRingClosed, IsRingFine, IsBehindFine, IsPlanarFile, IsNumericFile, IsFirstNumber, IsFirstRing, IsFault, IsFaultless}
-use Rattle.geo_text.specs.Machine.{State, Kept, Members, start, ending, read_byte, answer, answer_at, answer_by, unless_fault, first_fault}
+use Rattle.geo_text.specs.Machine.{State, Kept, Members, start, ending, read_byte, answer, answer_at, answer_by, unless_fault, first_fault, Gives}
+use Rattle.geo_text.specs.declared.error.TextError.{TextError}
+use Rattle.geo_text.specs.declared.error.TextError.TheVariants as errors
 use Rattle.geo_text.specs.declared.error.TextFault.{TextFault}
 use Rattle.geo_text.specs.declared.error.TextFault.TheVariants.{Syntax, NotPlanar, NotWhole, OutOfRange, RingShort, RingOpen}
 use Rattle.geo_text.specs.declared.lexeme.Lexeme.{Lexeme}
@@ -272,3 +274,32 @@ err_fault bytes fault e =
 -- a text has at most one fault
 pub one_fault : (bytes : List ℕ) (e f : TextFault) → IsFault bytes e → IsFault bytes f → e ≡ f
 one_fault bytes e f h k = err_equal e f (sym (fault_answer bytes e h) ∙ fault_answer bytes f k)
+
+-- ---- the code's result
+
+-- what a result of the code says
+pub record Says (bytes : List ℕ) (result : Result Members TextError) : Type 0 where
+  pub read : IfOk result (λ c. Reads bytes c)
+  pub faultless : OnOk result (IsFaultless bytes)
+  pub fault : (fault : TextFault) → IsErrOf result (errors.Fault fault) → IsFault bytes fault
+
+fault_equal : (e f : TextFault) → let r : Result Members TextError = Err (errors.Fault e) in r ≡ Err (errors.Fault f) → e ≡ f
+fault_equal e f p = cc
+
+no_memory_apart : (f : TextFault) → let r : Result Members TextError = Err errors.NoMemory in r ≡ Err (errors.Fault f) → ⊥
+no_memory_apart f p = cc
+
+ok_apart : (c : Members) (e : TextError) → Ok c ≡ Err e → ⊥
+ok_apart c e p = cc
+
+pub says : (bytes : List ℕ) (result : Result Members TextError) → Gives result (answer_to bytes) → Says bytes result
+says bytes (Ok c) g =
+    let read = ok_reads bytes c g in
+    record { read = (read.0, read.1.is_numeric.is_planar.is_file, read.2); faultless = ok_faultless bytes c g; fault = λ fault e. absurd (ok_apart c (errors.Fault fault) e) }
+says bytes (Err (errors.Fault e)) g = record { read = tt; faultless = tt; fault = λ fault p. subst (IsFault bytes) (fault_equal e fault p) (err_fault bytes e g) }
+says bytes (Err errors.NoMemory) g = record { read = tt; faultless = tt; fault = λ fault p. absurd (no_memory_apart fault p) }
+
+-- a text that is read without a fault
+pub read_or_fault : (bytes : List ℕ) → ((c : Members) × Reads bytes c × IsFaultless bytes) ⊎ ((fault : TextFault) × IsFault bytes fault)
+read_or_fault bytes =
+    ⊎_elim (λ w. inl (coverage w.0, (w.0, w.1.is_numeric.is_planar.is_file, refl), ok_faultless bytes (coverage w.0) (clean_answer bytes w.0 w.1))) (λ f. inr f) (clean_or_fault bytes)

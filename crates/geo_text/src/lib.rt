@@ -16,4 +16,4 @@ mod reader;
 mod tests;
 
 pub use error::{TextError, TextFault};
-pub use reader::read_text;
+pub use reader::{one_answer, read_text};

@@ -1,4 +1,9 @@
-ghost use Rattle.std.specs.Prelude.{◌≡◌, ◌+◌, ◌^◌, ◌<◌, ◌≤◌, ℕ, length, IsErrOf, OnOk, IfOk, Some, None};
+ghost use Rattle.std.specs.Prelude.{◌≡◌, ◌⊎◌, ◌+◌, ◌^◌, ◌<◌, ◌≤◌, ℕ, List, length, IsErrOf, OnOk, IfOk, Some, None};
+ghost use Rattle.cov_types.specs.Coverage.{IsFormed};
+ghost use Rattle.cov_types.specs.declared.coord.Coord.{Coord};
+ghost use Rattle.geo_text.specs.Reading.{Reads};
+ghost use Rattle.geo_text.specs.Fault.{IsFault, IsFaultless};
+ghost use Rattle.geo_text.specs.declared.error.TextFault.{TextFault};
 ghost use Rattle.geo_text.specs.Machine.{ending, beginning, read_byte, IsLexeme, answer, Gives, error_of, start};
 ghost use Rattle.geo_text.specs.declared.number.TheConstants.{CAP};
 ghost use Rattle.geo_text.specs.declared.lexeme.Lexeme.TheVariants.{Blank};
@@ -110,9 +115,23 @@ fn read_all(alloc: Global, bytes: &[u8]) -> Result<Coverage, TextError>
     }
 }
 
-/// Reads a well-known text of polygons: each polygon or multipolygon is a member of the coverage, in order.
+/// Reads a well-known text of polygons: each polygon, multipolygon and element of a collection is a member of the
+/// coverage, in order.
 pub fn read_text(alloc: Global, bytes: &[u8]) -> Result<Coverage, TextError>
     requires { length bytes.now ≤ 67108864 }
+    ensures read { IfOk result (λ c. Reads bytes.now c) }
+    ensures faultless { OnOk result (IsFaultless bytes.now) }
+    ensures formed { IfOk result IsFormed }
+    ensures fault { (fault : TextFault) → IsErrOf result (TextError.Fault fault) → IsFault bytes.now fault }
 {
     read_all(alloc, bytes)
+}
+
+/// Laws of texts: each has at most one reading and at most one fault, and has a fault or is read without one.
+pub fn one_answer()
+    ensures reading { (bytes : List ℕ) (c d : List (List (List (List Coord)))) → Reads bytes c → Reads bytes d → c ≡ d }
+    ensures fault { (bytes : List ℕ) (e f : TextFault) → IsFault bytes e → IsFault bytes f → e ≡ f }
+    ensures either { (bytes : List ℕ)
+        → ((c : List (List (List (List Coord)))) × Reads bytes c × IsFaultless bytes) ⊎ ((fault : TextFault) × IsFault bytes fault) }
+{
 }

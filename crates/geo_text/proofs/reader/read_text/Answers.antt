@@ -1,0 +1,14 @@
+use Rattle.geo_text.proofs.Formed.{result_formed}
+use Rattle.geo_text.proofs.Verdicts.{says}
+use Rattle.geo_text.proofs.reader.read_text.Goals as goal
+
+pub returns : goal.returns
+returns c =
+    let bytes = c.args.bytes.now in
+    let said = says bytes c.read_all.result c.read_all.ensures in
+    record {
+      read = said.read;
+      faultless = said.faultless;
+      formed = result_formed bytes c.read_all.result c.requires c.read_all.ensures;
+      fault = said.fault;
+    }

@@ -7,7 +7,7 @@ use Rattle.cov_io.specs.Frame.{KeepsOutput, KeepsInput}
 use Rattle.cov_io.specs.State.{State, IsTelling}
 use Rattle.cov_types.specs.declared.coord.Coord.{Coord}
 use Rattle.cover_cli.specs.Answers.{input_of, output_of, is_success, is_touching, Writes, HoldsText, HoldsPart, IsUnlessEarlier, IsSuccessUnlessFault, FitsRoom, IsAnswer}
-use Rattle.cover_cli.specs.Input.{longest_input, IsFault, HoldsCoverage, HoldsFault, HoldsTooMuch}
+use Rattle.cover_cli.specs.Input.{longest_input, HoldsCoverage, HoldsFault, HoldsTooMuch}
 use Rattle.cover_cli.specs.Made.{marking, IsMadeFrom, IsMadeBy}
 use Rattle.cover_cli.specs.Refusal.{IsCause}
 use Rattle.cover_cli.specs.Validate.{Validates, IsValidation}
@@ -17,7 +17,8 @@ use Rattle.cover_cli.specs.declared.outcome.Outcome.{Outcome}
 use Rattle.cover_cli.specs.declared.outcome.Outcome.TheVariants.{Done, Marked, Usage, ReadFault, WriteFault, TooLong, BadText, NoMemory}
 use Rattle.cover_cli.specs.declared.validate.Made.{Made}
 use Rattle.geo_text.specs.declared.error.TextFault.{TextFault}
-use Rattle.geo_text.specs.declared.error.TextFault.TheVariants.{Unread}
+use Rattle.geo_text.proofs.Verdicts.{one_fault}
+use Rattle.geo_text.specs.Fault.{IsFault, IsFaultless}
 
 -- ---- what a file holds excludes what it does not
 
@@ -39,14 +40,17 @@ not_long_and_good : (name : List ℕ) (s : State) (members : List (List (List (L
 not_long_and_good name s members long good = not_long_and_short name good.bytes s long good.file good.within
 
 not_faulty_and_good : (name : List ℕ) (s : State) (fault : TextFault) (members : List (List (List (List Coord)))) → HoldsFault name s fault → HoldsCoverage name s members → ⊥
-not_faulty_and_good name s Unread members faulty good =
-    let same : faulty.bytes ≡ good.bytes = one_text faulty.bytes good.bytes (sym faulty.file ∙ good.file) in
-    let P : List ℕ → Type 0 = λ t. IsFault t Unread in
-    subst P same faulty.fault_is members good.reads
+not_faulty_and_good name s fault members faulty good =
+    let same : good.bytes ≡ faulty.bytes = one_text good.bytes faulty.bytes (sym good.file ∙ faulty.file) in
+    let P : List ℕ → Type 0 = λ t. IsFaultless t in
+    subst P same good.faultless fault faulty.fault_is
 
--- there is one fault so far
-same_fault : (f g : TextFault) → f ≡ g
-same_fault Unread Unread = refl
+-- a file holds a text with one fault
+same_fault : (name : List ℕ) (s : State) (f g : TextFault) → HoldsFault name s f → HoldsFault name s g → f ≡ g
+same_fault name s f g first second =
+    let same : first.bytes ≡ second.bytes = one_text first.bytes second.bytes (sym first.file ∙ second.file) in
+    let P : List ℕ → Type 0 = λ t. IsFault t f in
+    one_fault second.bytes f g (subst P same first.fault_is) second.fault_is
 
 -- ---- refusals of the input
 
@@ -98,8 +102,8 @@ refused operation old new (BadText f) cause kept promised = record {
   no_write_fault = λ h. kept.faults;
   too_long = λ told h. cc;
   long = λ told h. absurd (not_long_and_faulty (input_of operation) old f h (cause.1 told));
-  bad_text = λ fault told h. (let P : TextFault → Type 0 = λ g. HoldsFault (input_of operation) old g in subst P (same_fault f fault) (cause.1 told));
-  faulty = λ fault told h. inl (ap BadText (same_fault f fault));
+  bad_text = λ fault told h. (let same : f ≡ fault = cc in let P : TextFault → Type 0 = λ g. HoldsFault (input_of operation) old g in subst P same (cause.1 told));
+  faulty = λ fault told h. inl (ap BadText (same_fault (input_of operation) old f fault (cause.1 told) h));
   good = λ members told h. absurd (not_faulty_and_good (input_of operation) old f members (cause.1 told) h);
   readable = promised;
   writable = λ p fits h. cc;

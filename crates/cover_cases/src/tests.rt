@@ -15,7 +15,8 @@ const TOUCH: &str =
 const TOUCH_MARKS: &str =
     "MULTILINESTRING ((10 0, 10 10))\nMULTILINESTRING ((10 5, 20 0), (10 5, 20 10))\n";
 
-const UNREAD: Outcome = Outcome::BadText(TextFault::Unread);
+// The bytes of the output before the program ran are no text of polygons.
+const NO_TEXT: Outcome = Outcome::BadText(TextFault::Syntax { at: 0 });
 
 // Runs the program on the words of a line.
 fn answer(alloc: Global, line: &str, files: &mut Shelf) -> Result<Outcome, AllocError> {
@@ -135,34 +136,59 @@ fn validate_lists_the_segments_at_fault(rt: HostRuntime) -> Result<(), test::Fai
             "MULTILINESTRING EMPTY\nMULTILINESTRING EMPTY\n",
         ),
         (
-            "a polygon without rings isn't read",
+            "a polygon without rings is a member without segments",
             "POLYGON EMPTY",
-            UNREAD,
-            BEFORE,
+            Outcome::Done,
+            "MULTILINESTRING EMPTY\n",
         ),
         (
-            "a text that is cut off isn't read",
-            "POLYGON ((0 0, 1",
-            UNREAD,
-            BEFORE,
-        ),
-        (
-            "a ring that doesn't end where it began isn't read",
-            "POLYGON ((0 0, 10 0, 10 10, 0 10))",
-            UNREAD,
-            BEFORE,
-        ),
-        (
-            "a number past the range isn't read",
-            "POLYGON ((0 0, 16777217 0, 0 5, 0 0))",
-            UNREAD,
-            BEFORE,
+            "a fraction of zeros is read",
+            "POLYGON ((0 0, 1.0 0, 0 5, 0 0))",
+            Outcome::Done,
+            "MULTILINESTRING EMPTY\n",
         ),
     ] {
         let mut files = shelf_of(rt.alloc(), input.as_bytes(), &[], ROOM, ROOM)?;
         let came = answer(rt.alloc(), "validate in out", &mut files)?;
         assert_eq!(rt; came, expected, "{case}");
         expect_files(&rt, &files, input, output, case);
+    }
+    Ok(())
+}
+
+#[test]
+fn each_fault_of_a_text_is_answered_at_its_place(rt: HostRuntime) -> Result<(), test::Fail> {
+    for (input, fault) in [
+        ("POLYGON ((0 0, 1", TextFault::Syntax { at: 16 }),
+        (
+            "POLYGON ((0 0, 16777217 0, 0 5, 0 0))",
+            TextFault::OutOfRange { at: 15 },
+        ),
+        (
+            "POLYGON ((0 0, 1.5 0, 0 5, 0 0))",
+            TextFault::NotWhole { at: 15 },
+        ),
+        (
+            "POLYGON Z ((0 0 1, 4 0 1, 0 4 1, 0 0 1))",
+            TextFault::NotPlanar { at: 8 },
+        ),
+        (
+            "POLYGON ((0 0 1, 4 0 1, 0 4 1, 0 0 1))",
+            TextFault::NotPlanar { at: 14 },
+        ),
+        (
+            "POLYGON ((0 0, 10 0, 0 0))",
+            TextFault::RingShort { ring: 0 },
+        ),
+        (
+            "POLYGON ((0 0, 10 0, 10 10, 0 10))",
+            TextFault::RingOpen { ring: 0 },
+        ),
+    ] {
+        let mut files = shelf_of(rt.alloc(), input.as_bytes(), &[], ROOM, ROOM)?;
+        let came = answer(rt.alloc(), "validate in out", &mut files)?;
+        assert_eq!(rt; came, Outcome::BadText(fault), "{input}");
+        expect_files(&rt, &files, input, BEFORE, input);
     }
     Ok(())
 }
@@ -181,7 +207,7 @@ fn words_name_the_operation_and_its_files(rt: HostRuntime) -> Result<(), test::F
         ("validate in out more", Outcome::Usage, TOUCH, BEFORE),
         ("validate none out", Outcome::ReadFault, TOUCH, BEFORE),
         ("validate in none", Outcome::WriteFault, TOUCH, BEFORE),
-        ("validate out in", UNREAD, TOUCH, BEFORE),
+        ("validate out in", NO_TEXT, TOUCH, BEFORE),
         ("validate in in", marked, TOUCH_MARKS, BEFORE),
         ("validate in out", marked, TOUCH, TOUCH_MARKS),
     ] {
@@ -271,7 +297,36 @@ fn each_outcome_has_its_status_and_its_message(rt: HostRuntime) -> Result<(), te
             "marked 18446744073709551615",
         ),
         (Outcome::Usage, 2, "usage: cover validate"),
-        (UNREAD, 4, "text: not read yet"),
+        (NO_TEXT, 4, "text: syntax at 0"),
+        (
+            Outcome::BadText(TextFault::NotPlanar { at: 14 }),
+            4,
+            "text: not planar at 14",
+        ),
+        (
+            Outcome::BadText(TextFault::NotWhole { at: 15 }),
+            4,
+            "text: not whole at 15",
+        ),
+        (
+            Outcome::BadText(TextFault::OutOfRange {
+                at: 18_446_744_073_709_551_615,
+            }),
+            4,
+            "text: out of range at 18446744073709551615",
+        ),
+        (
+            Outcome::BadText(TextFault::RingShort { ring: 0 }),
+            4,
+            "text: ring 0 is short",
+        ),
+        (
+            Outcome::BadText(TextFault::RingOpen {
+                ring: 4_294_967_295,
+            }),
+            4,
+            "text: ring 4294967295 is open",
+        ),
         (Outcome::TooLong, 6, "input is longer than 67108864 bytes"),
         (Outcome::ReadFault, 7, "cannot read"),
         (Outcome::WriteFault, 8, "cannot write"),

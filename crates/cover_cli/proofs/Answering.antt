@@ -7,8 +7,8 @@ use Rattle.cov_io.specs.Frame.{KeepsOutput, KeepsInput}
 use Rattle.cov_io.specs.State.{State, IsTelling}
 use Rattle.cov_types.specs.declared.coord.Coord.{Coord}
 use Rattle.cover_cli.specs.Answers.{input_of, output_of, is_success, is_touching, Writes, HoldsText, HoldsPart, IsUnlessEarlier, IsSuccessUnlessFault, FitsRoom, IsAnswer}
-use Rattle.cover_cli.specs.Input.{longest_input, IsFault, HoldsCoverage, HoldsFault, HoldsTooMuch}
-use Rattle.cover_cli.specs.Made.{marking, IsMadeOf, IsMadeFrom}
+use Rattle.cover_cli.specs.Input.{longest_input, HoldsCoverage, HoldsFault, HoldsTooMuch}
+use Rattle.cover_cli.specs.Made.{marking, IsMadeFrom, IsMadeBy}
 use Rattle.cover_cli.specs.Refusal.{IsCause}
 use Rattle.cover_cli.specs.Validate.{Validates, IsValidation}
 use Rattle.cover_cli.specs.Words.{Operation, Validate}
@@ -17,7 +17,8 @@ use Rattle.cover_cli.specs.declared.outcome.Outcome.{Outcome}
 use Rattle.cover_cli.specs.declared.outcome.Outcome.TheVariants.{Done, Marked, Usage, ReadFault, WriteFault, TooLong, BadText, NoMemory}
 use Rattle.cover_cli.specs.declared.validate.Made.{Made}
 use Rattle.geo_text.specs.declared.error.TextFault.{TextFault}
-use Rattle.geo_text.specs.declared.error.TextFault.TheVariants.{Unread}
+use Rattle.geo_text.proofs.Verdicts.{one_fault}
+use Rattle.geo_text.specs.Fault.{IsFault, IsFaultless}
 
 -- ---- what a file holds excludes what it does not
 
@@ -39,20 +40,23 @@ not_long_and_good : (name : List ℕ) (s : State) (members : List (List (List (L
 not_long_and_good name s members long good = not_long_and_short name good.bytes s long good.file good.within
 
 not_faulty_and_good : (name : List ℕ) (s : State) (fault : TextFault) (members : List (List (List (List Coord)))) → HoldsFault name s fault → HoldsCoverage name s members → ⊥
-not_faulty_and_good name s Unread members faulty good =
-    let same : faulty.bytes ≡ good.bytes = one_text faulty.bytes good.bytes (sym faulty.file ∙ good.file) in
-    let P : List ℕ → Type 0 = λ t. IsFault t Unread in
-    subst P same faulty.fault_is members good.reads
+not_faulty_and_good name s fault members faulty good =
+    let same : good.bytes ≡ faulty.bytes = one_text good.bytes faulty.bytes (sym good.file ∙ faulty.file) in
+    let P : List ℕ → Type 0 = λ t. IsFaultless t in
+    subst P same good.faultless fault faulty.fault_is
 
--- there is one fault so far
-same_fault : (f g : TextFault) → f ≡ g
-same_fault Unread Unread = refl
+-- a file holds a text with one fault
+same_fault : (name : List ℕ) (s : State) (f g : TextFault) → HoldsFault name s f → HoldsFault name s g → f ≡ g
+same_fault name s f g first second =
+    let same : first.bytes ≡ second.bytes = one_text first.bytes second.bytes (sym first.file ∙ second.file) in
+    let P : List ℕ → Type 0 = λ t. IsFault t f in
+    one_fault second.bytes f g (subst P same first.fault_is) second.fault_is
 
 -- ---- refusals of the input
 
 -- no outcome that refuses the input is a success or touches the output
-pub refused : (from to : List ℕ) (old new : State) (o : Outcome) → IsCause o from old new → KeepsOutput old new → (IsPromised from old → o ≢ ReadFault) → IsAnswer (Validate from to) old new o
-refused from to old new ReadFault cause kept promised = record {
+pub refused : (operation : Operation) (old new : State) (o : Outcome) → IsCause o (input_of operation) old new → KeepsOutput old new → (IsPromised (input_of operation) old → o ≢ ReadFault) → IsAnswer operation old new o
+refused operation old new ReadFault cause kept promised = record {
   usage = λ h. cc;
   written = λ told success. cc;
   closed = λ success. cc;
@@ -70,7 +74,7 @@ refused from to old new ReadFault cause kept promised = record {
   untouched = λ told h. kept.files told;
   left = λ told h. cc;
 }
-refused from to old new TooLong cause kept promised = record {
+refused operation old new TooLong cause kept promised = record {
   usage = λ h. cc;
   written = λ told success. cc;
   closed = λ success. cc;
@@ -81,14 +85,14 @@ refused from to old new TooLong cause kept promised = record {
   too_long = λ told h. cause.1 told;
   long = λ told h. inl refl;
   bad_text = λ fault told h. cc;
-  faulty = λ fault told h. absurd (not_long_and_faulty from old fault (cause.1 told) h);
-  good = λ members told h. absurd (not_long_and_good from old members (cause.1 told) h);
+  faulty = λ fault told h. absurd (not_long_and_faulty (input_of operation) old fault (cause.1 told) h);
+  good = λ members told h. absurd (not_long_and_good (input_of operation) old members (cause.1 told) h);
   readable = promised;
   writable = λ p fits h. cc;
   untouched = λ told h. kept.files told;
   left = λ told h. cc;
 }
-refused from to old new (BadText f) cause kept promised = record {
+refused operation old new (BadText f) cause kept promised = record {
   usage = λ h. cc;
   written = λ told success. cc;
   closed = λ success. cc;
@@ -97,16 +101,16 @@ refused from to old new (BadText f) cause kept promised = record {
   write_fault = λ h. cc;
   no_write_fault = λ h. kept.faults;
   too_long = λ told h. cc;
-  long = λ told h. absurd (not_long_and_faulty from old f h (cause.1 told));
-  bad_text = λ fault told h. (let P : TextFault → Type 0 = λ g. HoldsFault from old g in subst P (same_fault f fault) (cause.1 told));
-  faulty = λ fault told h. inl (ap BadText (same_fault f fault));
-  good = λ members told h. absurd (not_faulty_and_good from old f members (cause.1 told) h);
+  long = λ told h. absurd (not_long_and_faulty (input_of operation) old f h (cause.1 told));
+  bad_text = λ fault told h. (let same : f ≡ fault = cc in let P : TextFault → Type 0 = λ g. HoldsFault (input_of operation) old g in subst P same (cause.1 told));
+  faulty = λ fault told h. inl (ap BadText (same_fault (input_of operation) old f fault (cause.1 told) h));
+  good = λ members told h. absurd (not_faulty_and_good (input_of operation) old f members (cause.1 told) h);
   readable = promised;
   writable = λ p fits h. cc;
   untouched = λ told h. kept.files told;
   left = λ told h. cc;
 }
-refused from to old new NoMemory cause kept promised = record {
+refused operation old new NoMemory cause kept promised = record {
   usage = λ h. cc;
   written = λ told success. cc;
   closed = λ success. cc;
@@ -124,10 +128,10 @@ refused from to old new NoMemory cause kept promised = record {
   untouched = λ told h. kept.files told;
   left = λ told h. cc;
 }
-refused from to old new Done cause kept promised = absurd cause
-refused from to old new (Marked edges) cause kept promised = absurd cause
-refused from to old new Usage cause kept promised = absurd cause
-refused from to old new WriteFault cause kept promised = absurd cause
+refused operation old new Done cause kept promised = absurd cause
+refused operation old new (Marked edges) cause kept promised = absurd cause
+refused operation old new Usage cause kept promised = absurd cause
+refused operation old new WriteFault cause kept promised = absurd cause
 
 -- ---- writing the text
 
@@ -136,14 +140,18 @@ success_is_not : (o p : Outcome) → IsTrue (is_success o) → is_success p ≡ 
 success_is_not o p success none same = (let e : true ≡ false = sym success ∙ ap is_success same ∙ none in cc)
 
 -- what was made is what the operation writes
-writes : (from to : List ℕ) (s : State) (made : Made) → IsMadeFrom from s made → Writes (Validate from to) s made.outcome made.text.items
-writes from to s made from_file =
+pub validation_made : (from to : List ℕ) (s : State) (made : Made) → IsMadeFrom from s made → IsMadeBy (Validate from to) s made
+validation_made from to s made from_file =
     let of : (edges : ℕ) (o : Outcome) → o ≡ marking edges → Validates from s edges made.text.items → Writes (Validate from to) s o made.text.items =
     λ edges. elim edges as (λ n. (o : Outcome) → o ≡ marking n → Validates from s n made.text.items → Writes (Validate from to) s o made.text.items) [
       | zero ↦ λ o is v. (let P : Outcome → Type 0 = λ p. Writes (Validate from to) s p made.text.items in subst P (sym is) v)
       | suc n ↦ λ o is v. (let P : Outcome → Type 0 = λ p. Writes (Validate from to) s p made.text.items in subst P (sym is) (omega arith, v))
     ] in
-    of from_file.made_of.edges made.outcome from_file.made_of.outcome (record { members = from_file.members; input = from_file.input; validation = from_file.made_of.validation })
+    record {
+      members = from_file.members;
+      input = from_file.input;
+      writes = of from_file.made_of.edges made.outcome from_file.made_of.outcome (record { members = from_file.members; input = from_file.input; validation = from_file.made_of.validation })
+    }
 
 -- the file holds the same, seen from before the input was read
 held_from : (name bytes : List ℕ) (old mid new : Contents) → SameFiles old mid → HoldsNow name bytes mid new → HoldsNow name bytes old new
@@ -158,17 +166,17 @@ still_told : (a b : Bool) → b ≡ a → IsTrue a → IsTrue b
 still_told a b same told = same ∙ told
 
 -- the text was written whole
-written_whole : (from to : List ℕ) (old mid new : State) (made : Made) (o : Outcome) → IsTrue (is_success made.outcome) → (IsTrue old.tells_files → IsMadeFrom from old made)
-    → mid.read_faults ≡ old.read_faults → KeepsOutput old mid → o ≡ made.outcome → IsWrittenWhole to made.text.items mid new → new.has_output ≡ false → KeepsInput mid new
-    → IsAnswer (Validate from to) old new o
-written_whole from to old mid new made o success from_file reads kept is whole closed input =
+written_whole : (operation : Operation) (old mid new : State) (made : Made) (o : Outcome) → IsTrue (is_success made.outcome) → (IsTrue old.tells_files → IsMadeBy operation old made)
+    → mid.read_faults ≡ old.read_faults → KeepsOutput old mid → o ≡ made.outcome → IsWrittenWhole (output_of operation) made.text.items mid new → new.has_output ≡ false → KeepsInput mid new
+    → IsAnswer operation old new o
+written_whole operation old mid new made o success from_file reads kept is whole closed input =
     let ok : IsTrue (is_success o) = ap is_success is ∙ success in
     record {
       usage = success_is_not o Usage ok refl;
       written = λ told yes. record {
         text = made.text.items;
-        writes = (let P : Outcome → Type 0 = λ p. Writes (Validate from to) old p made.text.items in subst P (sym is) (writes from to old made (from_file told)));
-        held = held_from to made.text.items old.files mid.files new.files (kept.files told) (whole.held (still_told old.tells_files mid.tells_files kept.tells.files told));
+        writes = (let P : Outcome → Type 0 = λ p. Writes operation old p made.text.items in subst P (sym is) (from_file told).writes);
+        held = held_from (output_of operation) made.text.items old.files mid.files new.files (kept.files told) (whole.held (still_told old.tells_files mid.tells_files kept.tells.files told));
       };
       closed = λ yes. closed;
       read_fault = λ h. absurd (success_is_not o ReadFault ok refl h);
@@ -176,9 +184,9 @@ written_whole from to old mid new made o success from_file reads kept is whole c
       write_fault = λ h. absurd (success_is_not o WriteFault ok refl h);
       no_write_fault = λ h. whole.faults ∙ kept.faults;
       too_long = λ told h. absurd (success_is_not o TooLong ok refl h);
-      long = λ told h. absurd (not_long_and_good from old (from_file told).members h (from_file told).input);
+      long = λ told h. absurd (not_long_and_good (input_of operation) old (from_file told).members h (from_file told).input);
       bad_text = λ fault told h. absurd (success_is_not o (BadText fault) ok refl h);
-      faulty = λ fault told h. absurd (not_faulty_and_good from old fault (from_file told).members h (from_file told).input);
+      faulty = λ fault told h. absurd (not_faulty_and_good (input_of operation) old fault (from_file told).members h (from_file told).input);
       good = λ members told h. inl ok;
       readable = λ p h. success_is_not o ReadFault ok refl h;
       writable = λ p fits h. success_is_not o WriteFault ok refl h;
@@ -205,10 +213,10 @@ promised_after name old mid telling kept p = record {
 }
 
 -- the text was written in part
-written_in_part : (from to : List ℕ) (old mid new : State) (made : Made) (o : Outcome) → IsTelling old → (IsTrue old.tells_files → IsMadeFrom from old made)
-    → mid.read_faults ≡ old.read_faults → KeepsOutput old mid → o ≡ WriteFault → IsWrittenInPart to made.text.items mid new → KeepsInput mid new
-    → IsAnswer (Validate from to) old new o
-written_in_part from to old mid new made o telling from_file reads kept is part input =
+written_in_part : (operation : Operation) (old mid new : State) (made : Made) (o : Outcome) → IsTelling old → (IsTrue old.tells_files → IsMadeBy operation old made)
+    → mid.read_faults ≡ old.read_faults → KeepsOutput old mid → o ≡ WriteFault → IsWrittenInPart (output_of operation) made.text.items mid new → KeepsInput mid new
+    → IsAnswer operation old new o
+written_in_part operation old mid new made o telling from_file reads kept is part input =
     record {
       usage = λ h. cc;
       written = λ told success. (let e : false ≡ true = sym (ap is_success is) ∙ success in cc);
@@ -218,30 +226,30 @@ written_in_part from to old mid new made o telling from_file reads kept is part 
       write_fault = λ h. (let P : ℕ → Type 0 = λ n. Rose n new.write_faults in subst P kept.faults part.faults);
       no_write_fault = λ h. absurd (h is);
       too_long = λ told h. cc;
-      long = λ told h. absurd (not_long_and_good from old (from_file told).members h (from_file told).input);
+      long = λ told h. absurd (not_long_and_good (input_of operation) old (from_file told).members h (from_file told).input);
       bad_text = λ fault told h. cc;
-      faulty = λ fault told h. absurd (not_faulty_and_good from old fault (from_file told).members h (from_file told).input);
+      faulty = λ fault told h. absurd (not_faulty_and_good (input_of operation) old fault (from_file told).members h (from_file told).input);
       good = λ members told h. inr (inr (inl is));
       readable = λ p h. cc;
       writable = λ p fits h.
           (let told : IsTrue old.tells_files = telling.files p.room in
-          let short : length made.text.items ≤ old.room = fits made.outcome made.text.items (writes from to old made (from_file told)) in
+          let short : length made.text.items ≤ old.room = fits made.outcome made.text.items (from_file told).writes in
           let same : mid.room ≡ old.room = kept.tells.bytes p.room in
-          part.unpromised (promised_after to old mid telling kept p) (omega arith));
+          part.unpromised (promised_after (output_of operation) old mid telling kept p) (omega arith));
       untouched = λ told h. (let e : true ≡ false = sym (ap is_touching is) ∙ h in cc);
       left = λ told h. record {
         outcome = made.outcome;
         text = made.text.items;
-        writes = writes from to old made (from_file told);
-        held = prefix_from to made.text.items old.files mid.files new.files (kept.files told) (part.held (still_told old.tells_files mid.tells_files kept.tells.files told));
+        writes = (from_file told).writes;
+        held = prefix_from (output_of operation) made.text.items old.files mid.files new.files (kept.files told) (part.held (still_told old.tells_files mid.tells_files kept.tells.files told));
       };
     }
 
 -- the text was written, whole or in part
-pub answered : (from to : List ℕ) (old mid new : State) (made : Made) (o : Outcome) → IsTelling old → IsTrue (is_success made.outcome) → (IsTrue old.tells_files → IsMadeFrom from old made)
-    → mid.read_faults ≡ old.read_faults → KeepsOutput old mid → IsWritten to made mid new o → IsAnswer (Validate from to) old new o
-answered from to old mid new made o telling success from_file reads kept w =
-    elim w.cases as (λ _. IsAnswer (Validate from to) old new o) [
-      | inl p ↦ written_whole from to old mid new made o success from_file reads kept p.0 p.1 w.closed w.input
-      | inr p ↦ written_in_part from to old mid new made o telling from_file reads kept p.0 p.1 w.input
+pub answered : (operation : Operation) (old mid new : State) (made : Made) (o : Outcome) → IsTelling old → IsTrue (is_success made.outcome) → (IsTrue old.tells_files → IsMadeBy operation old made)
+    → mid.read_faults ≡ old.read_faults → KeepsOutput old mid → IsWritten (output_of operation) made mid new o → IsAnswer operation old new o
+answered operation old mid new made o telling success from_file reads kept w =
+    elim w.cases as (λ _. IsAnswer operation old new o) [
+      | inl p ↦ written_whole operation old mid new made o success from_file reads kept p.0 p.1 w.closed w.input
+      | inr p ↦ written_in_part operation old mid new made o telling from_file reads kept p.0 p.1 w.input
     ]

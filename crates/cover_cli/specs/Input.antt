@@ -4,24 +4,21 @@ use Rattle.cov_io.specs.State.{State}
 use Rattle.cov_io.specs.Count.{Rose}
 use Rattle.cov_types.specs.Coverage.{IsFormed}
 use Rattle.cov_types.specs.declared.coord.Coord.{Coord}
+use Rattle.geo_text.specs.Fault.{IsFault, IsFaultless}
 use Rattle.geo_text.specs.Reading.{Reads}
 use Rattle.geo_text.specs.declared.error.TextFault.{TextFault}
-use Rattle.geo_text.specs.declared.error.TextFault.TheVariants.{Unread}
 
 -- how many bytes an input may hold
 abbrev pub longest_input : ℕ
 longest_input = 67108864
 
--- the text has this fault: it is read as no coverage
-abbrev pub IsFault : List ℕ → TextFault → Type 0
-IsFault bytes Unread = (members : List (List (List (List Coord)))) → ¬ Reads bytes members
-
--- the file of this name holds a text that is read as the coverage
+-- the file of this name holds a text without a fault that is read as the coverage
 pub record HoldsCoverage (name : List ℕ) (s : State) (members : List (List (List (List Coord)))) : Type 0 where
   pub bytes : List ℕ
   pub file : s.files name ≡ Some bytes
   pub within : length bytes ≤ longest_input
   pub reads : Reads bytes members
+  pub faultless : IsFaultless bytes
 
 -- the file of this name holds a text with this fault
 pub record HoldsFault (name : List ℕ) (s : State) (fault : TextFault) : Type 0 where

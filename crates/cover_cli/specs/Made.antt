@@ -2,6 +2,8 @@
 use Rattle.std.specs.Prelude.{◌≡◌, ℕ, List, zero, suc}
 use Rattle.cov_io.specs.State.{State}
 use Rattle.cov_types.specs.declared.coord.Coord.{Coord}
+use Rattle.cover_cli.specs.Answers.{input_of, Writes}
+use Rattle.cover_cli.specs.Words.{Operation}
 use Rattle.cover_cli.specs.declared.outcome.Outcome.{Outcome}
 use Rattle.cover_cli.specs.declared.outcome.Outcome.TheVariants.{Done, Marked}
 use Rattle.cover_cli.specs.declared.validate.Made.{Made}
@@ -24,3 +26,9 @@ pub record IsMadeFrom (from : List ℕ) (s : State) (made : Made) : Type 0 where
   pub members : List (List (List (List Coord)))
   pub input : HoldsCoverage from s members
   pub made_of : IsMadeOf members made
+
+-- it is what the operation writes, and its input is read
+pub record IsMadeBy (operation : Operation) (s : State) (made : Made) : Type 0 where
+  pub members : List (List (List (List Coord)))
+  pub input : HoldsCoverage (input_of operation) s members
+  pub writes : Writes operation s made.outcome made.text.items

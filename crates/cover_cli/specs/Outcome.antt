@@ -4,7 +4,7 @@ use Rattle.std.specs.Fmt.{decimal}
 use Rattle.cover_cli.specs.declared.outcome.Outcome.{Outcome}
 use Rattle.cover_cli.specs.declared.outcome.Outcome.TheVariants.{Done, Marked, Usage, ReadFault, WriteFault, TooLong, BadText, NoMemory}
 use Rattle.geo_text.specs.declared.error.TextFault.{TextFault}
-use Rattle.geo_text.specs.declared.error.TextFault.TheVariants.{Unread}
+use Rattle.geo_text.specs.declared.error.TextFault.TheVariants.{Syntax, NotPlanar, NotWhole, OutOfRange, RingShort, RingOpen}
 
 -- the exit status
 abbrev pub status_of : Outcome → ℕ
@@ -19,7 +19,12 @@ status_of NoMemory = 9
 
 -- the text of a fault of the input
 abbrev pub fault_text : TextFault → List ℕ
-fault_text Unread = codes "text: not read yet"
+fault_text (Syntax at) = codes "text: syntax at " ++ decimal at
+fault_text (NotPlanar at) = codes "text: not planar at " ++ decimal at
+fault_text (NotWhole at) = codes "text: not whole at " ++ decimal at
+fault_text (OutOfRange at) = codes "text: out of range at " ++ decimal at
+fault_text (RingShort ring) = codes "text: ring " ++ decimal ring ++ codes " is short"
+fault_text (RingOpen ring) = codes "text: ring " ++ decimal ring ++ codes " is open"
 
 -- the line that is printed
 abbrev pub message_of : Outcome → List ℕ

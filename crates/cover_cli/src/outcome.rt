@@ -1,6 +1,6 @@
 ghost use Rattle.std.specs.Prelude.{◌≡◌, IfOk};
 ghost use Rattle.std.specs.String.{string_bytes};
-ghost use Rattle.cover_cli.specs.Outcome.{status_of, message_of};
+ghost use Rattle.cover_cli.specs.Outcome.{status_of, message_of, fault_text};
 
 use cov_types::NoMemory;
 use geo_text::TextFault;
@@ -49,13 +49,27 @@ pub fn message(alloc: Global, o: &Outcome) -> Result<String, NoMemory>
 {
     let text = match o {
         Outcome::Marked { edges } => return Ok(format!(in alloc; "marked {edges}")?),
+        Outcome::BadText(fault) => return fault_message(alloc, *fault),
         Outcome::Done => "done",
         Outcome::Usage => "usage: cover validate",
         Outcome::ReadFault => "cannot read",
         Outcome::WriteFault => "cannot write",
         Outcome::TooLong => "input is longer than 67108864 bytes",
-        Outcome::BadText(TextFault::Unread) => "text: not read yet",
         Outcome::NoMemory => "no memory",
     };
     Ok(String::from_str(alloc, text)?)
+}
+
+// The line that is printed for a fault of the input.
+fn fault_message(alloc: Global, fault: TextFault) -> Result<String, NoMemory>
+    ensures { IfOk result (λ text. string_bytes text ≡ fault_text fault) }
+{
+    Ok(match fault {
+        TextFault::Syntax { at } => format!(in alloc; "text: syntax at {at}")?,
+        TextFault::NotPlanar { at } => format!(in alloc; "text: not planar at {at}")?,
+        TextFault::NotWhole { at } => format!(in alloc; "text: not whole at {at}")?,
+        TextFault::OutOfRange { at } => format!(in alloc; "text: out of range at {at}")?,
+        TextFault::RingShort { ring } => format!(in alloc; "text: ring {ring} is short")?,
+        TextFault::RingOpen { ring } => format!(in alloc; "text: ring {ring} is open")?,
+    })
 }

@@ -1,5 +1,6 @@
 -- Whatever was taken so far, some bytes complete it to a file.
 use Rattle.std.proofs.Common.{◌≡◌, ℕ, zero, suc, ◌+◌, ◌-◌, ◌<◌, ◌≤◌, Bool, true, false, cond, ◌&&◌, eqb, ltb, leb, List, [], ◌∷◌, ◌++◌, length, map, take, drop, Option, Some, None, option_and_then, option_map, ℤ, pos, ◌⊎◌, inl, inr, ⊎_elim, sym, refl, ap, ap₂, ◌∙◌, subst, arith, append_assoc, append-nil, codes, zero-lt-suc, length-append, length-drop, lt-ltb, ltb-true, take_all, lit<, add-zero}
+use Rattle.std.proofs.lemmas.Option.{cond_some}
 use Rattle.std.specs.Char.{to_ascii_uppercase}
 use Rattle.std.proofs.lemmas.Bool.{and_parts, cond_both, false≢true}
 use Rattle.geo_text.specs.Token.{Name, Polygon, MultiPolygon, GeometryCollection, Empty, Dimension, Numeral, Token, Word, Dimensions, Number, Open, Close, Comma, is_white, IsNumeral, IsSpelled, is_word, is_number, is_alike, signed, Spells}
@@ -13,10 +14,11 @@ use Rattle.geo_text.specs.declared.place.Body.{Body}
 use Rattle.geo_text.specs.declared.place.Body.TheVariants as kinds
 use Rattle.geo_text.specs.declared.place.Place.{Place}
 use Rattle.geo_text.specs.declared.place.Place.TheVariants.{Outside, Head, ElementStart, ElementEnd, BodyStart, BodyEnd, RingStart, PositionStart, SecondNumber, PositionEnd, RingEnd}
+use Rattle.geo_text.proofs.Options.{none_some}
 use Rattle.geo_text.proofs.Parsing.{run, seen, element_end_is, element_place}
-use Rattle.geo_text.proofs.Typing.{none_some, some_equal, read_bytes, typing, opened}
+use Rattle.geo_text.proofs.Typing.{read_bytes, typing}
 use Rattle.geo_text.proofs.Spelled.{Pending, read_bytes-spelled}
-use Rattle.geo_text.proofs.Lexed.{mapped, if_some, taken_some, on_digit, pick}
+use Rattle.geo_text.proofs.Lexed.{on_digit, pick}
 
 module _ (cap : ℕ) where
 
@@ -121,20 +123,20 @@ module _ (cap : ℕ) where
   takes_word Outside letter i k c m h e =
       ⊎_elim (λ w. subst (Takes Outside i c m h) w.1 (at (Head kinds.Polygon false) c m h, refl)) (λ e1.
       ⊎_elim (λ w. subst (Takes Outside i c m h) w.1 (at (Head kinds.MultiPolygon false) c m h, refl)) (λ e2.
-      subst (Takes Outside i c m h) ((if_some cap) (eqb letter 71) keywords.GeometryCollection k e2).1 (at (Head kinds.GeometryCollection false) c m h, refl))
+      subst (Takes Outside i c m h) (cond_some (eqb letter 71) keywords.GeometryCollection k e2).1 (at (Head kinds.GeometryCollection false) c m h, refl))
       ((pick cap) (eqb letter 77) keywords.MultiPolygon k _ e1)) ((pick cap) (eqb letter 80) keywords.Polygon k _ e)
   takes_word ElementStart letter i k c m h e =
       ⊎_elim (λ w. subst (Takes ElementStart i c m h) w.1 (at (Head kinds.Polygon false) c m h, refl)) (λ e1.
-      subst (Takes ElementStart i c m h) ((if_some cap) (eqb letter 77) keywords.MultiPolygon k e1).1 (at (Head kinds.MultiPolygon false) c m h, refl))
+      subst (Takes ElementStart i c m h) (cond_some (eqb letter 77) keywords.MultiPolygon k e1).1 (at (Head kinds.MultiPolygon false) c m h, refl))
       ((pick cap) (eqb letter 80) keywords.Polygon k _ e)
   takes_word (Head kind false) letter i k c m h e =
       ⊎_elim (λ w. subst (Takes (Head kind false) i c m h) w.1 (takes_empty kind false i c m h)) (λ e1.
       ⊎_elim (λ w. subst (Takes (Head kind false) i c m h) w.1 (at (Head kind true) c m (record h { faults = with_extra i h.faults }), refl)) (λ e2.
-      subst (Takes (Head kind false) i c m h) ((if_some cap) (eqb letter 90) keywords.Zm k e2).1 (at (Head kind true) c m (record h { faults = with_extra i h.faults }), refl))
+      subst (Takes (Head kind false) i c m h) (cond_some (eqb letter 90) keywords.Zm k e2).1 (at (Head kind true) c m (record h { faults = with_extra i h.faults }), refl))
       ((pick cap) (eqb letter 77) keywords.M k _ e1)) ((pick cap) (eqb letter 69) keywords.Empty k _ e)
-  takes_word (Head kind true) letter i k c m h e = subst (Takes (Head kind true) i c m h) ((if_some cap) (eqb letter 69) keywords.Empty k e).1 (takes_empty kind true i c m h)
-  takes_word BodyStart letter i k c m h e = subst (Takes BodyStart i c m h) ((if_some cap) (eqb letter 69) keywords.Empty k e).1 (at BodyEnd c m h, refl)
-  takes_word place letter i k c m h e = absurd ((none_some cap) k e)
+  takes_word (Head kind true) letter i k c m h e = subst (Takes (Head kind true) i c m h) (cond_some (eqb letter 69) keywords.Empty k e).1 (takes_empty kind true i c m h)
+  takes_word BodyStart letter i k c m h e = subst (Takes BodyStart i c m h) (cond_some (eqb letter 69) keywords.Empty k e).1 (at BodyEnd c m h, refl)
+  takes_word place letter i k c m h e = absurd (none_some k e)
 
   takes_if : (b : Bool) (s : State) → b ≡ true → (last : State) × (cond b (Some s) None ≡ Some last)
   takes_if true s e = (s, refl)

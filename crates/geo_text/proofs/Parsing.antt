@@ -1,5 +1,7 @@
 -- What the grammar has, the machine takes, and keeps what it is read as.
 use Rattle.std.proofs.Common.{◌≡◌, is_some, ℕ, suc, ◌-◌, Bool, true, false, List, [], ◌∷◌, ◌++◌, length, map, take, flat_map, filter, Option, Some, None, option_and_then, ℤ, sym, refl, ap, ap₂, ◌∙◌, append_assoc, append-nil}
+use Rattle.std.proofs.lemmas.Grind.{flat_map-append}
+use Rattle.std.proofs.lemmas.List.{length-map, map-append}
 use Rattle.cov_types.specs.declared.coord.Coord.{Coord}
 use Rattle.geo_text.specs.Token.{Polygon, MultiPolygon, GeometryCollection, Empty, Dimension, Numeral, Token, Word, Dimensions, Number, Open, Close, Comma}
 use Rattle.geo_text.specs.Grammar.{Position, Two, Three, Four, Ring, Element, OnePolygon, ManyPolygons, Geometry, Single, Collection, bracketed, body, dimension, position, ring, polygon_body, multi_body, element, geometry, file}
@@ -11,7 +13,7 @@ use Rattle.geo_text.specs.declared.place.Body.{Body}
 use Rattle.geo_text.specs.declared.place.Body.TheVariants as kinds
 use Rattle.geo_text.specs.declared.place.Place.{Place}
 use Rattle.geo_text.specs.declared.place.Place.TheVariants.{Outside, Head, ElementStart, ElementEnd, BodyStart, BodyEnd, RingStart, PositionStart, SecondNumber, PositionEnd, RingEnd}
-use Rattle.geo_text.proofs.Keeping.{read_value, is_whole, coordinate_by, ring_points, noted, noted-append, noted-nil, with_number-noted, with_extra-noted, with_ring-noted, grown, grown-append, grown-nil, with_extra-grown, flat_map-append}
+use Rattle.geo_text.proofs.Keeping.{read_value, is_whole, coordinate_by, ring_points, noted, noted-append, noted-nil, with_number-noted, with_extra-noted, with_ring-noted, grown, grown-append, grown-nil, with_extra-grown}
 
 module _ (cap : ℕ) where
 
@@ -78,10 +80,6 @@ module _ (cap : ℕ) where
 
   -- ---- rings
 
-  length-map : {A B : Type 0} (g : A → B) (xs : List A) → length (map g xs) ≡ length xs
-  length-map g [] = refl
-  length-map g (x ∷ xs) = ap suc (length-map g xs)
-
   -- the points of a ring, without the last
   abbrev pub open_points : Ring → List Coord
   open_points r = take (length (positions r) - 1) ((ring_points cap) r)
@@ -95,7 +93,7 @@ module _ (cap : ℕ) where
       ∙ run_position r.first c m ms ps rs [] f (more ++ Close ∷ rest)
       ∙ run_positions r.others (further r.first) c m ms ps rs (coordinate_by (read_value cap) r.first ∷ []) ((noted cap) f (third_places r.first) (position_numbers r.first)) rest
       ∙ ap₂ (λ (n : ℕ) (g : Faults). run (at RingEnd c m (kept ms ps (rs ++ take (n - 1) ((ring_points cap) r) ∷ []) [] (with_ring ((ring_points cap) r) g))) rest)
-          (length-map (coordinate_by (read_value cap)) (positions r))
+          (length-map (positions r) (coordinate_by (read_value cap)))
           ((noted-append cap) f (third_places r.first) (flat_map third_places r.others) (position_numbers r.first) (flat_map position_numbers r.others))
       ∙ ap (λ g. run (at RingEnd c m (kept ms ps (rs ++ open_points r ∷ []) [] g)) rest) ((with_ring-noted cap) r f (ring_extras r))
 
@@ -292,10 +290,6 @@ module _ (cap : ℕ) where
   -- what is kept behind a file
   abbrev pub with_file : List Geometry → Members → Faults → Kept
   with_file gs ms f = kept (ms ++ map member_of (flat_map elements gs)) [] [] [] ((grown cap) f (extra_places gs) (rings gs))
-
-  map-append : {A B : Type 0} (g : A → B) (xs ys : List A) → map g (xs ++ ys) ≡ map g xs ++ map g ys
-  map-append g [] ys = refl
-  map-append g (x ∷ xs) ys = ap (λ zs. g x ∷ zs) (map-append g xs ys)
 
   run_file : (gs : List Geometry) (ms : Members) (f : Faults) → run (at Outside false false (kept ms [] [] [] f)) (file gs) ≡ Some (at Outside false false (with_file gs ms f))
   run_file [] ms f = ap (λ k. Some (at Outside false false k)) (with_elements-nil ms f)

@@ -8,6 +8,7 @@ use Rattle.geo_text.specs.declared.place.Body.{Body}
 use Rattle.geo_text.specs.declared.place.Body.TheVariants as kinds
 use Rattle.geo_text.specs.declared.place.Place.{Place}
 use Rattle.geo_text.specs.declared.place.Place.TheVariants.{Outside, Head, ElementStart, ElementEnd, BodyStart, BodyEnd, RingStart, PositionStart, SecondNumber, PositionEnd, RingEnd}
+use Rattle.geo_text.proofs.Options.{none_some}
 use Rattle.geo_text.proofs.Parsing.{run, seen}
 
 module _ (cap : ℕ) where
@@ -88,9 +89,6 @@ module _ (cap : ℕ) where
   Rest RingEnd c m ts = RingsRest c m ts
 
   -- ---- each token in front
-
-  none_some : {A : Type 0} (x : A) → None ≡ Some x → ⊥
-  none_some x e = cc
 
   position_of : Numeral → Numeral → List Numeral → Position
   position_of x y [] = Two x y

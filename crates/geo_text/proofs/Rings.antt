@@ -1,5 +1,8 @@
 -- What is read of rings and members whose numbers are fine, and the fault of a ring.
 use Rattle.std.proofs.Common.{◌≡◌, ℕ, zero, suc, ◌+◌, ◌-◌, ◌<◌, ◌≤◌, Bool, true, false, cond, ◌&&◌, ltb, List, [], ◌∷◌, ◌++◌, length, map, take, filter, flat_map, get_or, slice_get, All, Option, Some, None, ℤ, ◌⊎◌, inl, inr, ⊎_elim, refl, ap, ap₂, ◌∙◌, sym, subst, arith, lt-ltb, ltb-true, ltb-false, le-ltb, add-zero, le_of_suc-le-suc, int_eq}
+use Rattle.std.proofs.lemmas.Grind.{flat_map-append}
+use Rattle.std.proofs.lemmas.List.{length-map}
+use Rattle.std.proofs.lemmas.Bool.{false_from_ne_true}
 use Rattle.std.specs.List.{AllByRecursion}
 use Rattle.std.specs.Option.{option_or}
 use Rattle.std.proofs.lemmas.Bool.{and_parts, and_from, false≢true, cases_lt}
@@ -13,15 +16,11 @@ use Rattle.geo_text.specs.Fault.{position_numbers, ring_numbers, rings_of, IsNum
 use Rattle.geo_text.specs.Machine.{same_coord, origin, is_closed, ring_fault}
 use Rattle.geo_text.specs.declared.error.TextFault.{TextFault}
 use Rattle.geo_text.specs.declared.error.TextFault.TheVariants.{RingShort, RingOpen}
-use Rattle.geo_text.proofs.Keeping.{flat_map-append, coordinate_by, read_value, ring_points, first_ring_fault}
+use Rattle.geo_text.proofs.Options.{some_equal, split_append}
+use Rattle.geo_text.proofs.Keeping.{coordinate_by, read_value, ring_points, first_ring_fault}
 use Rattle.geo_text.specs.declared.number.TheConstants.{CAP}
-use Rattle.geo_text.proofs.Typing.{length-map}
 
 -- ---- points by a reading of numbers
-
-pub split_append : {A : Type 0} (P : A → Type 0) (xs ys : List A) → AllByRecursion P (xs ++ ys) → AllByRecursion P xs × AllByRecursion P ys
-split_append P [] ys h = (tt, h)
-split_append P (x ∷ xs) ys h = let w = split_append P xs ys h.1 in ((h.0, w.0), w.1)
 
 -- the points of a ring, the polygons of polygon bodies and a member by the values of numbers
 abbrev pub points_by : (Numeral → ℤ) → Ring → List Coord
@@ -85,7 +84,7 @@ rings_read_true (r ∷ rs) h =
     (alike_coordinates (read_value CAP) value (positions r) both.0, rings_read_true rs both.1)
 
 length-coordinates : (r : Ring) → length (coordinates r) ≡ length (positions r)
-length-coordinates r = length-map 0 coordinate (positions r)
+length-coordinates r = length-map (positions r) coordinate
 
 slice_get_at : {A : Type 0} (xs : List A) (i : ℕ) (d : A) → i < length xs → slice_get xs i ≡ Some (get_or xs i d)
 slice_get_at [] i d h = absurd (omega arith)
@@ -106,9 +105,6 @@ last_is : (r : Ring) → slice_get (coordinates r) (length (positions r) - 1) �
 last_is r =
     ap (λ n. slice_get (coordinates r) (n - 1)) (sym (length-coordinates r)) ∙ slice_get_at (coordinates r) (length (coordinates r) - 1) origin (omega arith)
 
-some_equal : {A : Type 0} (x y : A) → Some x ≡ Some y → x ≡ y
-some_equal x y e = cc
-
 is_closed-true : (r : Ring) → IsRingClosed r → is_closed (coordinates r) ≡ true
 is_closed-true r h = same_coord-refl _ _ (some_equal _ _ (sym (last_is r) ∙ h))
 
@@ -121,10 +117,6 @@ is_short r h = lt-ltb (length (coordinates r)) 4 (⊎_elim (λ k. k) (λ k. absu
 is_long : (r : Ring) → IsRingLong r → ltb (length (coordinates r)) 4 ≡ false
 is_long r h = le-ltb (length (coordinates r)) 4 (omega (arith, h, length-coordinates r))
 
-not_true : (b : Bool) → (b ≡ true → ⊥) → b ≡ false
-not_true true h = absurd (h refl)
-not_true false h = refl
-
 -- the fault of a ring of this number
 abbrev pub IsFaultOfRing : ℕ → Ring → TextFault → Type 0
 IsFaultOfRing k r e = ((e ≡ RingShort k) × (IsRingLong r → ⊥)) ⊎ ((e ≡ RingOpen k) × IsRingLong r × (IsRingClosed r → ⊥))
@@ -134,7 +126,7 @@ ring_fault-fine k r h = rw (is_long r h.0, is_closed-true r h.1) refl
 
 ring_fault_of : (k : ℕ) (r : Ring) (e : TextFault) → IsFaultOfRing k r e → ring_fault k (coordinates r) ≡ Some e
 ring_fault_of k r e (inl (same, h)) = rw (is_short r h) (ap Some (sym same))
-ring_fault_of k r e (inr (same, l, h)) = let open_ring : is_closed (coordinates r) ≡ false = not_true (is_closed (coordinates r)) (λ t. h (true-is_closed r t)) in rw (is_long r l, open_ring) (ap Some (sym same))
+ring_fault_of k r e (inr (same, l, h)) = let open_ring : is_closed (coordinates r) ≡ false = false_from_ne_true (is_closed (coordinates r)) (λ t. h (true-is_closed r t)) in rw (is_long r l, open_ring) (ap Some (sym same))
 
 decide_closed : (r : Ring) (b : Bool) → is_closed (coordinates r) ≡ b → IsRingClosed r ⊎ (IsRingClosed r → ⊥)
 decide_closed r true e = inl (true-is_closed r e)

@@ -1,5 +1,7 @@
 -- The bytes that spell tokens which the parser takes are taken.
 use Rattle.std.proofs.Common.{◌≡◌, ℕ, zero, suc, ◌+◌, ◌-◌, ◌<◌, ◌≤◌, Bool, true, false, cond, ◌&&◌, ◌||◌, if◌then◌else◌, eqb, ltb, leb, IsTrue, List, [], ◌∷◌, ◌++◌, length, map, take, drop, Option, Some, None, option_and_then, option_map, ℤ, ◌⊎◌, inl, inr, ⊎_elim, sym, refl, ap, ap₂, ◌∙◌, subst, arith, append_assoc, append-nil, codes, zero-lt-suc, length-append}
+use Rattle.std.proofs.lemmas.List.{length-map}
+use Rattle.std.proofs.Math.Bool.{or-true}
 use Rattle.std.specs.Char.{to_ascii_uppercase}
 use Rattle.std.proofs.lemmas.Bool.{and_parts, or_parts, false≢true}
 use Rattle.geo_text.specs.Token.{Name, Polygon, MultiPolygon, GeometryCollection, Empty, Axes, Z, M, ZM, Dimension, Numeral, Token, Word, Dimensions, Number, Open, Close, Comma, IsWhite, IsNumeral, IsSign, IsPoint, AreDigits, IsSpelled, IsWord, letters_of, axes_letters, is_word, is_number, is_alike, signed, number_from, value, Spells}
@@ -11,10 +13,11 @@ use Rattle.geo_text.specs.declared.lexeme.Lexeme.TheVariants as lexemes
 use Rattle.geo_text.specs.declared.place.Body.TheVariants as kinds
 use Rattle.geo_text.specs.declared.place.Place.{Place}
 use Rattle.geo_text.specs.declared.place.Place.TheVariants.{Outside, Head, ElementStart, ElementEnd, BodyStart, BodyEnd, RingStart, PositionStart, SecondNumber, PositionEnd, RingEnd}
+use Rattle.geo_text.proofs.Options.{none_some, opened}
 use Rattle.geo_text.proofs.Limits.{limit, limit-signed}
 use Rattle.geo_text.proofs.Keeping.{whole_from}
 use Rattle.geo_text.proofs.Parsing.{run, seen}
-use Rattle.geo_text.proofs.Typing.{none_some, some_equal, length-map, read_bytes, stops, white_stops, white_first, word_begins, typing, numeral_is_read, num, letter_no_number, number_no_letter, is_capital, digit_is_number, opened, or_true}
+use Rattle.geo_text.proofs.Typing.{read_bytes, stops, white_stops, white_first, word_begins, typing, numeral_is_read, num, letter_no_number, number_no_letter, is_capital, digit_is_number}
 
 module _ (cap : ℕ) where
 
@@ -52,29 +55,29 @@ module _ (cap : ℕ) where
   expected_name Empty (Head kind true) c m k s e = refl
   expected_name Empty (Head kind false) c m k s e = refl
   expected_name Empty BodyStart c m k s e = refl
-  expected_name name (Head kinds.Polygon d) c m k s e = absurd ((none_some cap) s e)
-  expected_name name (Head kinds.MultiPolygon d) c m k s e = absurd ((none_some cap) s e)
-  expected_name name (Head kinds.GeometryCollection d) c m k s e = absurd ((none_some cap) s e)
-  expected_name name place c m k s e = absurd ((none_some cap) s e)
+  expected_name name (Head kinds.Polygon d) c m k s e = absurd (none_some s e)
+  expected_name name (Head kinds.MultiPolygon d) c m k s e = absurd (none_some s e)
+  expected_name name (Head kinds.GeometryCollection d) c m k s e = absurd (none_some s e)
+  expected_name name place c m k s e = absurd (none_some s e)
 
   expected_axes : (axes : Axes) (a : ℕ) (place : Place) (c m : Bool) (k : Kept) (s : State) → step_at place (AxesAt a) c m k ≡ Some s → keyword_at place (axes_letter axes) ≡ Some (axes_keyword axes)
   expected_axes Z a (Head kind false) c m k s e = refl
   expected_axes M a (Head kind false) c m k s e = refl
   expected_axes ZM a (Head kind false) c m k s e = refl
-  expected_axes axes a place c m k s e = absurd ((none_some cap) s e)
+  expected_axes axes a place c m k s e = absurd (none_some s e)
 
   when_taken : (b : Bool) (x y : State) → cond b (Some x) None ≡ Some y → b ≡ true
   when_taken true x y e = refl
-  when_taken false x y e = absurd ((none_some cap) y e)
+  when_taken false x y e = absurd (none_some y e)
 
   expected_number : (a : ℕ) (v : ℤ) (w : Bool) (place : Place) (c m : Bool) (k : Kept) (s : State) → step_at place (Numbered a v w) c m k ≡ Some s → takes_number place ≡ true
   expected_number a v w PositionStart c m k s e = refl
   expected_number a v w (SecondNumber x) c m k s e = refl
   expected_number a v w (PositionEnd n) c m k s e = when_taken (ltb n 2) _ s e
-  expected_number a v w (Head kinds.Polygon d) c m k s e = absurd ((none_some cap) s e)
-  expected_number a v w (Head kinds.MultiPolygon d) c m k s e = absurd ((none_some cap) s e)
-  expected_number a v w (Head kinds.GeometryCollection d) c m k s e = absurd ((none_some cap) s e)
-  expected_number a v w place c m k s e = absurd ((none_some cap) s e)
+  expected_number a v w (Head kinds.Polygon d) c m k s e = absurd (none_some s e)
+  expected_number a v w (Head kinds.MultiPolygon d) c m k s e = absurd (none_some s e)
+  expected_number a v w (Head kinds.GeometryCollection d) c m k s e = absurd (none_some s e)
+  expected_number a v w place c m k s e = absurd (none_some s e)
 
   -- ---- each token
 
@@ -99,7 +102,7 @@ module _ (cap : ℕ) where
   leaves_word k letter others token a s last (b ∷ typed) w capital prefix complete expected e h =
       let upper : to_ascii_uppercase b ≡ letter = cc in
       let more : map to_ascii_uppercase typed ≡ others = cc in
-      let size : length others ≡ length typed = ap length (sym more) ∙ (length-map cap) to_ascii_uppercase typed in
+      let size : length others ≡ length typed = ap length (sym more) ∙ length-map typed to_ascii_uppercase in
       record {
         lexeme = lexemes.Word a k (1 + length typed);
         state = s;
@@ -203,7 +206,7 @@ module _ (cap : ℕ) where
   word_alike previous token like p l w = rw (p, l, w) refl
 
   number_alike : (previous : Option Token) (token like : Token) → previous ≡ Some like → is_number like ≡ true → is_number token ≡ true → is_alike previous token ≡ true
-  number_alike previous token like p l w = rw p (rw (l, w) ((or_true cap) (is_word like && is_word token)))
+  number_alike previous token like p l w = rw p (rw (l, w) (or-true (is_word like && is_word token)))
 
   -- a token of another kind than the one before it does not go on with that one's lexeme
   keeps_apart : (l : Lexeme) (previous : Option Token) (token : Token) (b : ℕ) → Pending l previous → (is_alike previous token ≡ true → ⊥) → FirstByte token b → goes_on l b ≡ false
@@ -244,7 +247,7 @@ module _ (cap : ℕ) where
   pub read_bytes-spelled : (tokens : List Token) (a : ℕ) (l : Lexeme) (s last f : State) (previous : Option Token) (bytes : List ℕ) → Pending l previous → ending l s ≡ Some last → Spells a previous tokens bytes → (run cap) last tokens ≡ Some f → (read_bytes cap) a l s bytes ≡ Some f
   read_bytes-spelled [] a l s last f previous bytes p e h r = ends_white bytes a l s last e h ∙ r
   read_bytes-spelled (token ∷ tokens) a l s last f previous bytes p e (white, spelling, rest, each_white, is_apart, spelled, same, more) r =
-      let stepped = (opened cap) (step last ((seen cap) token)) (λ after. (run cap) after tokens) f r in
+      let stepped = opened (step last ((seen cap) token)) (λ after. (run cap) after tokens) f r in
       let left = leaves token (a + length white) last stepped.0 spelling stepped.1 spelled in
       ap ((read_bytes cap) a l s) same
       ∙ ends_before a l s last previous token white spelling rest p e each_white is_apart (begins token (a + length white) spelling spelled)

@@ -1,5 +1,7 @@
 -- What the bytes of one lexeme do.
 use Rattle.std.proofs.Common.{◌≡◌, ℕ, zero, suc, ◌+◌, ◌-◌, ◌*◌, ◌<◌, ◌≤◌, Bool, true, false, cond, not, ◌&&◌, ◌||◌, eqb, ltb, leb, IsTrue, List, [], ◌∷◌, ◌++◌, length, map, take, drop, get_or, Option, Some, None, option_and_then, option_map, ℤ, pos, ◌⊎◌, inl, inr, ⊎_elim, sym, refl, ap, ap₂, ◌∙◌, subst, arith, append_assoc, append-nil, codes, zero-lt-suc, eqb-true, eq-eqb, lt-ltb, ltb-true, drop-cons, add-one, length-drop, length-take, zero-add, min, length-append}
+use Rattle.std.proofs.lemmas.List.{length-map}
+use Rattle.std.proofs.Math.Bool.{or-true, or-false}
 use Rattle.std.specs.Char.{to_ascii_uppercase}
 use Rattle.std.specs.List.{AllByRecursion, list_all}
 use Rattle.std.proofs.lemmas.Bool.{and_parts, false≢true}
@@ -11,20 +13,11 @@ use Rattle.geo_text.specs.declared.keyword.Keyword.TheVariants as keywords
 use Rattle.geo_text.specs.declared.lexeme.Lexeme.{Lexeme}
 use Rattle.geo_text.specs.declared.lexeme.Lexeme.TheVariants as lexemes
 use Rattle.geo_text.specs.declared.number.Number.{Number}
+use Rattle.geo_text.proofs.Options.{none_some, opened}
 use Rattle.geo_text.proofs.Limits.{capped-small, capped-from, capped-capped}
 use Rattle.geo_text.proofs.Keeping.{whole_from}
 
 module _ (cap : ℕ) where
-
-  pub none_some : {A : Type 0} (x : A) → None ≡ Some x → ⊥
-  none_some x e = cc
-
-  pub some_equal : {A : Type 0} (x y : A) → Some x ≡ Some y → x ≡ y
-  some_equal x y e = cc
-
-  pub length-map : {A B : Type 0} (g : A → B) (xs : List A) → length (map g xs) ≡ length xs
-  length-map g [] = refl
-  length-map g (x ∷ xs) = ap suc (length-map g xs)
 
   -- the state at the end of the bytes
   abbrev pub read_bytes : ℕ → Lexeme → State → List ℕ → Option State
@@ -112,7 +105,7 @@ module _ (cap : ℕ) where
       → read_bytes a (lexemes.Word at k n) s (typed ++ rest) ≡ read_bytes (a + length typed) (lexemes.Word at k (n + length typed)) s rest
   typing [] rest k n at a s e = ap₂ (λ i j. read_bytes i (lexemes.Word at k j) s rest) (omega arith) (omega arith)
   typing (b ∷ typed) rest k n at a s e =
-      let size : length (map to_ascii_uppercase typed) ≡ length typed = length-map to_ascii_uppercase typed in
+      let size : length (map to_ascii_uppercase typed) ≡ length typed = length-map typed to_ascii_uppercase in
       let whole : to_ascii_uppercase b ∷ map to_ascii_uppercase typed ≡ take (suc (length (map to_ascii_uppercase typed))) (drop n (letters k)) = e ∙ ap (λ m. take (suc m) (drop n (letters k))) (sym size) in
       let next = at_entry (letters k) n (to_ascii_uppercase b) (map to_ascii_uppercase typed) whole in
       let typed_one = types k b n next.0 next.1 in
@@ -143,10 +136,6 @@ module _ (cap : ℕ) where
           (λ p. let dot : b ≡ 46 = eqb-true b 46 (and_parts (eqb b 46) (not n.point) p).0 in ap is_number_byte dot)
           (one_of_two (is_digit b) (eqb b 46 && not n.point) ((with_digit cap) n b) (record n { point = true }) m e)
 
-  pub opened : {A B : Type 0} (o : Option A) (f : A → Option B) (y : B) → option_and_then f o ≡ Some y → (x : A) × (o ≡ Some x) × (f x ≡ Some y)
-  opened None f y e = absurd (none_some y e)
-  opened (Some x) f y e = (x, refl, e)
-
   pub read_number : (bytes rest : List ℕ) (n m : Number) (a : ℕ) (s : State) → through n bytes ≡ Some m → read_bytes a (lexemes.Number n) s (bytes ++ rest) ≡ read_bytes (a + length bytes) (lexemes.Number m) s rest
   read_number [] rest n m a s e = let same : n ≡ m = cc in ap₂ (λ i j. read_bytes i (lexemes.Number j) s rest) (omega arith) same
   read_number (b ∷ bytes) rest n m a s e =
@@ -171,27 +160,19 @@ module _ (cap : ℕ) where
   through-append n [] ys = refl
   through-append n (x ∷ xs) ys = through_more ((number_on cap) n x) xs ys (λ m. through-append m xs ys)
 
-  pub or_false : (b : Bool) → (b || false) ≡ b
-  or_false true = refl
-  or_false false = refl
-
-  pub or_true : (b : Bool) → (b || true) ≡ true
-  or_true true = refl
-  or_true false = refl
-
   -- digits before the point
   whole_on : (ds : List ℕ) (a : ℕ) (negative some_digit : Bool) (size : ℕ) → AreDigits ds → size ≤ cap → through (num a negative some_digit false true size) ds ≡ Some (num a negative (some_digit || has_digit ds) false true ((capped cap) (number_from size ds)))
-  whole_on [] a negative some_digit size h k = ap₂ (λ (d : Bool) (z : ℕ). Some (num a negative d false true z)) (sym (or_false some_digit)) (sym ((capped-small cap) size k))
+  whole_on [] a negative some_digit size h k = ap₂ (λ (d : Bool) (z : ℕ). Some (num a negative d false true z)) (sym (or-false some_digit)) (sym ((capped-small cap) size k))
   whole_on (d ∷ ds) a negative some_digit size h k =
       let next = (capped cap) (10 * size + (d - 48)) in
       rw h.0 (whole_on ds a negative true next h.1 (omega arith)
-          ∙ ap₂ (λ (x : Bool) (z : ℕ). Some (num a negative x false true z)) (sym (or_true some_digit)) ((capped-from cap) ds next (10 * size + (d - 48)) ((capped-capped cap) (10 * size + (d - 48)))))
+          ∙ ap₂ (λ (x : Bool) (z : ℕ). Some (num a negative x false true z)) (sym (or-true some_digit)) ((capped-from cap) ds next (10 * size + (d - 48)) ((capped-capped cap) (10 * size + (d - 48)))))
 
   -- digits behind the point
   fraction_on : (ds : List ℕ) (a : ℕ) (negative some_digit whole : Bool) (size : ℕ) → AreDigits ds → through (num a negative some_digit true whole size) ds ≡ Some (num a negative (some_digit || has_digit ds) true ((whole_from cap) whole ds) size)
-  fraction_on [] a negative some_digit whole size h = ap (λ (d : Bool). Some (num a negative d true whole size)) (sym (or_false some_digit))
+  fraction_on [] a negative some_digit whole size h = ap (λ (d : Bool). Some (num a negative d true whole size)) (sym (or-false some_digit))
   fraction_on (d ∷ ds) a negative some_digit whole size h =
-      rw h.0 (fraction_on ds a negative true (whole && eqb d 48) size h.1 ∙ ap (λ (x : Bool). Some (num a negative x true ((whole_from cap) (whole && eqb d 48) ds) size)) (sym (or_true some_digit)))
+      rw h.0 (fraction_on ds a negative true (whole && eqb d 48) size h.1 ∙ ap (λ (x : Bool). Some (num a negative x true ((whole_from cap) (whole && eqb d 48) ds) size)) (sym (or-true some_digit)))
 
   has_digit-true : (ds : List ℕ) → 0 < length ds → has_digit ds ≡ true
   has_digit-true [] h = absurd (omega arith)

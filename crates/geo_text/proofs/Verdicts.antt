@@ -19,9 +19,10 @@ use Rattle.geo_text.specs.declared.lexeme.Lexeme.TheVariants.{Blank}
 use Rattle.geo_text.specs.declared.number.TheConstants.{CAP}
 use Rattle.geo_text.specs.declared.place.Place.{Place}
 use Rattle.geo_text.specs.declared.place.Place.TheVariants.{Outside}
+use Rattle.geo_text.proofs.Options.{none_some, some_equal, opened}
 use Rattle.geo_text.proofs.Keeping.{read_value, first_extra, first_number_fault, first_ring_fault}
 use Rattle.geo_text.proofs.Parsing.{end_of}
-use Rattle.geo_text.proofs.Typing.{none_some, some_equal, read_bytes, opened}
+use Rattle.geo_text.proofs.Typing.{read_bytes}
 use Rattle.geo_text.proofs.Alive.{alive, alive-append, read_bytes-file, file-read_bytes, BeginsFile-alive, alive-BeginsFile}
 use Rattle.geo_text.proofs.Numbers.{read_value-fine, IsFaultOfNumber, NumberFault, scan_numbers, first_number_fault-fine, first_number_fault-behind}
 use Rattle.geo_text.proofs.Rings.{alike_members, IsReadTrue, rings_read_true, IsFaultOfRing, RingFault, scan_rings, first_ring_fault-fine, first_ring_fault-behind}
@@ -36,7 +37,7 @@ answer_to bytes = answer CAP 0 Blank start bytes
 answer-read : (bytes : List ℕ) (a : ℕ) (l : Lexeme) (s f : State) → read_bytes CAP a l s bytes ≡ Some f → answer CAP a l s bytes ≡ answer_at (a + length bytes) f.place f.kept
 answer-read [] a l s f e = ap (answer_by a (λ (last : State). answer_at a last.place last.kept)) e ∙ ap (λ i. answer_at i f.place f.kept) (omega arith)
 answer-read (b ∷ bytes) a l s f e =
-    let next = opened 0 (read_byte CAP a l s b) (λ (p : Lexeme × State). read_bytes CAP (a + 1) p.0 p.1 bytes) f e in
+    let next = opened (read_byte CAP a l s b) (λ (p : Lexeme × State). read_bytes CAP (a + 1) p.0 p.1 bytes) f e in
     ap (answer_by a (λ (p : Lexeme × State). answer CAP (a + 1) p.0 p.1 bytes)) next.1
     ∙ answer-read bytes (a + 1) next.0.0 next.0.1 f next.2
     ∙ ap (λ i. answer_at i f.place f.kept) (omega arith)
@@ -77,7 +78,7 @@ at_end a l s None e = inr (record {
   state = (l, s);
   taken = refl;
   refused = λ h. absurd (omega arith);
-  no_end = λ f r out. none_some 0 f (sym e ∙ r);
+  no_end = λ f r out. none_some f (sym e ∙ r);
   answered = ap (answer_by a (λ (last : State). answer_at a last.place last.kept)) e ∙ ap (λ i. Err (Syntax i)) (sym (add-zero a));
 })
 at_end a l s (Some f) e =
@@ -88,7 +89,7 @@ at_end a l s (Some f) e =
           state = (l, s);
           taken = refl;
           refused = λ h. absurd (omega arith);
-          no_end = λ g r out. inside.0 (ap (λ (t : State). t.place) (some_equal 0 f g (sym e ∙ r)) ∙ out);
+          no_end = λ g r out. inside.0 (ap (λ (t : State). t.place) (some_equal f g (sym e ∙ r)) ∙ out);
           answered = ap (answer_by a (λ (last : State). answer_at a last.place last.kept)) e ∙ inside.1 a f.kept ∙ ap (λ i. Err (Syntax i)) (sym (add-zero a));
         }))
         (is_outside f.place)
@@ -101,7 +102,7 @@ on_byte a l s b bytes more None e = inr (record {
   state = (l, s);
   taken = refl;
   refused = λ h. ap (option_and_then (λ (p : Lexeme × State). alive CAP (a + 1) p.0 p.1 [])) e;
-  no_end = λ f r out. none_some 0 f (sym (ap (option_and_then (λ (p : Lexeme × State). read_bytes CAP (a + 1) p.0 p.1 bytes)) e) ∙ r);
+  no_end = λ f r out. none_some f (sym (ap (option_and_then (λ (p : Lexeme × State). read_bytes CAP (a + 1) p.0 p.1 bytes)) e) ∙ r);
   answered = ap (answer_by a (λ (p : Lexeme × State). answer CAP (a + 1) p.0 p.1 bytes)) e ∙ ap (λ i. Err (Syntax i)) (sym (add-zero a));
 })
 on_byte a l s b bytes more (Some p) e =
@@ -136,7 +137,7 @@ syntax_fault bytes w = record {
   begins = BeginsFile-alive CAP (take w.count bytes) w.state w.taken;
   longest = λ k more within begins.
       let life = alive-BeginsFile CAP (take k bytes) begins in
-      none_some 0 life.0 (sym (not_taken bytes (suc w.count) k (w.refused (omega arith)) (omega arith)) ∙ life.1);
+      none_some life.0 (sym (not_taken bytes (suc w.count) k (w.refused (omega arith)) (omega arith)) ∙ life.1);
 }
 
 stops_answer : (bytes : List ℕ) (w : Stops 0 Blank start bytes) → answer_to bytes ≡ Err (Syntax w.count)

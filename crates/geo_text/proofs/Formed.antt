@@ -1,12 +1,12 @@
 -- What is read of a text without a fault is formed.
-use Rattle.std.proofs.Common.{◌≡◌, refl, ℕ, suc, ◌+◌, ◌-◌, ◌^◌, ◌<◌, ◌≤◌, List, [], ◌∷◌, ◌++◌, length, map, take, filter, flat_map, Option, Some, None, sym, ap, ◌∙◌, Result, Ok, Err, IfOk, subst, arith, All, length-append, length-take}
+use Rattle.std.proofs.Common.{ℕ, ◌+◌, ◌-◌, ◌≤◌, List, [], ◌∷◌, ◌++◌, length, map, filter, flat_map, Option, Some, None, sym, ap, Result, Ok, Err, IfOk, subst, arith, length-append, length-take}
 use Rattle.std.proofs.lemmas.List.{length-map}
 use Rattle.std.specs.List.{AllByRecursion}
 use Rattle.std.proofs.lemmas.List.Elements.{All-from_recursion, recursion_from_All, All-take}
-use Rattle.cov_types.specs.Coverage.{IsFormed, AllInRange, IsRingFormed, IsPolyFormed, IsMemberFormed, IsRingInRange, IsPolyInRange, IsMemberInRange}
+use Rattle.cov_types.specs.Coverage.{IsFormed, IsRingFormed, IsPolyFormed, IsMemberFormed, IsRingInRange, IsPolyInRange, IsMemberInRange}
 use Rattle.cov_types.specs.Range.{IsInRange}
 use Rattle.cov_types.specs.declared.coord.Coord.{Coord}
-use Rattle.geo_text.specs.Token.{Numeral, Token, Close, Comma, Spells}
+use Rattle.geo_text.specs.Token.{Token, Close, Comma, Spells}
 use Rattle.geo_text.specs.Grammar.{Position, Two, Three, Four, Ring, Element, OnePolygon, ManyPolygons, Geometry, Single, Collection, body, dimension, element, geometry, file}
 use Rattle.geo_text.specs.Reading.{coordinate, positions, points, elements, bodies, has_ring, member, coverage}
 use Rattle.geo_text.specs.Fault.{position_numbers, ring_numbers, rings_of, rings, numbers, IsNumberFine, IsRingFine}

@@ -1,10 +1,10 @@
 -- What the machine keeps of the parts of a file.
-use Rattle.std.proofs.Common.{◌≡◌, ℕ, ◌+◌, length-append, Bool, true, ◌&&◌, ◌==◌, List, [], ◌∷◌, ◌++◌, length, map, take, fold, flat_map, filter, Option, Some, None, ℤ, sym, refl, ap, ap₂, ◌∙◌, append_assoc, append-nil, add_assoc, arith}
+use Rattle.std.proofs.Common.{◌≡◌, ℕ, ◌+◌, length-append, Bool, true, ◌&&◌, ◌==◌, List, [], ◌∷◌, ◌++◌, length, map, fold, flat_map, Option, Some, None, ℤ, sym, refl, ap, ◌∙◌, append-nil, arith}
 use Rattle.std.proofs.lemmas.Grind.{flat_map-append}
 use Rattle.std.specs.Option.{option_or}
 use Rattle.cov_types.specs.declared.coord.Coord.{Coord}
 use Rattle.geo_text.specs.Token.{Numeral, value}
-use Rattle.geo_text.specs.Grammar.{Position, Two, Three, Four, Ring}
+use Rattle.geo_text.specs.Grammar.{Position, Ring}
 use Rattle.geo_text.specs.Reading.{x_of, y_of, positions}
 use Rattle.geo_text.specs.Fault.{ring_numbers}
 use Rattle.geo_text.specs.Machine.{with_extra, with_number, number_fault, with_ring, ring_fault}
@@ -19,10 +19,9 @@ abbrev pub coordinate_by : (Numeral → ℤ) → Position → Coord
 coordinate_by v p = record { x = v (x_of p); y = v (y_of p) }
 
 module _ (cap : ℕ) where
-
   -- the value that is read of a number, and whether it is whole
   abbrev pub read_value : Numeral → ℤ
-  read_value n = (limit cap) (value n)
+  read_value n = limit cap (value n)
 
   abbrev pub whole_from : Bool → List ℕ → Bool
   whole_from whole digits = fold (λ w b. w && (b == 48)) whole digits

@@ -1,16 +1,15 @@
 -- The fault of a number, and the first of a list.
-use Rattle.std.proofs.Common.{◌≡◌, ℕ, zero, suc, ◌≤◌, min, Bool, true, false, cond, ◌&&◌, eqb, leb, List, [], ◌∷◌, ◌++◌, length, All, Option, Some, None, ℤ, pos, negsuc, neg_ℤ, ◌≤ℤ◌, ◌⊎◌, inl, inr, ⊎_elim, refl, ap, ◌∙◌, sym, subst, arith, eqb-true, eq-eqb}
+use Rattle.std.proofs.Common.{◌≡◌, ℕ, zero, suc, ◌≤◌, Bool, true, false, ◌&&◌, eqb, leb, List, [], ◌∷◌, ◌++◌, All, Some, None, ℤ, pos, negsuc, neg_ℤ, ◌≤ℤ◌, ◌⊎◌, inl, inr, ⊎_elim, refl, ap, ◌∙◌, sym, arith, eqb-true, eq-eqb}
 use Rattle.std.proofs.lemmas.Bool.{false_from_ne_true}
 use Rattle.std.specs.List.{AllByRecursion}
-use Rattle.std.specs.Option.{option_or}
-use Rattle.std.proofs.lemmas.Bool.{and_parts, and_from, false≢true, true≢false}
+use Rattle.std.proofs.lemmas.Bool.{and_parts, false≢true}
 use Rattle.std.proofs.lemmas.Bool.Decides.{nat_tests}
 use Rattle.std.proofs.lemmas.Int.{ints}
 use Rattle.std.proofs.lemmas.List.Elements.{All-from_recursion, recursion_from_All, All-nil, All-cons, All-head, All-tail}
 use Rattle.cov_types.specs.declared.coord.TheConstants.{LIMIT}
 use Rattle.geo_text.specs.Token.{Numeral, value}
 use Rattle.geo_text.specs.Fault.{IsWhole, IsValueInRange, IsNumberFine, IsBehindFine}
-use Rattle.geo_text.specs.Machine.{is_in_range, capped, number_fault}
+use Rattle.geo_text.specs.Machine.{is_in_range, capped}
 use Rattle.geo_text.specs.declared.error.TextFault.{TextFault}
 use Rattle.geo_text.specs.declared.error.TextFault.TheVariants.{NotWhole, OutOfRange}
 use Rattle.geo_text.specs.declared.number.TheConstants.{CAP}
@@ -124,8 +123,8 @@ pub scan_numbers : (ns : List Numeral) → All IsNumberFine ns ⊎ NumberFault n
 scan_numbers [] = inl (All-nil IsNumberFine)
 scan_numbers (n ∷ ns) =
     ⊎_elim (λ h. ⊎_elim (λ all. inl (All-cons IsNumberFine n ns h all)) (λ w. inr (faulty_behind n ns h w)) (scan_numbers ns))
-        (λ h. ⊎_elim (λ f. inr (faulty_here n ns (NotWhole n.at) (inl (refl, f)))) (λ f. inr (faulty_here n ns (OutOfRange n.at) (inr (refl, f.0, f.1)))) h)
-        (decide_number n)
+    (λ h. ⊎_elim (λ f. inr (faulty_here n ns (NotWhole n.at) (inl (refl, f)))) (λ f. inr (faulty_here n ns (OutOfRange n.at) (inr (refl, f.0, f.1)))) h)
+    (decide_number n)
 
 pub first_number_fault-fine : (ns : List Numeral) → All IsNumberFine ns → first_number_fault CAP ns ≡ None
 first_number_fault-fine [] h = refl

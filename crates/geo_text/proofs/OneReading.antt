@@ -1,8 +1,8 @@
 -- A file has at most one reading: whatever the cap of sizes, the machine reads the same of it.
-use Rattle.std.proofs.Common.{◌≡◌, ℕ, ◌+◌, ◌≤◌, List, [], ◌∷◌, flat_map, Some, ℤ, sym, refl, ap, ◌∙◌, arith}
+use Rattle.std.proofs.Common.{◌≡◌, ℕ, ◌+◌, ◌≤◌, List, [], ◌∷◌, flat_map, sym, ap, ◌∙◌, arith}
 use Rattle.std.specs.List.{AllByRecursion}
 use Rattle.geo_text.specs.Token.{Numeral, value, signed, number_from}
-use Rattle.geo_text.specs.Grammar.{Geometry, IsFile}
+use Rattle.geo_text.specs.Grammar.{Geometry}
 use Rattle.geo_text.specs.Reading.{elements, coverage, Reads}
 use Rattle.geo_text.specs.Fault.{numbers}
 use Rattle.geo_text.specs.Machine.{State, Members}

@@ -1,5 +1,5 @@
 -- What is read of rings and members whose numbers are fine, and the fault of a ring.
-use Rattle.std.proofs.Common.{◌≡◌, ℕ, zero, suc, ◌+◌, ◌-◌, ◌<◌, ◌≤◌, Bool, true, false, cond, ◌&&◌, ltb, List, [], ◌∷◌, ◌++◌, length, map, take, filter, flat_map, get_or, slice_get, All, Option, Some, None, ℤ, ◌⊎◌, inl, inr, ⊎_elim, refl, ap, ap₂, ◌∙◌, sym, subst, arith, lt-ltb, ltb-true, ltb-false, le-ltb, add-zero, le_of_suc-le-suc, int_eq}
+use Rattle.std.proofs.Common.{◌≡◌, ℕ, zero, suc, ◌+◌, ◌-◌, ◌<◌, ◌≤◌, Bool, true, false, ltb, List, [], ◌∷◌, ◌++◌, length, map, take, filter, flat_map, get_or, slice_get, All, Some, None, ℤ, ◌⊎◌, inl, inr, ⊎_elim, refl, ap, ap₂, ◌∙◌, sym, subst, arith, lt-ltb, le-ltb, add-zero, le_of_suc-le-suc, int_eq}
 use Rattle.std.proofs.lemmas.Grind.{flat_map-append}
 use Rattle.std.proofs.lemmas.List.{length-map}
 use Rattle.std.proofs.lemmas.Bool.{false_from_ne_true}
@@ -10,9 +10,9 @@ use Rattle.std.proofs.lemmas.Bool.Decides.{Decides-int_eq}
 use Rattle.std.proofs.lemmas.List.Elements.{All-nil, All-cons, All-head, All-tail}
 use Rattle.cov_types.specs.declared.coord.Coord.{Coord}
 use Rattle.geo_text.specs.Token.{Numeral, value}
-use Rattle.geo_text.specs.Grammar.{Position, Two, Three, Four, Ring, Element, Geometry}
-use Rattle.geo_text.specs.Reading.{coordinate, positions, points, bodies, has_ring, member}
-use Rattle.geo_text.specs.Fault.{position_numbers, ring_numbers, rings_of, IsNumberFine, IsRingLong, IsRingClosed, IsRingFine, IsBehindFine}
+use Rattle.geo_text.specs.Grammar.{Position, Two, Three, Four, Ring, Element}
+use Rattle.geo_text.specs.Reading.{coordinate, positions, bodies, has_ring}
+use Rattle.geo_text.specs.Fault.{position_numbers, ring_numbers, rings_of, IsRingLong, IsRingClosed, IsRingFine, IsBehindFine}
 use Rattle.geo_text.specs.Machine.{same_coord, origin, is_closed, ring_fault}
 use Rattle.geo_text.specs.declared.error.TextFault.{TextFault}
 use Rattle.geo_text.specs.declared.error.TextFault.TheVariants.{RingShort, RingOpen}
@@ -34,7 +34,6 @@ members_by v es = map (λ e. polys_by v (bodies e)) es
 
 -- for numbers that two readings read alike
 module _ (v w : Numeral → ℤ) where
-
   abbrev Alike : Numeral → Type 0
   Alike n = v n ≡ w n
 
@@ -136,8 +135,8 @@ decide_closed r false e = inr (λ h. false≢true (sym e ∙ is_closed-true r h)
 decide_ring : (r : Ring) → IsRingFine r ⊎ ((IsRingLong r → ⊥) ⊎ (IsRingLong r × (IsRingClosed r → ⊥)))
 decide_ring r =
     ⊎_elim (λ k. inr (inl (λ h. let n : 4 ≤ length (positions r) = h in omega arith)))
-        (λ k. ⊎_elim (λ h. inl (k, h)) (λ h. inr (inr (k, h))) (decide_closed r (is_closed (coordinates r)) refl))
-        (cases_lt (length (positions r)) 4)
+    (λ k. ⊎_elim (λ h. inl (k, h)) (λ h. inr (inr (k, h))) (decide_closed r (is_closed (coordinates r)) refl))
+    (cases_lt (length (positions r)) 4)
 
 -- ---- the first ring that is not fine, of rings from number k on
 
@@ -172,8 +171,8 @@ pub scan_rings : (rs : List Ring) (k : ℕ) → All IsRingFine rs ⊎ RingFault 
 scan_rings [] k = inl (All-nil IsRingFine)
 scan_rings (r ∷ rs) k =
     ⊎_elim (λ h. ⊎_elim (λ all. inl (All-cons IsRingFine r rs h all)) (λ w. inr (faulty_behind k r rs h w)) (scan_rings rs (k + 1)))
-        (λ h. ⊎_elim (λ f. inr (faulty_here k r rs (RingShort k) (inl (refl, f)))) (λ f. inr (faulty_here k r rs (RingOpen k) (inr (refl, f.0, f.1)))) h)
-        (decide_ring r)
+    (λ h. ⊎_elim (λ f. inr (faulty_here k r rs (RingShort k) (inl (refl, f)))) (λ f. inr (faulty_here k r rs (RingOpen k) (inr (refl, f.0, f.1)))) h)
+    (decide_ring r)
 
 pub first_ring_fault-fine : (rs : List Ring) (k : ℕ) → AllByRecursion IsReadTrue rs → All IsRingFine rs → first_ring_fault CAP k rs ≡ None
 first_ring_fault-fine [] k t h = refl

@@ -1,20 +1,19 @@
 -- What is read of a text without a fault is formed.
-use Rattle.std.proofs.Common.{◌≡◌, refl, ℕ, suc, ◌+◌, ◌-◌, ◌^◌, ◌<◌, ◌≤◌, List, [], ◌∷◌, ◌++◌, length, map, take, filter, flat_map, Option, Some, None, sym, ap, ◌∙◌, Result, Ok, Err, IfOk, subst, arith, All, length-append, length-take}
+use Rattle.std.proofs.Common.{ℕ, ◌+◌, ◌-◌, ◌≤◌, List, [], ◌∷◌, ◌++◌, length, map, filter, flat_map, Option, Some, None, sym, ap, Result, Ok, Err, IfOk, subst, arith, length-append, length-take}
+use Rattle.std.proofs.lemmas.List.{length-map}
 use Rattle.std.specs.List.{AllByRecursion}
 use Rattle.std.proofs.lemmas.List.Elements.{All-from_recursion, recursion_from_All, All-take}
-use Rattle.cov_types.specs.Coverage.{IsFormed, AllInRange, IsRingFormed, IsPolyFormed, IsMemberFormed, IsRingInRange, IsPolyInRange, IsMemberInRange}
+use Rattle.cov_types.specs.Coverage.{IsFormed, IsRingFormed, IsPolyFormed, IsMemberFormed, IsRingInRange, IsPolyInRange, IsMemberInRange}
 use Rattle.cov_types.specs.Range.{IsInRange}
 use Rattle.cov_types.specs.declared.coord.Coord.{Coord}
-use Rattle.geo_text.specs.Token.{Numeral, Token, Close, Comma, Spells}
+use Rattle.geo_text.specs.Token.{Token, Close, Comma, Spells}
 use Rattle.geo_text.specs.Grammar.{Position, Two, Three, Four, Ring, Element, OnePolygon, ManyPolygons, Geometry, Single, Collection, body, dimension, element, geometry, file}
 use Rattle.geo_text.specs.Reading.{coordinate, positions, points, elements, bodies, has_ring, member, coverage}
 use Rattle.geo_text.specs.Fault.{position_numbers, ring_numbers, rings_of, rings, numbers, IsNumberFine, IsRingFine}
 use Rattle.geo_text.specs.Machine.{Members, Gives}
 use Rattle.geo_text.specs.declared.error.TextError.{TextError}
-use Rattle.geo_text.proofs.Keeping.{flat_map-append}
-use Rattle.geo_text.proofs.Typing.{length-map}
+use Rattle.geo_text.proofs.Options.{split_append}
 use Rattle.geo_text.proofs.Spelled.{begins}
-use Rattle.geo_text.proofs.Rings.{split_append}
 use Rattle.geo_text.proofs.Verdicts.{IsClean, answer_to, ok_reads}
 
 -- ---- rings
@@ -38,7 +37,7 @@ ring_in_range : (r : Ring) → IsRingClean r → IsRingInRange (points r)
 ring_in_range r h = All-take IsInRange (length (positions r) - 1) (map coordinate (positions r)) (All-from_recursion IsInRange (map coordinate (positions r)) (coordinates_in_range (positions r) h.numbers))
 
 ring_formed : (r : Ring) → IsRingClean r → IsRingFormed (points r)
-ring_formed r h = omega (arith, length-take (length (positions r) - 1) (map coordinate (positions r)), length-map 0 coordinate (positions r), h.fine.0)
+ring_formed r h = omega (arith, length-take (length (positions r) - 1) (map coordinate (positions r)), length-map (positions r) coordinate, h.fine.0)
 
 rings_clean : (rs : List Ring) → AllByRecursion IsRingFine rs → AllByRecursion IsNumberFine (flat_map ring_numbers rs) → AllByRecursion IsRingClean rs
 rings_clean [] h k = tt
@@ -119,7 +118,7 @@ formed bytes gs h w =
     record {
       in_range = record {
         coords = All-from_recursion IsMemberInRange (coverage gs) (map_members IsMemberInRange member_in_range es clean);
-        count = omega (arith, length-map 0 member es, file_long gs, spelled_long (file gs) 0 None bytes w.is_numeric.is_planar.is_file);
+        count = omega (arith, length-map es member, file_long gs, spelled_long (file gs) 0 None bytes w.is_numeric.is_planar.is_file);
       };
       shapes = All-from_recursion IsMemberFormed (coverage gs) (map_members IsMemberFormed member_formed es clean);
     }

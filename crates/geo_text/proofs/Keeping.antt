@@ -1,30 +1,27 @@
 -- What the machine keeps of the parts of a file.
-use Rattle.std.proofs.Common.{◌≡◌, ℕ, ◌+◌, length-append, Bool, true, ◌&&◌, ◌==◌, List, [], ◌∷◌, ◌++◌, length, map, take, fold, flat_map, filter, Option, Some, None, ℤ, sym, refl, ap, ap₂, ◌∙◌, append_assoc, append-nil, add_assoc, arith}
+use Rattle.std.proofs.Common.{◌≡◌, ℕ, ◌+◌, length-append, Bool, true, ◌&&◌, ◌==◌, List, [], ◌∷◌, ◌++◌, length, map, fold, flat_map, Option, Some, None, ℤ, sym, refl, ap, ◌∙◌, append-nil, arith}
+use Rattle.std.proofs.lemmas.Grind.{flat_map-append}
 use Rattle.std.specs.Option.{option_or}
 use Rattle.cov_types.specs.declared.coord.Coord.{Coord}
 use Rattle.geo_text.specs.Token.{Numeral, value}
-use Rattle.geo_text.specs.Grammar.{Position, Two, Three, Four, Ring}
+use Rattle.geo_text.specs.Grammar.{Position, Ring}
 use Rattle.geo_text.specs.Reading.{x_of, y_of, positions}
 use Rattle.geo_text.specs.Fault.{ring_numbers}
 use Rattle.geo_text.specs.Machine.{with_extra, with_number, number_fault, with_ring, ring_fault}
 use Rattle.geo_text.specs.declared.error.TextFault.{TextFault}
 use Rattle.geo_text.specs.declared.error.TextFault.TheVariants.{NotPlanar}
 use Rattle.geo_text.specs.declared.faults.Faults.{Faults}
+use Rattle.geo_text.proofs.Options.{option_or-assoc, option_or-none}
 use Rattle.geo_text.proofs.Limits.{limit}
 
 -- a position by the values of its first two numbers
 abbrev pub coordinate_by : (Numeral → ℤ) → Position → Coord
 coordinate_by v p = record { x = v (x_of p); y = v (y_of p) }
 
-pub flat_map-append : {A B : Type 0} (f : A → List B) (xs ys : List A) → flat_map f (xs ++ ys) ≡ flat_map f xs ++ flat_map f ys
-flat_map-append f [] ys = refl
-flat_map-append f (x ∷ xs) ys = ap (λ zs. f x ++ zs) (flat_map-append f xs ys) ∙ sym (append_assoc (f x) (flat_map f xs) (flat_map f ys))
-
 module _ (cap : ℕ) where
-
   -- the value that is read of a number, and whether it is whole
   abbrev pub read_value : Numeral → ℤ
-  read_value n = (limit cap) (value n)
+  read_value n = limit cap (value n)
 
   abbrev pub whole_from : Bool → List ℕ → Bool
   whole_from whole digits = fold (λ w b. w && (b == 48)) whole digits
@@ -53,14 +50,6 @@ module _ (cap : ℕ) where
   abbrev pub first_ring_fault : ℕ → List Ring → Option TextFault
   first_ring_fault k [] = None
   first_ring_fault k (r ∷ rs) = option_or (ring_fault k (ring_points r)) (first_ring_fault (k + 1) rs)
-
-  pub option_or-assoc : {A : Type 0} (x y z : Option A) → option_or (option_or x y) z ≡ option_or x (option_or y z)
-  option_or-assoc None y z = refl
-  option_or-assoc (Some x) y z = refl
-
-  pub option_or-none : {A : Type 0} (x : Option A) → option_or x None ≡ x
-  option_or-none None = refl
-  option_or-none (Some x) = refl
 
   first_extra-append : (xs ys : List ℕ) → first_extra (xs ++ ys) ≡ option_or (first_extra xs) (first_extra ys)
   first_extra-append [] ys = refl

@@ -1,3 +1,4 @@
+pub mod Options
 pub mod Limits
 pub mod Keeping
 pub mod Parsing

@@ -1,15 +1,15 @@
 -- The fault of a number, and the first of a list.
-use Rattle.std.proofs.Common.{◌≡◌, ℕ, zero, suc, ◌≤◌, min, Bool, true, false, cond, ◌&&◌, eqb, leb, List, [], ◌∷◌, ◌++◌, length, All, Option, Some, None, ℤ, pos, negsuc, neg_ℤ, ◌≤ℤ◌, ◌⊎◌, inl, inr, ⊎_elim, refl, ap, ◌∙◌, sym, subst, arith, eqb-true, eq-eqb}
+use Rattle.std.proofs.Common.{◌≡◌, ℕ, zero, suc, ◌≤◌, Bool, true, false, ◌&&◌, eqb, leb, List, [], ◌∷◌, ◌++◌, All, Some, None, ℤ, pos, negsuc, neg_ℤ, ◌≤ℤ◌, ◌⊎◌, inl, inr, ⊎_elim, refl, ap, ◌∙◌, sym, arith, eqb-true, eq-eqb}
+use Rattle.std.proofs.lemmas.Bool.{false_from_ne_true}
 use Rattle.std.specs.List.{AllByRecursion}
-use Rattle.std.specs.Option.{option_or}
-use Rattle.std.proofs.lemmas.Bool.{and_parts, and_from, false≢true, true≢false}
+use Rattle.std.proofs.lemmas.Bool.{and_parts, false≢true}
 use Rattle.std.proofs.lemmas.Bool.Decides.{nat_tests}
 use Rattle.std.proofs.lemmas.Int.{ints}
 use Rattle.std.proofs.lemmas.List.Elements.{All-from_recursion, recursion_from_All, All-nil, All-cons, All-head, All-tail}
 use Rattle.cov_types.specs.declared.coord.TheConstants.{LIMIT}
 use Rattle.geo_text.specs.Token.{Numeral, value}
 use Rattle.geo_text.specs.Fault.{IsWhole, IsValueInRange, IsNumberFine, IsBehindFine}
-use Rattle.geo_text.specs.Machine.{is_in_range, capped, number_fault}
+use Rattle.geo_text.specs.Machine.{is_in_range, capped}
 use Rattle.geo_text.specs.declared.error.TextFault.{TextFault}
 use Rattle.geo_text.specs.declared.error.TextFault.TheVariants.{NotWhole, OutOfRange}
 use Rattle.geo_text.specs.declared.number.TheConstants.{CAP}
@@ -74,19 +74,15 @@ true-is_whole n e = All-from_recursion (λ d. d ≡ 48) n.fraction (tested_whole
 
 -- ---- one number
 
-not_true : (b : Bool) → (b ≡ true → ⊥) → b ≡ false
-not_true true h = absurd (h refl)
-not_true false h = refl
-
 pub fault-fine : (n : Numeral) → IsNumberFine n → fault_of_number CAP n ≡ None
 fault-fine n h = rw (is_whole-true n h.0, in_range_test n h.1) refl
 
 pub fault-fraction : (n : Numeral) → (IsWhole n → ⊥) → fault_of_number CAP n ≡ Some (NotWhole n.at)
-fault-fraction n h = let e : is_whole CAP n ≡ false = not_true (is_whole CAP n) (λ w. h (true-is_whole n w)) in rw e refl
+fault-fraction n h = let e : is_whole CAP n ≡ false = false_from_ne_true (is_whole CAP n) (λ w. h (true-is_whole n w)) in rw e refl
 
 pub fault-far : (n : Numeral) → IsWhole n → (IsValueInRange n → ⊥) → fault_of_number CAP n ≡ Some (OutOfRange n.at)
 fault-far n w h =
-    let e : is_in_range (read_value CAP n) ≡ false = not_true (is_in_range (read_value CAP n)) (λ t. h (tested_in_range n t)) in
+    let e : is_in_range (read_value CAP n) ≡ false = false_from_ne_true (is_in_range (read_value CAP n)) (λ t. h (tested_in_range n t)) in
     rw (is_whole-true n w, e) refl
 
 -- a number is fine, or has a fraction, or is whole and out of range
@@ -127,8 +123,8 @@ pub scan_numbers : (ns : List Numeral) → All IsNumberFine ns ⊎ NumberFault n
 scan_numbers [] = inl (All-nil IsNumberFine)
 scan_numbers (n ∷ ns) =
     ⊎_elim (λ h. ⊎_elim (λ all. inl (All-cons IsNumberFine n ns h all)) (λ w. inr (faulty_behind n ns h w)) (scan_numbers ns))
-        (λ h. ⊎_elim (λ f. inr (faulty_here n ns (NotWhole n.at) (inl (refl, f)))) (λ f. inr (faulty_here n ns (OutOfRange n.at) (inr (refl, f.0, f.1)))) h)
-        (decide_number n)
+    (λ h. ⊎_elim (λ f. inr (faulty_here n ns (NotWhole n.at) (inl (refl, f)))) (λ f. inr (faulty_here n ns (OutOfRange n.at) (inr (refl, f.0, f.1)))) h)
+    (decide_number n)
 
 pub first_number_fault-fine : (ns : List Numeral) → All IsNumberFine ns → first_number_fault CAP ns ≡ None
 first_number_fault-fine [] h = refl

@@ -1,17 +1,16 @@
 -- What the machine takes, the grammar has: what is left to come at each place, up to the end of the file.
-use Rattle.std.proofs.Common.{◌≡◌, ℕ, suc, zero, ◌+◌, ◌<◌, ◌≤◌, Bool, true, false, cond, List, [], ◌∷◌, ◌++◌, length, map, flat_map, arith, zero-lt-suc, ltb, ltb-true, Option, Some, None, option_and_then, ℤ, sym, refl, ap, ◌∙◌, subst, append_assoc, append-nil}
+use Rattle.std.proofs.Common.{◌≡◌, ℕ, suc, ◌+◌, ◌<◌, ◌≤◌, Bool, true, false, cond, List, [], ◌∷◌, ◌++◌, length, map, flat_map, arith, zero-lt-suc, ltb, ltb-true, Option, Some, None, option_and_then, sym, refl, ap, ◌∙◌, subst, append_assoc}
 use Rattle.std.proofs.lemmas.Bool.{false≢true}
 use Rattle.geo_text.specs.Token.{Polygon, MultiPolygon, GeometryCollection, Empty, Dimension, Numeral, Token, Word, Dimensions, Number, Open, Close, Comma}
-use Rattle.geo_text.specs.Grammar.{Position, Two, Three, Four, Ring, Element, OnePolygon, ManyPolygons, Geometry, Single, Collection, bracketed, body, dimension, position, ring, polygon_body, multi_body, element, geometry, file}
-use Rattle.geo_text.specs.Machine.{Kept, State, at, start, step, body_end, element_end, member_kept}
-use Rattle.geo_text.specs.declared.place.Body.{Body}
+use Rattle.geo_text.specs.Grammar.{Position, Two, Three, Four, Ring, Element, OnePolygon, ManyPolygons, Geometry, Single, Collection, bracketed, body, dimension, position, ring, polygon_body, multi_body, element, file}
+use Rattle.geo_text.specs.Machine.{Kept, State, at, start, body_end, element_end, member_kept}
 use Rattle.geo_text.specs.declared.place.Body.TheVariants as kinds
 use Rattle.geo_text.specs.declared.place.Place.{Place}
 use Rattle.geo_text.specs.declared.place.Place.TheVariants.{Outside, Head, ElementStart, ElementEnd, BodyStart, BodyEnd, RingStart, PositionStart, SecondNumber, PositionEnd, RingEnd}
-use Rattle.geo_text.proofs.Parsing.{run, seen}
+use Rattle.geo_text.proofs.Options.{none_some}
+use Rattle.geo_text.proofs.Parsing.{run}
 
 module _ (cap : ℕ) where
-
   -- between geometries
   abbrev pub FileRest : List Token → Type 0
   FileRest ts = (gs : List Geometry) × (ts ≡ file gs)
@@ -89,9 +88,6 @@ module _ (cap : ℕ) where
 
   -- ---- each token in front
 
-  none_some : {A : Type 0} (x : A) → None ≡ Some x → ⊥
-  none_some x e = cc
-
   position_of : Numeral → Numeral → List Numeral → Position
   position_of x y [] = Two x y
   position_of x y (z ∷ []) = Three x y z
@@ -147,13 +143,13 @@ module _ (cap : ℕ) where
   -- ---- each step
 
   abbrev Sound : List Token → Type 0
-  Sound ts = (place : Place) (c m : Bool) (k : Kept) (f : State) → (run cap) (at place c m k) ts ≡ Some f → f.place ≡ Outside → Rest place c m ts
+  Sound ts = (place : Place) (c m : Bool) (k : Kept) (f : State) → run cap (at place c m k) ts ≡ Some f → f.place ≡ Outside → Rest place c m ts
 
-  behind_element : (ts : List Token) → Sound ts → (c : Bool) (k : Kept) (f : State) → (run cap) (element_end c k) ts ≡ Some f → f.place ≡ Outside → ElementEndRest c ts
+  behind_element : (ts : List Token) → Sound ts → (c : Bool) (k : Kept) (f : State) → run cap (element_end c k) ts ≡ Some f → f.place ≡ Outside → ElementEndRest c ts
   behind_element ts sound true k f e h = sound ElementEnd true false (member_kept k) f e h refl refl
   behind_element ts sound false k f e h = sound Outside false false (member_kept k) f e h refl refl
 
-  behind_body : (ts : List Token) → Sound ts → (c m : Bool) (k : Kept) (f : State) → (run cap) (body_end c m k) ts ≡ Some f → f.place ≡ Outside → BodyEndRest c m ts
+  behind_body : (ts : List Token) → Sound ts → (c m : Bool) (k : Kept) (f : State) → run cap (body_end c m k) ts ≡ Some f → f.place ≡ Outside → BodyEndRest c m ts
   behind_body ts sound c true k f e h = sound BodyEnd c true k f e h refl
   behind_body ts sound c false k f e h = behind_element ts sound c k f e h
 
@@ -172,9 +168,11 @@ module _ (cap : ℕ) where
       (ManyPolygons d polygons, rest, ap (λ us. Word MultiPolygon ∷ us) (same ∙ sym (append_assoc (dimension d) (multi_body polygons) rest)), behind)
 
   begins_collection : (ts : List Token) → HeadRest false (body element) FileRest ts → FileRest (Word GeometryCollection ∷ ts)
-  begins_collection ts (d, es, rest, fresh, same, (gs, same_rest)) =
-      (Collection d es ∷ gs, ap (λ us. Word GeometryCollection ∷ us) (same ∙ ap (λ us. dimension d ++ (body element es ++ us)) same_rest
-          ∙ sym (ap (λ us. us) (simp append_assoc))))
+  begins_collection ts (d, es, rest, fresh, same, (gs, same_rest)) = (
+    Collection d es ∷ gs,
+    ap (λ us. Word GeometryCollection ∷ us) (same ∙ ap (λ us. dimension d ++ (body element es ++ us)) same_rest
+        ∙ sym (ap (λ us. us) (simp append_assoc))),
+  )
 
   one_element : (t : Token) (ts : List Token) → ((e : Element) × (rest : List Token) × (t ∷ ts ≡ element e ++ rest) × FileRest rest) → FileRest (t ∷ ts)
   one_element t ts (e, rest, same, (gs, same_rest)) = (Single e ∷ gs, same ∙ ap (λ us. element e ++ us) same_rest)
@@ -229,7 +227,7 @@ module _ (cap : ℕ) where
   sound_step (Number x) ts sound PositionStart c m k f e h = first_number x c m ts (sound (SecondNumber _) c m _ f e h)
   sound_step (Number y) ts sound (SecondNumber x) c m k f e h = (y, ts, refl, sound (PositionEnd 0) c m _ f e h)
   sound_step (Number z) ts sound (PositionEnd n) c m k f e h =
-      let t = taken (ltb n 2) _ (λ s. (run cap) s ts) f e in
+      let t = taken (ltb n 2) _ (λ s. run cap s ts) f e in
       further_number z n c m ts (ltb-true n 2 t.0) (sound (PositionEnd (n + 1)) c m _ f t.1 h)
   sound_step Comma ts sound (PositionEnd n) c m k f e h = next_position n c m ts (sound PositionStart c m k f e h)
   sound_step Close ts sound (PositionEnd n) c m k f e h = ring_closes n c m ts (sound RingEnd c m _ f e h)
@@ -255,5 +253,5 @@ module _ (cap : ℕ) where
   sound (t ∷ ts) place c m k f e h = sound_step t ts (sound ts) place c m k f e h
 
   -- what the machine takes is a file
-  pub file-run : (ts : List Token) (f : State) → (run cap) start ts ≡ Some f → f.place ≡ Outside → (gs : List Geometry) × (ts ≡ file gs)
+  pub file-run : (ts : List Token) (f : State) → run cap start ts ≡ Some f → f.place ≡ Outside → (gs : List Geometry) × (ts ≡ file gs)
   file-run ts f e h = sound ts Outside false false start.kept f e h refl refl

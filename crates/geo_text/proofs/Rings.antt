@@ -1,5 +1,8 @@
 -- What is read of rings and members whose numbers are fine, and the fault of a ring.
-use Rattle.std.proofs.Common.{◌≡◌, ℕ, zero, suc, ◌+◌, ◌-◌, ◌<◌, ◌≤◌, Bool, true, false, cond, ◌&&◌, ltb, List, [], ◌∷◌, ◌++◌, length, map, take, filter, flat_map, get_or, slice_get, All, Option, Some, None, ℤ, ◌⊎◌, inl, inr, ⊎_elim, refl, ap, ap₂, ◌∙◌, sym, subst, arith, lt-ltb, ltb-true, ltb-false, le-ltb, add-zero, le_of_suc-le-suc, int_eq}
+use Rattle.std.proofs.Common.{◌≡◌, ℕ, zero, suc, ◌+◌, ◌-◌, ◌<◌, ◌≤◌, Bool, true, false, ltb, List, [], ◌∷◌, ◌++◌, length, map, take, filter, flat_map, get_or, slice_get, All, Some, None, ℤ, ◌⊎◌, inl, inr, ⊎_elim, refl, ap, ap₂, ◌∙◌, sym, subst, arith, lt-ltb, le-ltb, add-zero, le_of_suc-le-suc, int_eq}
+use Rattle.std.proofs.lemmas.Grind.{flat_map-append}
+use Rattle.std.proofs.lemmas.List.{length-map}
+use Rattle.std.proofs.lemmas.Bool.{false_from_ne_true}
 use Rattle.std.specs.List.{AllByRecursion}
 use Rattle.std.specs.Option.{option_or}
 use Rattle.std.proofs.lemmas.Bool.{and_parts, and_from, false≢true, cases_lt}
@@ -7,21 +10,17 @@ use Rattle.std.proofs.lemmas.Bool.Decides.{Decides-int_eq}
 use Rattle.std.proofs.lemmas.List.Elements.{All-nil, All-cons, All-head, All-tail}
 use Rattle.cov_types.specs.declared.coord.Coord.{Coord}
 use Rattle.geo_text.specs.Token.{Numeral, value}
-use Rattle.geo_text.specs.Grammar.{Position, Two, Three, Four, Ring, Element, Geometry}
-use Rattle.geo_text.specs.Reading.{coordinate, positions, points, bodies, has_ring, member}
-use Rattle.geo_text.specs.Fault.{position_numbers, ring_numbers, rings_of, IsNumberFine, IsRingLong, IsRingClosed, IsRingFine, IsBehindFine}
+use Rattle.geo_text.specs.Grammar.{Position, Two, Three, Four, Ring, Element}
+use Rattle.geo_text.specs.Reading.{coordinate, positions, bodies, has_ring}
+use Rattle.geo_text.specs.Fault.{position_numbers, ring_numbers, rings_of, IsRingLong, IsRingClosed, IsRingFine, IsBehindFine}
 use Rattle.geo_text.specs.Machine.{same_coord, origin, is_closed, ring_fault}
 use Rattle.geo_text.specs.declared.error.TextFault.{TextFault}
 use Rattle.geo_text.specs.declared.error.TextFault.TheVariants.{RingShort, RingOpen}
-use Rattle.geo_text.proofs.Keeping.{flat_map-append, coordinate_by, read_value, ring_points, first_ring_fault}
+use Rattle.geo_text.proofs.Options.{some_equal, split_append}
+use Rattle.geo_text.proofs.Keeping.{coordinate_by, read_value, ring_points, first_ring_fault}
 use Rattle.geo_text.specs.declared.number.TheConstants.{CAP}
-use Rattle.geo_text.proofs.Typing.{length-map}
 
 -- ---- points by a reading of numbers
-
-pub split_append : {A : Type 0} (P : A → Type 0) (xs ys : List A) → AllByRecursion P (xs ++ ys) → AllByRecursion P xs × AllByRecursion P ys
-split_append P [] ys h = (tt, h)
-split_append P (x ∷ xs) ys h = let w = split_append P xs ys h.1 in ((h.0, w.0), w.1)
 
 -- the points of a ring, the polygons of polygon bodies and a member by the values of numbers
 abbrev pub points_by : (Numeral → ℤ) → Ring → List Coord
@@ -35,7 +34,6 @@ members_by v es = map (λ e. polys_by v (bodies e)) es
 
 -- for numbers that two readings read alike
 module _ (v w : Numeral → ℤ) where
-
   abbrev Alike : Numeral → Type 0
   Alike n = v n ≡ w n
 
@@ -85,7 +83,7 @@ rings_read_true (r ∷ rs) h =
     (alike_coordinates (read_value CAP) value (positions r) both.0, rings_read_true rs both.1)
 
 length-coordinates : (r : Ring) → length (coordinates r) ≡ length (positions r)
-length-coordinates r = length-map 0 coordinate (positions r)
+length-coordinates r = length-map (positions r) coordinate
 
 slice_get_at : {A : Type 0} (xs : List A) (i : ℕ) (d : A) → i < length xs → slice_get xs i ≡ Some (get_or xs i d)
 slice_get_at [] i d h = absurd (omega arith)
@@ -106,9 +104,6 @@ last_is : (r : Ring) → slice_get (coordinates r) (length (positions r) - 1) �
 last_is r =
     ap (λ n. slice_get (coordinates r) (n - 1)) (sym (length-coordinates r)) ∙ slice_get_at (coordinates r) (length (coordinates r) - 1) origin (omega arith)
 
-some_equal : {A : Type 0} (x y : A) → Some x ≡ Some y → x ≡ y
-some_equal x y e = cc
-
 is_closed-true : (r : Ring) → IsRingClosed r → is_closed (coordinates r) ≡ true
 is_closed-true r h = same_coord-refl _ _ (some_equal _ _ (sym (last_is r) ∙ h))
 
@@ -121,10 +116,6 @@ is_short r h = lt-ltb (length (coordinates r)) 4 (⊎_elim (λ k. k) (λ k. absu
 is_long : (r : Ring) → IsRingLong r → ltb (length (coordinates r)) 4 ≡ false
 is_long r h = le-ltb (length (coordinates r)) 4 (omega (arith, h, length-coordinates r))
 
-not_true : (b : Bool) → (b ≡ true → ⊥) → b ≡ false
-not_true true h = absurd (h refl)
-not_true false h = refl
-
 -- the fault of a ring of this number
 abbrev pub IsFaultOfRing : ℕ → Ring → TextFault → Type 0
 IsFaultOfRing k r e = ((e ≡ RingShort k) × (IsRingLong r → ⊥)) ⊎ ((e ≡ RingOpen k) × IsRingLong r × (IsRingClosed r → ⊥))
@@ -134,7 +125,7 @@ ring_fault-fine k r h = rw (is_long r h.0, is_closed-true r h.1) refl
 
 ring_fault_of : (k : ℕ) (r : Ring) (e : TextFault) → IsFaultOfRing k r e → ring_fault k (coordinates r) ≡ Some e
 ring_fault_of k r e (inl (same, h)) = rw (is_short r h) (ap Some (sym same))
-ring_fault_of k r e (inr (same, l, h)) = let open_ring : is_closed (coordinates r) ≡ false = not_true (is_closed (coordinates r)) (λ t. h (true-is_closed r t)) in rw (is_long r l, open_ring) (ap Some (sym same))
+ring_fault_of k r e (inr (same, l, h)) = let open_ring : is_closed (coordinates r) ≡ false = false_from_ne_true (is_closed (coordinates r)) (λ t. h (true-is_closed r t)) in rw (is_long r l, open_ring) (ap Some (sym same))
 
 decide_closed : (r : Ring) (b : Bool) → is_closed (coordinates r) ≡ b → IsRingClosed r ⊎ (IsRingClosed r → ⊥)
 decide_closed r true e = inl (true-is_closed r e)
@@ -144,8 +135,8 @@ decide_closed r false e = inr (λ h. false≢true (sym e ∙ is_closed-true r h)
 decide_ring : (r : Ring) → IsRingFine r ⊎ ((IsRingLong r → ⊥) ⊎ (IsRingLong r × (IsRingClosed r → ⊥)))
 decide_ring r =
     ⊎_elim (λ k. inr (inl (λ h. let n : 4 ≤ length (positions r) = h in omega arith)))
-        (λ k. ⊎_elim (λ h. inl (k, h)) (λ h. inr (inr (k, h))) (decide_closed r (is_closed (coordinates r)) refl))
-        (cases_lt (length (positions r)) 4)
+    (λ k. ⊎_elim (λ h. inl (k, h)) (λ h. inr (inr (k, h))) (decide_closed r (is_closed (coordinates r)) refl))
+    (cases_lt (length (positions r)) 4)
 
 -- ---- the first ring that is not fine, of rings from number k on
 
@@ -180,8 +171,8 @@ pub scan_rings : (rs : List Ring) (k : ℕ) → All IsRingFine rs ⊎ RingFault 
 scan_rings [] k = inl (All-nil IsRingFine)
 scan_rings (r ∷ rs) k =
     ⊎_elim (λ h. ⊎_elim (λ all. inl (All-cons IsRingFine r rs h all)) (λ w. inr (faulty_behind k r rs h w)) (scan_rings rs (k + 1)))
-        (λ h. ⊎_elim (λ f. inr (faulty_here k r rs (RingShort k) (inl (refl, f)))) (λ f. inr (faulty_here k r rs (RingOpen k) (inr (refl, f.0, f.1)))) h)
-        (decide_ring r)
+    (λ h. ⊎_elim (λ f. inr (faulty_here k r rs (RingShort k) (inl (refl, f)))) (λ f. inr (faulty_here k r rs (RingOpen k) (inr (refl, f.0, f.1)))) h)
+    (decide_ring r)
 
 pub first_ring_fault-fine : (rs : List Ring) (k : ℕ) → AllByRecursion IsReadTrue rs → All IsRingFine rs → first_ring_fault CAP k rs ≡ None
 first_ring_fault-fine [] k t h = refl

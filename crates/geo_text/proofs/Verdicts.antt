@@ -1,15 +1,14 @@
 -- The machine answers the reading of a text that has no fault, and otherwise its one fault.
-use Rattle.std.proofs.Common.{◌≡◌, ℕ, zero, suc, ◌+◌, ◌-◌, ◌<◌, ◌≤◌, List, [], ◌∷◌, ◌++◌, length, map, take, drop, flat_map, All, Option, Some, None, option_and_then, Result, Ok, Err, IfOk, OnOk, IsErrOf, ℤ, ◌⊎◌, inl, inr, ⊎_elim, refl, ap, ap₂, ◌∙◌, sym, subst, arith, add-zero, take-add}
+use Rattle.std.proofs.Common.{◌≡◌, ℕ, suc, ◌+◌, ◌-◌, ◌<◌, ◌≤◌, List, [], ◌∷◌, ◌++◌, length, take, drop, flat_map, All, Option, Some, None, option_and_then, Result, Ok, Err, IfOk, OnOk, IsErrOf, ◌⊎◌, inl, inr, ⊎_elim, refl, ap, ◌∙◌, sym, subst, arith, add-zero, take-add}
 use Rattle.std.specs.List.{AllByRecursion}
 use Rattle.std.specs.Option.{option_or}
 use Rattle.std.proofs.lemmas.Bool.{cases_order}
 use Rattle.std.proofs.lemmas.List.Elements.{All-weaker, recursion_from_All}
-use Rattle.cov_types.specs.declared.coord.Coord.{Coord}
 use Rattle.geo_text.specs.Token.{Numeral, value}
 use Rattle.geo_text.specs.Grammar.{Ring, Geometry, IsFile}
 use Rattle.geo_text.specs.Reading.{elements, coverage, Reads}
-use Rattle.geo_text.specs.Fault.{BeginsFile, IsSyntaxFault, rings, numbers, ring_numbers, extra_places, IsWhole, IsValueInRange, IsNumberFine, IsRingLong, IsRingClosed, IsRingFine, IsBehindFine, IsPlanarFile, IsNumericFile, IsFirstNumber, IsFirstRing, IsFault, IsFaultless}
-use Rattle.geo_text.specs.Machine.{State, Kept, Members, start, ending, read_byte, answer, answer_at, answer_by, unless_fault, first_fault, Gives}
+use Rattle.geo_text.specs.Fault.{IsSyntaxFault, rings, numbers, extra_places, IsNumberFine, IsRingFine, IsPlanarFile, IsNumericFile, IsFirstNumber, IsFirstRing, IsFault, IsFaultless}
+use Rattle.geo_text.specs.Machine.{State, Kept, Members, start, ending, read_byte, answer, answer_at, answer_by, unless_fault, Gives}
 use Rattle.geo_text.specs.declared.error.TextError.{TextError}
 use Rattle.geo_text.specs.declared.error.TextError.TheVariants as errors
 use Rattle.geo_text.specs.declared.error.TextFault.{TextFault}
@@ -19,9 +18,10 @@ use Rattle.geo_text.specs.declared.lexeme.Lexeme.TheVariants.{Blank}
 use Rattle.geo_text.specs.declared.number.TheConstants.{CAP}
 use Rattle.geo_text.specs.declared.place.Place.{Place}
 use Rattle.geo_text.specs.declared.place.Place.TheVariants.{Outside}
+use Rattle.geo_text.proofs.Options.{none_some, some_equal, opened}
 use Rattle.geo_text.proofs.Keeping.{read_value, first_extra, first_number_fault, first_ring_fault}
 use Rattle.geo_text.proofs.Parsing.{end_of}
-use Rattle.geo_text.proofs.Typing.{none_some, some_equal, read_bytes, opened}
+use Rattle.geo_text.proofs.Typing.{read_bytes}
 use Rattle.geo_text.proofs.Alive.{alive, alive-append, read_bytes-file, file-read_bytes, BeginsFile-alive, alive-BeginsFile}
 use Rattle.geo_text.proofs.Numbers.{read_value-fine, IsFaultOfNumber, NumberFault, scan_numbers, first_number_fault-fine, first_number_fault-behind}
 use Rattle.geo_text.proofs.Rings.{alike_members, IsReadTrue, rings_read_true, IsFaultOfRing, RingFault, scan_rings, first_ring_fault-fine, first_ring_fault-behind}
@@ -36,7 +36,7 @@ answer_to bytes = answer CAP 0 Blank start bytes
 answer-read : (bytes : List ℕ) (a : ℕ) (l : Lexeme) (s f : State) → read_bytes CAP a l s bytes ≡ Some f → answer CAP a l s bytes ≡ answer_at (a + length bytes) f.place f.kept
 answer-read [] a l s f e = ap (answer_by a (λ (last : State). answer_at a last.place last.kept)) e ∙ ap (λ i. answer_at i f.place f.kept) (omega arith)
 answer-read (b ∷ bytes) a l s f e =
-    let next = opened 0 (read_byte CAP a l s b) (λ (p : Lexeme × State). read_bytes CAP (a + 1) p.0 p.1 bytes) f e in
+    let next = opened (read_byte CAP a l s b) (λ (p : Lexeme × State). read_bytes CAP (a + 1) p.0 p.1 bytes) f e in
     ap (answer_by a (λ (p : Lexeme × State). answer CAP (a + 1) p.0 p.1 bytes)) next.1
     ∙ answer-read bytes (a + 1) next.0.0 next.0.1 f next.2
     ∙ ap (λ i. answer_at i f.place f.kept) (omega arith)
@@ -77,21 +77,21 @@ at_end a l s None e = inr (record {
   state = (l, s);
   taken = refl;
   refused = λ h. absurd (omega arith);
-  no_end = λ f r out. none_some 0 f (sym e ∙ r);
+  no_end = λ f r out. none_some f (sym e ∙ r);
   answered = ap (answer_by a (λ (last : State). answer_at a last.place last.kept)) e ∙ ap (λ i. Err (Syntax i)) (sym (add-zero a));
 })
 at_end a l s (Some f) e =
     ⊎_elim (λ out. inl (f, e, out))
-        (λ inside. inr (record {
-          count = 0;
-          within = omega arith;
-          state = (l, s);
-          taken = refl;
-          refused = λ h. absurd (omega arith);
-          no_end = λ g r out. inside.0 (ap (λ (t : State). t.place) (some_equal 0 f g (sym e ∙ r)) ∙ out);
-          answered = ap (answer_by a (λ (last : State). answer_at a last.place last.kept)) e ∙ inside.1 a f.kept ∙ ap (λ i. Err (Syntax i)) (sym (add-zero a));
-        }))
-        (is_outside f.place)
+    (λ inside. inr (record {
+      count = 0;
+      within = omega arith;
+      state = (l, s);
+      taken = refl;
+      refused = λ h. absurd (omega arith);
+      no_end = λ g r out. inside.0 (ap (λ (t : State). t.place) (some_equal f g (sym e ∙ r)) ∙ out);
+      answered = ap (answer_by a (λ (last : State). answer_at a last.place last.kept)) e ∙ inside.1 a f.kept ∙ ap (λ i. Err (Syntax i)) (sym (add-zero a));
+    }))
+    (is_outside f.place)
 
 on_byte : (a : ℕ) (l : Lexeme) (s : State) (b : ℕ) (bytes : List ℕ) → ((i : ℕ) (m : Lexeme) (t : State) → Ends i m t bytes ⊎ Stops i m t bytes)
     → (o : Option (Lexeme × State)) → read_byte CAP a l s b ≡ o → Ends a l s (b ∷ bytes) ⊎ Stops a l s (b ∷ bytes)
@@ -101,21 +101,21 @@ on_byte a l s b bytes more None e = inr (record {
   state = (l, s);
   taken = refl;
   refused = λ h. ap (option_and_then (λ (p : Lexeme × State). alive CAP (a + 1) p.0 p.1 [])) e;
-  no_end = λ f r out. none_some 0 f (sym (ap (option_and_then (λ (p : Lexeme × State). read_bytes CAP (a + 1) p.0 p.1 bytes)) e) ∙ r);
+  no_end = λ f r out. none_some f (sym (ap (option_and_then (λ (p : Lexeme × State). read_bytes CAP (a + 1) p.0 p.1 bytes)) e) ∙ r);
   answered = ap (answer_by a (λ (p : Lexeme × State). answer CAP (a + 1) p.0 p.1 bytes)) e ∙ ap (λ i. Err (Syntax i)) (sym (add-zero a));
 })
 on_byte a l s b bytes more (Some p) e =
     ⊎_elim (λ ends. inl (ends.0, ap (option_and_then (λ (q : Lexeme × State). read_bytes CAP (a + 1) q.0 q.1 bytes)) e ∙ ends.1, ends.2))
-        (λ w. inr (record {
-          count = suc w.count;
-          within = omega (arith, w.within);
-          state = w.state;
-          taken = ap (option_and_then (λ (q : Lexeme × State). alive CAP (a + 1) q.0 q.1 (take w.count bytes))) e ∙ w.taken;
-          refused = λ h. ap (option_and_then (λ (q : Lexeme × State). alive CAP (a + 1) q.0 q.1 (take (suc w.count) bytes))) e ∙ w.refused (omega arith);
-          no_end = λ f r out. w.no_end f (sym (ap (option_and_then (λ (q : Lexeme × State). read_bytes CAP (a + 1) q.0 q.1 bytes)) e) ∙ r) out;
-          answered = ap (answer_by a (λ (q : Lexeme × State). answer CAP (a + 1) q.0 q.1 bytes)) e ∙ w.answered ∙ ap (λ i. Err (Syntax i)) (omega arith);
-        }))
-        (more (a + 1) p.0 p.1)
+    (λ w. inr (record {
+      count = suc w.count;
+      within = omega (arith, w.within);
+      state = w.state;
+      taken = ap (option_and_then (λ (q : Lexeme × State). alive CAP (a + 1) q.0 q.1 (take w.count bytes))) e ∙ w.taken;
+      refused = λ h. ap (option_and_then (λ (q : Lexeme × State). alive CAP (a + 1) q.0 q.1 (take (suc w.count) bytes))) e ∙ w.refused (omega arith);
+      no_end = λ f r out. w.no_end f (sym (ap (option_and_then (λ (q : Lexeme × State). read_bytes CAP (a + 1) q.0 q.1 bytes)) e) ∙ r) out;
+      answered = ap (answer_by a (λ (q : Lexeme × State). answer CAP (a + 1) q.0 q.1 bytes)) e ∙ w.answered ∙ ap (λ i. Err (Syntax i)) (omega arith);
+    }))
+    (more (a + 1) p.0 p.1)
 
 ends_or_stops : (bytes : List ℕ) (a : ℕ) (l : Lexeme) (s : State) → Ends a l s bytes ⊎ Stops a l s bytes
 ends_or_stops [] a l s = at_end a l s (ending l s) refl
@@ -136,7 +136,7 @@ syntax_fault bytes w = record {
   begins = BeginsFile-alive CAP (take w.count bytes) w.state w.taken;
   longest = λ k more within begins.
       let life = alive-BeginsFile CAP (take k bytes) begins in
-      none_some 0 life.0 (sym (not_taken bytes (suc w.count) k (w.refused (omega arith)) (omega arith)) ∙ life.1);
+      none_some life.0 (sym (not_taken bytes (suc w.count) k (w.refused (omega arith)) (omega arith)) ∙ life.1);
 }
 
 stops_answer : (bytes : List ℕ) (w : Stops 0 Blank start bytes) → answer_to bytes ≡ Err (Syntax w.count)
@@ -203,8 +203,8 @@ ring_answer bytes ring r e h f =
 pub fault_answer : (bytes : List ℕ) (fault : TextFault) → IsFault bytes fault → answer_to bytes ≡ Err fault
 fault_answer bytes (Syntax at) h =
     ⊎_elim (λ ends. let read = file_of_end bytes ends in absurd (h.no_file read.0 read.1))
-        (λ w. stops_answer bytes w ∙ ap (λ i. Err (Syntax i)) (one_syntax_fault bytes w.count at (syntax_fault bytes w) h))
-        (ends_or_stops bytes 0 Blank start)
+    (λ w. stops_answer bytes w ∙ ap (λ i. Err (Syntax i)) (one_syntax_fault bytes w.count at (syntax_fault bytes w) h))
+    (ends_or_stops bytes 0 Blank start)
 fault_answer bytes (NotPlanar at) (gs, more, is_file, same) =
     answer-file bytes gs is_file
     ∙ ap (λ places. unless_fault (members_read gs) (option_or (first_extra CAP places) (option_or (first_number_fault CAP (numbers gs)) (first_ring_fault CAP 0 (rings gs))))) same
@@ -235,9 +235,9 @@ file_clean_or_fault bytes gs is_file = by_extras (extra_places gs) refl
     by_numbers : IsPlanarFile bytes gs → ((hs : List Geometry) × IsClean bytes hs) ⊎ HasFault bytes
     by_numbers h =
         ⊎_elim (λ numeric. let hn : IsNumericFile bytes gs = record { is_planar = h; numeric = numeric } in
-                ⊎_elim (λ fine. inl (gs, record { is_numeric = hn; rings_fine = fine })) (λ w. inr (ring_has_fault bytes gs hn w)) (scan_rings (rings gs) 0))
-            (λ w. inr (number_has_fault bytes gs h w))
-            (scan_numbers (numbers gs))
+        ⊎_elim (λ fine. inl (gs, record { is_numeric = hn; rings_fine = fine })) (λ w. inr (ring_has_fault bytes gs hn w)) (scan_rings (rings gs) 0))
+        (λ w. inr (number_has_fault bytes gs h w))
+        (scan_numbers (numbers gs))
 
     by_extras : (places : List ℕ) → extra_places gs ≡ places → ((hs : List Geometry) × IsClean bytes hs) ⊎ HasFault bytes
     by_extras [] e = by_numbers (record { is_file = is_file; planar = e })
@@ -246,8 +246,8 @@ file_clean_or_fault bytes gs is_file = by_extras (extra_places gs) refl
 pub clean_or_fault : (bytes : List ℕ) → ((gs : List Geometry) × IsClean bytes gs) ⊎ ((fault : TextFault) × IsFault bytes fault)
 clean_or_fault bytes =
     ⊎_elim (λ ends. let read = file_of_end bytes ends in file_clean_or_fault bytes read.0 read.1)
-        (λ w. inr (Syntax w.count, syntax_fault bytes w))
-        (ends_or_stops bytes 0 Blank start)
+    (λ w. inr (Syntax w.count, syntax_fault bytes w))
+    (ends_or_stops bytes 0 Blank start)
 
 -- ---- what the answers mean
 

@@ -1,14 +1,17 @@
--- The grammar of a file (OGC 06-103r4, 7.2.2, polygons alone): what is written, and its tokens.
+-- The grammar of a file: what may be written, and the tokens that write it. Those are the productions of polygons,
+-- multipolygons and geometry collections of OGC 06-103r4, 7.2.2. This project's own are: a file of any number of
+-- geometries, positions of two to four numbers whatever the dimension word, no EMPTY ring, and a collection of
+-- polygons and multipolygons alone.
 use Rattle.std.specs.Prelude.{ℕ, Option, Some, None, List, [], ◌∷◌, ◌++◌, flat_map}
-use Rattle.geo_text.specs.Token.{Name, Polygon, MultiPolygon, GeometryCollection, Empty, Dimension, Numeral, Token, Word, Dimensions, Number, Open, Close, Comma, Spells}
+use Rattle.geo_text.specs.Token.{Polygon, MultiPolygon, GeometryCollection, Empty, Dimension, Numeral, Token, Word, Dimensions, Number, Open, Close, Comma, Spells}
 
--- two, three or four numbers
+-- a position: two, three or four numbers
 pub data Position : Type 0 where
   Two : (x y : Numeral) → Position
   Three : (x y z : Numeral) → Position
   Four : (x y z m : Numeral) → Position
 
--- one position or more
+-- a ring: one position or more (the linestring text of 7.2.2)
 pub record Ring : Type 0 where
   pub first : Position
   pub others : List Position
@@ -32,10 +35,12 @@ abbrev pub body : {A : Type 0} → (A → List Token) → List A → List Token
 body tokens [] = Word Empty ∷ []
 body tokens (x ∷ xs) = bracketed tokens x xs
 
+-- a dimension word, or none
 abbrev pub dimension : Option Dimension → List Token
 dimension None = []
 dimension (Some d) = Dimensions d ∷ []
 
+-- the production of each part
 abbrev pub position : Position → List Token
 position (Two x y) = Number x ∷ Number y ∷ []
 position (Three x y z) = Number x ∷ Number y ∷ Number z ∷ []

@@ -1,17 +1,18 @@
--- The tokens of a well-known text and how bytes spell them (OGC 06-103r4, 7.2). The forms of a number, and where
--- white space is needed, are this project's own.
+-- The tokens of a well-known text and how bytes spell them: the keywords, numbers, brackets and commas of the
+-- productions of OGC 06-103r4, 7.2. Which of them are read, and where white space may and must stand, is this
+-- project's own.
 use Rattle.std.specs.Prelude.{◌≡◌, ℕ, ◌+◌, ◌-◌, ◌*◌, ◌<◌, Bool, true, false, ◌&&◌, ◌||◌, if◌then◌else◌, ◌==◌, nat_le, IsTrue, ◌⊎◌, List, [], ◌∷◌, ◌++◌, length, map, fold, Option, Some, None, ℤ, pos, neg_ℤ, codes}
 use Rattle.std.specs.Char.{to_ascii_uppercase}
 use Rattle.std.specs.List.{AllByRecursion}
 
--- the words that name a geometry, and that of an empty one
+-- the words that name a geometry, and that of an empty one (OGC 06-103r4, 7.2.2)
 pub data Name : Type 0 where
   Polygon : Name
   MultiPolygon : Name
   GeometryCollection : Name
   Empty : Name
 
--- the dimension words
+-- the dimension words (OGC 06-103r4, 7.2.3 to 7.2.5)
 pub data Axes : Type 0 where
   Z : Axes
   M : Axes
@@ -22,7 +23,8 @@ pub record Dimension : Type 0 where
   pub at : ℕ
   pub axes : Axes
 
--- a number behind `at` bytes: its sign, and the digits before and behind the point
+-- a number behind `at` bytes: its sign, and the digits before and behind the point (the signed numeric literal of
+-- OGC 06-103r4, 7.2.2, without an exponent)
 pub record Numeral : Type 0 where
   pub at : ℕ
   pub negative : Bool
@@ -37,7 +39,7 @@ pub data Token : Type 0 where
   Close : Token
   Comma : Token
 
--- space, tab, line feed or carriage return
+-- space, tab, line feed or carriage return (this project's own)
 abbrev pub is_white : ℕ → Bool
 is_white b = (((b == 32) || (b == 9)) || (b == 10)) || (b == 13)
 
@@ -93,7 +95,7 @@ axes_letters Z = codes "Z"
 axes_letters M = codes "M"
 axes_letters ZM = codes "ZM"
 
--- letters in any case
+-- letters in any case (OGC 06-103r4, 7.2.1)
 abbrev pub IsWord : List ℕ → List ℕ → Type 0
 IsWord letters bytes = map to_ascii_uppercase bytes ≡ letters
 
@@ -120,8 +122,8 @@ abbrev pub is_alike : Option Token → Token → Bool
 is_alike None token = false
 is_alike (Some previous) token = (is_word previous && is_word token) || (is_number previous && is_number token)
 
--- behind `at` bytes and the token before, the bytes spell the tokens, with white space anywhere between them,
--- and some between two words or two numbers
+-- behind `at` bytes and the token before, the bytes spell the tokens, with white space anywhere between them, and
+-- some between two words or two numbers (this project's own)
 abbrev pub Spells : ℕ → Option Token → List Token → List ℕ → Type 0
 Spells at previous [] bytes = IsWhite bytes
 Spells at previous (token ∷ tokens) bytes =

@@ -1,4 +1,5 @@
-ghost use Rattle.std.specs.Prelude.{◌≡◌, ◌+◌, ◌^◌, ◌<◌};
+ghost use Rattle.std.specs.Prelude.{◌≡◌, ◌+◌, ◌^◌, ◌<◌, ◌≤◌, length};
+ghost use Rattle.geo_text.specs.Machine.{no_faults, with_extra, with_number, with_ring, first_fault, is_in_range, number_fault, is_closed, ring_fault};
 
 use crate::error::TextFault;
 use cov_types::{Coord, LIMIT};
@@ -13,8 +14,6 @@ pub(crate) struct Faults {
 }
 
 impl Faults {
-    ghost use Rattle.geo_text.specs.Machine.{no_faults, with_extra, with_number, with_ring, first_fault};
-
     pub(crate) fn new() -> Faults
         ensures { result ≡ no_faults }
     {
@@ -65,9 +64,6 @@ impl Faults {
         self.planar.or(self.number.or(self.ring))
     }
 }
-
-ghost use Rattle.std.specs.Prelude.{length, ◌≤◌};
-ghost use Rattle.geo_text.specs.Machine.{is_in_range, number_fault, is_closed, ring_fault};
 
 fn is_in_range(number: i32) -> bool
     ensures { result ≡ is_in_range number }

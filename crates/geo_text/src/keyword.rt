@@ -71,7 +71,8 @@ pub(crate) fn keyword_at(place: Place, letter: u8) -> Option<Keyword>
             _ => None,
         },
         Place::Head {
-            dimension: false, ..
+            dimension: false,
+            ..
         } => match letter {
             b'E' => Some(Keyword::Empty),
             b'M' => Some(Keyword::M),
@@ -79,7 +80,8 @@ pub(crate) fn keyword_at(place: Place, letter: u8) -> Option<Keyword>
             _ => None,
         },
         Place::Head {
-            dimension: true, ..
+            dimension: true,
+            ..
         }
         | Place::BodyStart => (letter == b'E').then_some(Keyword::Empty),
         _ => None,

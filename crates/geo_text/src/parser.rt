@@ -33,20 +33,18 @@ impl Model for Parser {
 
     ghost Value = { State };
 
-    ghost view = {
-        λ p. record {
-            place = p.place;
-            in_collection = p.in_collection;
-            in_multi = p.in_multi;
-            kept = record {
-                members = p.members.items;
-                polys = p.polys.items;
-                rings = p.rings.items;
-                points = p.points.items;
-                faults = p.faults;
-            };
-        }
-    };
+    ghost view = { λ p. record {
+      place = p.place;
+      in_collection = p.in_collection;
+      in_multi = p.in_multi;
+      kept = record {
+        members = p.members.items;
+        polys = p.polys.items;
+        rings = p.rings.items;
+        points = p.points.items;
+        faults = p.faults;
+      };
+    } };
 }
 
 impl Parser {

@@ -48,7 +48,11 @@ fn begin(at: u64, parser: &mut Parser, byte: u8) -> Result<Lexeme, Stop>
     }
     if is_letter(byte) {
         return match keyword_at(parser.place(), byte.to_ascii_uppercase()) {
-            Some(keyword) => Ok(Lexeme::Word { at, keyword, typed: 1 }),
+            Some(keyword) => Ok(Lexeme::Word {
+                at,
+                keyword,
+                typed: 1,
+            }),
             None => Err(Stop::Refused),
         };
     }
@@ -133,5 +137,4 @@ pub fn one_answer()
     ensures fault { (bytes : List ℕ) (e f : TextFault) → IsFault bytes e → IsFault bytes f → e ≡ f }
     ensures either { (bytes : List ℕ)
         → ((c : List (List (List (List Coord)))) × Reads bytes c × IsFaultless bytes) ⊎ ((fault : TextFault) × IsFault bytes fault) }
-{
-}
+{}

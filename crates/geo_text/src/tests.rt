@@ -75,13 +75,11 @@ fn files_are_read(rt: HostRuntime) -> Result<(), Fail> {
             "mpr 0 0 4 0 0 4",
         ),
         ("multipolygon empty POLYGON EMPTY", "mm"),
+        ("POLYGON ((+0 -0, 4. 0, 0 04, .0 0))", "mpr 0 0 4 0 0 4"),
+        ("POLYGON ((0 0, 1.0 0, 0 5, 0 0))", "mpr 0 0 1 0 0 5"),
         (
-            "POLYGON ((+0 -0, 4. 0, 0 04, .0 0))",
-            "mpr 0 0 4 0 0 4",
-        ),
-        (
-            "POLYGON ((0 0, 1.0 0, 0 5, 0 0))",
-            "mpr 0 0 1 0 0 5",
+            "\tPOLYGON\r\n(\t(0\t0,\r1\n0,1 1,0 0\t)\n)\r\tPOLYGON EMPTY\n\nMULTIPOLYGON\tEMPTY\r",
+            "mpr 0 0 1 0 1 1mm",
         ),
         (
             "GeometryCollection(MultiPolygon(((0 0,1 0,1 1,0 0)),((2 2,3 2,3 3,2 2))),Polygon((5 5,6 5,5 6,5 5)))Polygon Empty",
@@ -128,14 +126,8 @@ fn each_fault_has_its_place(rt: HostRuntime) -> Result<(), Fail> {
         ("POLYGON ((0 0, 16777217 0, 0 5, 0 0))", "out of range 15"),
         ("POLYGON ((0 0, 1.5 -16777217, 0 5, 0 0))", "not whole 15"),
         ("POLYGON ((0 0, 1 -16777217, .5 5, 0 0))", "out of range 17"),
-        (
-            "POLYGON Z ((0 0 1, 4 0 1, 0 4 1, 0 0 1))",
-            "not planar 8",
-        ),
-        (
-            "POLYGON ((0 0 1, 4 0 1, 0 4 1, 0 0 1))",
-            "not planar 14",
-        ),
+        ("POLYGON Z ((0 0 1, 4 0 1, 0 4 1, 0 0 1))", "not planar 8"),
+        ("POLYGON ((0 0 1, 4 0 1, 0 4 1, 0 0 1))", "not planar 14"),
         ("POLYGON ((.5 0, 0 0 1))", "not planar 20"),
         ("POLYGON ((0 0 1 2)) POLYGON zM EMPTY", "not planar 14"),
         ("POLYGON ((0 0, 10 0, 0 0))", "short 0"),
@@ -163,5 +155,66 @@ fn each_fault_has_its_place(rt: HostRuntime) -> Result<(), Fail> {
 fn bytes_that_are_no_text_are_refused(rt: HostRuntime) -> Result<(), Fail> {
     let got = answer(rt.alloc(), &[0xff, 0xfe])?;
     assert_eq!(rt; got.as_str(), "syntax 0");
+    Ok(())
+}
+
+/// A line, and each of its beginnings: none but the whole is a file.
+#[test]
+fn beginnings_are_cut_where_they_end(rt: HostRuntime) -> Result<(), Fail> {
+    let good = "MULTIPOLYGON (EMPTY, ((+0 0.0, 4. 0, 0 .0, 0 0)))".as_bytes();
+    for n in 1..good.len() {
+        let got = answer(rt.alloc(), &good[..n])?;
+        let want = format!(in rt.alloc(); "syntax {n}")?;
+        assert_eq!(rt; got.as_str(), want.as_str(), "at {n}");
+    }
+    let got = answer(rt.alloc(), good)?;
+    assert_eq!(rt; got.as_str(), "mpr 0 0 4 0 0 0");
+    Ok(())
+}
+
+/// Each mixture of case of a word.
+#[test]
+fn words_are_read_in_any_case(rt: HostRuntime) -> Result<(), Fail> {
+    for mask in 0..128u32 {
+        let mut text = Vec::new(rt.alloc());
+        for (i, letter) in b"polygon".iter().enumerate() {
+            let raised = (mask >> i) & 1 == 1;
+            text.push(if raised {
+                letter.to_ascii_uppercase()
+            } else {
+                *letter
+            })?;
+        }
+        text.extend_from_slice(b" eMpTy")?;
+        let got = answer(rt.alloc(), text.as_slice())?;
+        assert_eq!(rt; got.as_str(), "m", "at {mask}");
+    }
+    Ok(())
+}
+
+#[test]
+fn a_million_brackets_are_refused(rt: HostRuntime) -> Result<(), Fail> {
+    let mut text = Vec::new(rt.alloc());
+    text.extend_from_slice(b"MULTIPOLYGON")?;
+    for _ in 0..1_000_000 {
+        text.push(b'(')?;
+    }
+    let got = answer(rt.alloc(), text.as_slice())?;
+    assert_eq!(rt; got.as_str(), "syntax 15");
+    Ok(())
+}
+
+#[test]
+fn a_number_of_a_thousand_digits_is_read(rt: HostRuntime) -> Result<(), Fail> {
+    for (digit, want) in [(b'0', "mpr 0 0 1 0 1 1"), (b'7', "out of range 9")] {
+        let mut text = Vec::new(rt.alloc());
+        text.extend_from_slice(b"POLYGON((")?;
+        for _ in 0..1000 {
+            text.push(digit)?;
+        }
+        text.extend_from_slice(b" 0,1 0,1 1,0 0))")?;
+        let got = answer(rt.alloc(), text.as_slice())?;
+        assert_eq!(rt; got.as_str(), want);
+    }
     Ok(())
 }

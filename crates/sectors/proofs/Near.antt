@@ -1,0 +1,1 @@
+-- Points near a vertex.

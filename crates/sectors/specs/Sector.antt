@@ -1,0 +1,52 @@
+-- Half-edges: directed edges that leave a vertex, their order by angle, and the sector between two of them.
+use Rattle.std.specs.Prelude.{◌≡◌, ℕ, Bool, true, false, cond, not, ◌&&◌, ◌||◌, int_lt, IsFalse, pos, List, [], ◌∷◌, flat_map, Some, slice_get, Contains}
+use Rattle.cov_types.specs.declared.coord.Coord.{Coord}
+use Rattle.cov_types.specs.declared.seg.Seg.{Seg}
+use Rattle.plane.specs.Point.{Point}
+use Rattle.plane.specs.Segment.{turn_of, upper, lower}
+
+-- an edge with a direction: forwards from lo to hi, or back
+pub record HalfEdge : Type 0 where
+  pub edge : Seg
+  pub forwards : Bool
+
+-- where it begins, where it ends, and the side point on its left
+abbrev pub origin : HalfEdge → Coord
+origin h = cond h.forwards h.edge.lo h.edge.hi
+
+abbrev pub target : HalfEdge → Coord
+target h = cond h.forwards h.edge.hi h.edge.lo
+
+abbrev pub left : HalfEdge → Point
+left h = cond h.forwards (upper h.edge) (lower h.edge)
+
+-- the same edge in the other direction
+abbrev pub twin : HalfEdge → HalfEdge
+twin h = record { edge = h.edge; forwards = not h.forwards }
+
+-- the half-edges of the edges: half-edge 2k runs along edge k from lo to hi, half-edge 2k + 1 back
+abbrev pub half_edges : List Seg → List HalfEdge
+half_edges edges = flat_map (λ e. record { edge = e; forwards = true } ∷ record { edge = e; forwards = false } ∷ []) edges
+
+-- n is the number of the half-edge h
+abbrev pub IsHalfEdge : List Seg → ℕ → HalfEdge → Type 0
+IsHalfEdge edges n h = slice_get (half_edges edges) n ≡ Some h
+
+-- of two half-edges that leave one vertex, g turns to the left of h
+abbrev pub is_left_of : HalfEdge → HalfEdge → Bool
+is_left_of g h = int_lt (pos 0) (turn_of (origin h) (target h) (target g))
+
+-- of two half-edges that leave one vertex, h comes before g counter-clockwise: those that lead forwards first, and then by the turn
+abbrev pub is_before_by_angle : HalfEdge → HalfEdge → Bool
+is_before_by_angle h g = cond h.forwards (not g.forwards || is_left_of g h) (not g.forwards && is_left_of g h)
+
+-- k leaves strictly inside the sector from g counter-clockwise to h: from a half-edge to itself it is the full turn
+abbrev pub is_in_sector : HalfEdge → HalfEdge → HalfEdge → Bool
+is_in_sector g h k = cond (is_before_by_angle g h) (is_before_by_angle g k && is_before_by_angle k h) (is_before_by_angle g k || is_before_by_angle k h)
+
+-- g follows h round the region on the left of h: it begins where h ends, and no half-edge leaves inside the sector from g to the twin of h
+pub record IsNext (edges : List Seg) (h g : HalfEdge) : Type 0 where
+  pub among : Contains edges h.edge
+  pub next_among : Contains edges g.edge
+  pub begins : origin g ≡ target h
+  pub none_inside : (k : HalfEdge) → Contains edges k.edge → origin k ≡ target h → is_in_sector g (twin h) k ≡ false

@@ -1,3 +1,4 @@
 pub mod Lines
 pub mod Sliver
 pub mod Near
+pub mod Vectors

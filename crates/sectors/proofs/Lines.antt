@@ -74,3 +74,10 @@ mix_zero-between x y z e r p q h hp hq =
   where
     mix_form_zero : form (mix_a x y e) (mix_b x y e) (mix_c y z e) r ≡ pos 0 → mix x y z e r ≡ pos 0
     mix_form_zero k = sym (mix-form x y z e r) ∙ k
+
+-- so a way strictly on the positive side of such a form misses an edge that is not
+pub mix_parted : (x y z : ℤ) (e f : Seg) (p q : Point) → pos 0 <ℤ mix x y z e p → pos 0 <ℤ mix x y z e q
+    → mix x y z e (at_coord f.lo) ≤ℤ pos 0 → mix x y z e (at_coord f.hi) ≤ℤ pos 0 → Misses f p q
+mix_parted x y z e f p q hp hq lo hi = record {
+  none = λ r between on. lt_excludes_le (mix_positive-between x y z e r p q between hp hq) (mix_not_positive-between x y z e r (at_coord f.lo) (at_coord f.hi) on lo hi);
+}

@@ -7,7 +7,7 @@ use Rattle.exact.proofs.Bound.{IsWithin}
 use Rattle.exact.proofs.Cast.{pos_nonneg, positive_natural}
 use Rattle.exact.proofs.Compare.{le_of_lt, lt_or_ge}
 use Rattle.exact.proofs.Order.{cancel_lt_right, le_mul, mul_le, mul_lt}
-use Rattle.exact.proofs.Ring.{lin, by_ring, by_one, Var, Lit, ◌⊕◌, ◌⊖◌, ◌⊗◌, Neg, mul_one, one_mul, neg_mul, mul_neg, mul_sub, sub_mul, mul_zero, pos_times}
+use Rattle.exact.proofs.Ring.{lin, by_ring, by_one, Var, Lit, ◌⊕◌, ◌⊖◌, ◌⊗◌, Neg, mul_one, one_mul, neg_mul, mul_neg, mul_sub, sub_mul, mul_zero, mul_comm, minus_one_mul, pos_times}
 use Rattle.exact.proofs.Sign.{positive_times_positive}
 use Rattle.plane.specs.Point.{Point, at_coord, IsBetween}
 use Rattle.plane.specs.Segment.{side, upper, lower, IsOn}
@@ -46,7 +46,7 @@ pub record IsFlat (s t d l h : ℤ) : Type 0 where
   pub after_lo : (flat *ℤ s) <ℤ (t -ℤ (l *ℤ d))
   pub before_hi : (flat *ℤ s) <ℤ ((h *ℤ d) -ℤ t)
 
-beside_is : (k s t d : ℤ) → ((pos 0 *ℤ t) +ℤ (k *ℤ s)) +ℤ (pos 0 *ℤ d) ≡ k *ℤ s
+pub beside_is : (k s t d : ℤ) → ((pos 0 *ℤ t) +ℤ (k *ℤ s)) +ℤ (pos 0 *ℤ d) ≡ k *ℤ s
 beside_is k s t d = by_ring (k ∷ s ∷ t ∷ d ∷ []) (Lit (pos 0) ⊗ Var 2 ⊕ Var 0 ⊗ Var 1 ⊕ Lit (pos 0) ⊗ Var 3) (Var 0 ⊗ Var 1) refl
 
 after_lo_is : (f k s t d l : ℤ) → ((pos 1 *ℤ t) +ℤ (neg_ℤ (f *ℤ k) *ℤ s)) +ℤ (neg_ℤ l *ℤ d) ≡ (t -ℤ (l *ℤ d)) -ℤ (f *ℤ (k *ℤ s))
@@ -188,3 +188,90 @@ opposite_ends k j e f r up ends inside on ha hb w small sign =
           | inl same ↦ (let p = ap (λ z. v *ℤ z) same in (omega (arith, lin), omega (arith, lin)))
           | inr other ↦ (let p = ap (λ z. v *ℤ z) other in let q = mul_neg v s in (omega (arith, lin), omega (arith, lin)))
         ]
+
+-- both its ends strictly on the side of the point
+not_beyond : (k : ℤ) (e f : Seg) (r : Point) → IsInSliver k e r → IsOn f r → rise e ≤ℤ flat → pos 0 <ℤ (k *ℤ side e (at_coord f.lo)) → pos 0 <ℤ (k *ℤ side e (at_coord f.hi)) → ⊥
+not_beyond k e f r inside on short ha hb =
+    let h = sliver_numbers k e r inside in
+    let unit = λ (p : Point). unit_is k (side e p) (sweep p) (pos p.d) in
+    let deep = mix_not_negative-between (pos 0) k (negsuc 0) e r (at_coord f.lo) (at_coord f.hi) on (omega (arith, lin, unit (at_coord f.lo))) (omega (arith, lin, unit (at_coord f.hi))) in
+    too_deep (k *ℤ side e r) (sweep r) (pos r.d) (sweep (at_coord e.lo)) (sweep (at_coord e.hi)) h (d_positive r) short (omega (arith, lin, unit r))
+  where
+    unit_is : (k s t d : ℤ) → ((pos 0 *ℤ t) +ℤ (k *ℤ s)) +ℤ (negsuc 0 *ℤ d) ≡ (k *ℤ s) -ℤ d
+    unit_is k s t d = by_ring (k ∷ s ∷ t ∷ d ∷ []) (Lit (pos 0) ⊗ Var 2 ⊕ Var 0 ⊗ Var 1 ⊕ Lit (negsuc 0) ⊗ Var 3) (Var 0 ⊗ Var 1 ⊖ Var 3) refl
+
+    too_deep : (s t d l h : ℤ) → IsFlat s t d l h → pos 0 <ℤ d → (h -ℤ l) ≤ℤ flat → d ≤ℤ s → ⊥
+    too_deep s t d l h at hd short le =
+        let long = le_mul d (le_of_lt hd) short in
+        let deep = mul_le {x = d} {y = s} flat (pos_nonneg (2 ^ 60)) le in
+        let positive = positive_times_positive {x = flat} {y = s} (omega (arith, lin)) at.beside in
+        omega (arith, lin, at.after_lo, at.before_hi, sub_mul h l d)
+
+not_below : (k : ℤ) (e f : Seg) (r : Point) → IsInSliver k e r → IsOn f r → (k *ℤ side e (at_coord f.lo)) ≤ℤ pos 0 → (k *ℤ side e (at_coord f.hi)) ≤ℤ pos 0 → ⊥
+not_below k e f r inside on ha hb =
+    let at = λ (p : Point). beside_is k (side e p) (sweep p) (pos p.d) in
+    let low = mix_not_positive-between (pos 0) k (pos 0) e r (at_coord f.lo) (at_coord f.hi) on (omega (arith, lin, at (at_coord f.lo))) (omega (arith, lin, at (at_coord f.hi))) in
+    omega (arith, lin, inside.beside)
+
+-- in range an edge rises by less than 2^60
+pub rise_within : (f : Seg) → IsSegInRange f → IsWithin (2 ^ 60) (rise f)
+unfolding sweep
+rise_within f h = record {
+  low = omega (arith, lin, pos_times (2 ^ 30) f.lo.x, pos_times (2 ^ 30) f.hi.x, h.lo.right, h.lo.top, h.hi.left, h.hi.bottom);
+  high = omega (arith, lin, pos_times (2 ^ 30) f.lo.x, pos_times (2 ^ 30) f.hi.x, h.lo.left, h.lo.bottom, h.hi.right, h.hi.top);
+}
+
+-- nothing that meets the edge in ends alone comes into the flat triangle
+pub sliver_free : (k : ℤ) (e f : Seg) (r : Point) → IsSegInRange e → IsSegInRange f → HaveOnlyEnds e f → IsInSliver k e r → IsOn f r → ⊥
+sliver_free k e f r he hf ends inside on =
+    let up = rises-in_range e he in
+    let small = rise_within f hf in
+    let a = k *ℤ side e (at_coord f.lo) in
+    let b = k *ℤ side e (at_coord f.hi) in
+    let turned = neg_mul k (side e (at_coord f.lo)) in
+    let other = neg_mul k (side e (at_coord f.hi)) in
+    elim (lt_or_ge (pos 0) a) [
+      | inl left_a ↦ elim (lt_or_ge (pos 0) b) [
+        | inl left_b ↦ not_beyond k e f r inside on (rise_within e he).high left_a left_b
+        | inr right_b ↦
+            opposite_ends k (neg_ℤ k) e f r up ends inside on (omega (arith, lin)) (omega (arith, lin)) (omega (arith, lin)) small (inr (neg_mul k (side e r)))
+      ]
+      | inr right_a ↦ elim (lt_or_ge (pos 0) b) [
+        | inl left_b ↦ opposite_ends k k e f r up ends inside on right_a (le_of_lt left_b) (omega (arith, lin)) small (inl refl)
+        | inr right_b ↦ not_below k e f r inside on right_a right_b
+      ]
+    ]
+
+-- so a way in it is clear of all edges of a list that meet in ends alone
+pub sliver_clear : (k : ℤ) (e : Seg) (edges : List Seg) (p q : Point) → ((f : Seg) → Contains edges f → IsSegInRange f) → IsNodedFully edges → Contains edges e
+    → IsInSliver k e p → IsInSliver k e q → IsClear edges p q
+sliver_clear k e edges p q in_range noded c hp hq = λ f i r between on.
+    (let inside = sliver-between k e r p q between hp hq in
+    elim (noded e f c i) [
+      | inl same ↦ (
+          let zero = side_zero-on e r (subst (λ g. IsOn g r) (sym same) on) in
+          let none = ap (λ z. k *ℤ z) zero ∙ mul_zero k in
+          omega (arith, lin, (sliver_numbers k e r inside).beside)
+          )
+      | inr ends ↦ sliver_free k e f r (in_range e c) (in_range f i) ends inside on
+    ])
+
+-- ---- the side points of the edge are in it
+
+in_the_middle : (g l h : ℤ) → pos 0 <ℤ g → g ≡ h -ℤ l → IsFlat g (pos (2 ^ 63) *ℤ (l +ℤ h)) (pos (2 ^ 64)) l h
+in_the_middle g l h positive e = record {
+  beside = positive;
+  after_lo = omega (arith, lin, pos_times (2 ^ 60) g, pos_times (2 ^ 63) (l +ℤ h), mul_comm l (pos (2 ^ 64)), pos_times (2 ^ 64) l);
+  before_hi = omega (arith, lin, pos_times (2 ^ 60) g, pos_times (2 ^ 63) (l +ℤ h), mul_comm h (pos (2 ^ 64)), pos_times (2 ^ 64) h);
+}
+
+pub upper_in_sliver : (e : Seg) → Rises e → IsInSliver (pos 1) e (upper e)
+upper_in_sliver e up =
+    sliver_from_numbers (pos 1) e (upper e)
+    (rw (one_mul (side e (upper e)), side-upper e, sweep-upper e) (in_the_middle (rise e) (sweep (at_coord e.lo)) (sweep (at_coord e.hi)) (omega (arith, lin)) refl))
+
+pub lower_in_sliver : (e : Seg) → Rises e → IsInSliver (negsuc 0) e (lower e)
+lower_in_sliver e up =
+    let turned : negsuc 0 *ℤ side e (lower e) ≡ rise e = ap (λ z. negsuc 0 *ℤ z) (side-lower e) ∙ omega (arith, lin, minus_one_mul (neg_ℤ (rise e))) in
+    sliver_from_numbers (negsuc 0) e (lower e)
+    (rw (turned, sweep-lower e) (in_the_middle (rise e) (sweep (at_coord e.lo)) (sweep (at_coord e.hi)) (omega (arith, lin)) refl))

@@ -62,7 +62,7 @@ sweep_slight x y h = record {
   high = omega (arith, lin, pos_times (2 ^ 30) x, h.x_within.high, h.y_within.high);
 }
 
-length_within : (e : Seg) → IsSegInRange e → IsWithin (2 ^ 25) (e.hi.x -ℤ e.lo.x) × IsWithin (2 ^ 25) (e.hi.y -ℤ e.lo.y)
+pub length_within : (e : Seg) → IsSegInRange e → IsWithin (2 ^ 25) (e.hi.x -ℤ e.lo.x) × IsWithin (2 ^ 25) (e.hi.y -ℤ e.lo.y)
 length_within e h = (
   record { low = omega (arith, lin, h.hi.left, h.lo.right); high = omega (arith, lin, h.hi.right, h.lo.left) },
   record { low = omega (arith, lin, h.hi.bottom, h.lo.top); high = omega (arith, lin, h.hi.top, h.lo.bottom) },

@@ -1,7 +1,9 @@
 -- Half-edges: directed edges that leave a vertex, their order by angle, and the sector between two of them.
-use Rattle.std.specs.Prelude.{◌≡◌, ℕ, Bool, true, false, cond, not, ◌&&◌, ◌||◌, int_lt, IsFalse, pos, List, [], ◌∷◌, flat_map, Some, slice_get, Contains}
+use Rattle.std.specs.Prelude.{◌≡◌, ℕ, Bool, true, false, cond, not, ◌&&◌, ◌||◌, int_lt, pos, List, [], ◌∷◌, flat_map, Some, slice_get, Contains, All}
 use Rattle.cov_types.specs.declared.coord.Coord.{Coord}
 use Rattle.cov_types.specs.declared.seg.Seg.{Seg}
+use Rattle.cov_types.specs.Range.{IsSegInRange}
+use Rattle.plane.specs.Noded.{IsNodedFully}
 use Rattle.plane.specs.Point.{Point}
 use Rattle.plane.specs.Segment.{turn_of, upper, lower}
 
@@ -44,9 +46,18 @@ is_before_by_angle h g = cond h.forwards (not g.forwards || is_left_of g h) (not
 abbrev pub is_in_sector : HalfEdge → HalfEdge → HalfEdge → Bool
 is_in_sector g h k = cond (is_before_by_angle g h) (is_before_by_angle g k && is_before_by_angle k h) (is_before_by_angle g k || is_before_by_angle k h)
 
--- g follows h round the region on the left of h: it begins where h ends, and no half-edge leaves inside the sector from g to the twin of h
+-- h is a half-edge of the list, and leaves v
+pub record Leaves (edges : List Seg) (v : Coord) (h : HalfEdge) : Type 0 where
+  pub among : Contains edges h.edge
+  pub from : origin h ≡ v
+
+-- g follows h round the region on the left of h: it leaves where h ends, and none leaves inside the sector from g to the twin of h
 pub record IsNext (edges : List Seg) (h g : HalfEdge) : Type 0 where
   pub among : Contains edges h.edge
-  pub next_among : Contains edges g.edge
-  pub begins : origin g ≡ target h
-  pub none_inside : (k : HalfEdge) → Contains edges k.edge → origin k ≡ target h → is_in_sector g (twin h) k ≡ false
+  pub leaves : Leaves edges (target h) g
+  pub none_inside : (k : HalfEdge) → Leaves edges (target h) k → is_in_sector g (twin h) k ≡ false
+
+-- the edges are in range, and any two of them are equal or meet in ends alone
+pub record IsPlanar (edges : List Seg) : Type 0 where
+  pub in_range : All IsSegInRange edges
+  pub noded : IsNodedFully edges

@@ -5,3 +5,5 @@ pub mod Vectors
 pub mod Leaving
 pub mod Turns
 pub mod Ends
+pub mod Angles
+pub mod Sectors

@@ -7,3 +7,5 @@ pub mod Turns
 pub mod Ends
 pub mod Angles
 pub mod Sectors
+pub mod Order
+pub mod Next

@@ -10,7 +10,7 @@ use Rattle.sectors.proofs.Near.{cross, IsParted}
 
 -- ---- a way on the other side of the ray than two others
 
-cramer : (x1 y1 x2 y2 cx cy ux uy : ℤ)
+pub cramer : (x1 y1 x2 y2 cx cy ux uy : ℤ)
     → (cross x2 y2 cx cy *ℤ cross x1 y1 ux uy) +ℤ (cross cx cy x1 y1 *ℤ cross x2 y2 ux uy) ≡ cross x2 y2 x1 y1 *ℤ cross cx cy ux uy
 cramer x1 y1 x2 y2 cx cy ux uy =
     by_ring (x1 ∷ y1 ∷ x2 ∷ y2 ∷ cx ∷ cy ∷ ux ∷ uy ∷ [])

@@ -9,3 +9,5 @@ pub mod Angles
 pub mod Sectors
 pub mod Order
 pub mod Next
+pub mod Numbers
+pub mod Exists

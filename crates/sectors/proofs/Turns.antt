@@ -18,7 +18,7 @@ use Rattle.sectors.proofs.Vectors.{other_half_parted, not_left_parted, not_right
 use Rattle.sectors.proofs.Leaving.{ray_x, ray_y, way_x, way_y, same_or_other, edge_in_range, heading_same, heading_small, heading_other, left_cross, not_left_cross, way_within, stretch, slight_way, ray_x_within, ray_y_within}
 
 -- two coordinates are one or they are not
-same_coord_or_not : (a b : Coord) → (a ≡ b) ⊎ ((a ≡ b) → ⊥)
+pub same_coord_or_not : (a b : Coord) → (a ≡ b) ⊎ ((a ≡ b) → ⊥)
 same_coord_or_not a b =
     elim (eq_or_not a.x b.x) [
       | inl e ↦ elim (eq_or_not a.y b.y) [

@@ -1,5 +1,5 @@
 -- Half-edges: directed edges that leave a vertex, their order by angle, and the sector between two of them.
-use Rattle.std.specs.Prelude.{◌≡◌, ℕ, Bool, true, false, cond, not, ◌&&◌, ◌||◌, int_lt, pos, List, [], ◌∷◌, flat_map, Some, slice_get, Contains, All}
+use Rattle.std.specs.Prelude.{◌≡◌, ℕ, Bool, true, false, cond, not, ◌&&◌, ◌||◌, int_lt, pos, List, [], ◌∷◌, flat_map, Some, slice_get, Contains, All, AllPairs}
 use Rattle.cov_types.specs.declared.coord.Coord.{Coord}
 use Rattle.cov_types.specs.declared.seg.Seg.{Seg}
 use Rattle.cov_types.specs.Range.{IsSegInRange}
@@ -56,6 +56,18 @@ pub record IsNext (edges : List Seg) (h g : HalfEdge) : Type 0 where
   pub among : Contains edges h.edge
   pub leaves : Leaves edges (target h) g
   pub none_inside : (k : HalfEdge) → Leaves edges (target h) k → is_in_sector g (twin h) k ≡ false
+
+-- half-edge m follows half-edge n
+pub record IsNextNumber (edges : List Seg) (n m : ℕ) : Type 0 where
+  pub from : HalfEdge
+  pub to : HalfEdge
+  pub from_is : IsHalfEdge edges n from
+  pub to_is : IsHalfEdge edges m to
+  pub follows : IsNext edges from to
+
+-- no edge stands twice in the list
+abbrev pub AreDistinct : List Seg → Type 0
+AreDistinct edges = AllPairs (λ e f. ¬ (e ≡ f)) edges
 
 -- the edges are in range, and any two of them are equal or meet in ends alone
 pub record IsPlanar (edges : List Seg) : Type 0 where

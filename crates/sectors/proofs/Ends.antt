@@ -1,6 +1,6 @@
 -- The points beside a half-edge near its ends: they are in the flat triangle of its edge.
 use mathlib.Core.List.{[], ◌∷◌}
-use Rattle.std.proofs.Common.{◌≡◌, refl, sym, ◌∙◌, ap, ◌^◌, ℤ, pos, neg_ℤ, ◌+ℤ◌, ◌-ℤ◌, ◌*ℤ◌, ◌≤ℤ◌, ◌<ℤ◌, arith}
+use Rattle.std.proofs.Common.{◌≡◌, refl, ◌∙◌, ap, ◌^◌, ℤ, pos, neg_ℤ, ◌+ℤ◌, ◌-ℤ◌, ◌*ℤ◌, ◌<ℤ◌, arith}
 use Rattle.cov_types.specs.declared.seg.Seg.{Seg}
 use Rattle.exact.proofs.Ring.{lin, by_ring, by_two, Var, Lit, ◌⊕◌, ◌⊖◌, ◌⊗◌, Neg, mul_zero, mul_comm, mul_neg, pos_times}
 use Rattle.plane.specs.Point.{at_coord}

@@ -1,11 +1,11 @@
 -- Each half-edge has a next: the one that no other comes before, clockwise from its twin.
 use mathlib.Core.List.{List, [], ◌∷◌}
-use Rattle.std.proofs.Common.{◌≡◌, refl, sym, ◌∙◌, ap, subst, ℕ, zero, suc, ◌<◌, Bool, true, false, not, cond, ◌&&◌, ◌||◌, true≢false, length, Contains, inl, inr, ◌⊎◌, arith}
+use Rattle.std.proofs.Common.{◌≡◌, refl, sym, ◌∙◌, ap, subst, zero, suc, Bool, true, false, cond, ◌&&◌, ◌||◌, true≢false, Contains, inl, inr, ◌⊎◌, arith}
 use Rattle.cov_types.specs.declared.coord.Coord.{Coord}
 use Rattle.cov_types.specs.declared.seg.Seg.{Seg}
 use Rattle.crossings.proofs.Lists.{contains_here, contains_there}
 use Rattle.sectors.specs.Sector.{HalfEdge, origin, target, twin, is_before_by_angle, is_in_sector, Leaves, IsNext, IsPlanar}
-use Rattle.sectors.proofs.Angles.{not_in_less, not_in_rest, true_or_false, not_both}
+use Rattle.sectors.proofs.Angles.{true_or_false, not_both}
 use Rattle.sectors.proofs.Order.{before-asymm, before-trans}
 use Rattle.sectors.proofs.Sectors.{twin_leaves}
 use Rattle.sectors.proofs.Turns.{same_coord_or_not}
@@ -95,16 +95,16 @@ module _ (edges : List Seg) (planar : IsPlanar edges) (v : Coord) where
             elim (true_or_false (is_in_sector g a k)) [
               | inr out ↦ (g, record { leaves = at_g; not_this = λ at. out; not_more = λ m at out_m. out_m })
               | inl inside ↦ (
-                  k,
-                  record {
-                    leaves = at_k;
-                    not_this = λ at. not_in_own k a at_k;
-                    not_more = λ m at_m out. elim (true_or_false (is_in_sector k a m)) [
-                      | inl deeper ↦ absurd (not_both (nested g a k m at_g at_a at_k at_m inside deeper) out)
-                      | inr none ↦ none
-                    ];
-                  },
-                )
+                k,
+                record {
+                  leaves = at_k;
+                  not_this = λ at. not_in_own k a at_k;
+                  not_more = λ m at_m out. elim (true_or_false (is_in_sector k a m)) [
+                    | inl deeper ↦ absurd (not_both (nested g a k m at_g at_a at_k at_m inside deeper) out)
+                    | inr none ↦ none
+                  ];
+                },
+              )
             ]
             )
       ]

@@ -1,16 +1,15 @@
 -- The half-edges that leave a vertex, as ways from it.
 use mathlib.Core.List.{List, [], ◌∷◌}
-use Rattle.std.proofs.Common.{◌≡◌, refl, sym, ◌∙◌, ap, subst, Bool, true, false, not, cond, ◌^◌, ◌+◌, ◌*◌, lit≤, Contains, ℤ, pos, negsuc, neg_ℤ, ◌+ℤ◌, ◌-ℤ◌, ◌*ℤ◌, ◌≤ℤ◌, ◌<ℤ◌, int_lt, inl, inr, ◌⊎◌, arith}
+use Rattle.std.proofs.Common.{◌≡◌, refl, ap, subst, Bool, true, false, not, ◌^◌, Contains, ℤ, pos, negsuc, neg_ℤ, ◌+ℤ◌, ◌-ℤ◌, ◌*ℤ◌, ◌≤ℤ◌, ◌<ℤ◌, inl, inr, ◌⊎◌, arith}
 use Rattle.std.proofs.lemmas.List.Elements.{All-contains}
 use Rattle.cov_types.specs.declared.coord.Coord.{Coord}
 use Rattle.cov_types.specs.declared.seg.Seg.{Seg}
 use Rattle.cov_types.specs.Range.{IsSegInRange}
-use Rattle.exact.proofs.Bound.{IsWithin, within_product, within_sum, within_more}
+use Rattle.exact.proofs.Bound.{IsWithin}
 use Rattle.exact.proofs.Compare.{int_tests}
 use Rattle.exact.proofs.Ring.{lin, by_ring, Term, Var, Lit, ◌⊕◌, ◌⊖◌, ◌⊗◌, Neg, pos_times}
-use Rattle.plane.specs.Point.{at_coord}
 use Rattle.plane.specs.Segment.{turn_of}
-use Rattle.plane.specs.Ray.{sweep, Rises}
+use Rattle.plane.specs.Ray.{sweep}
 use Rattle.plane.proofs.Sweeps.{rises-in_range}
 use Rattle.crossings.proofs.Beside.{rise}
 use Rattle.sectors.specs.Sector.{HalfEdge, origin, target, is_left_of, Leaves, IsPlanar}

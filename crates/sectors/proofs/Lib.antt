@@ -9,5 +9,6 @@ pub mod Angles
 pub mod Sectors
 pub mod Order
 pub mod Next
-pub mod Numbers
 pub mod Exists
+pub mod Numbers
+pub mod Fans

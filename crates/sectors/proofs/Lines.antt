@@ -1,11 +1,11 @@
 -- Ways on one side of a line, and forms made of the sweep value and the side.
 use mathlib.Core.List.{[], ◌∷◌}
-use Rattle.std.proofs.Common.{◌≡◌, refl, sym, ◌∙◌, ap, ◌^◌, ℤ, pos, neg_ℤ, ◌+ℤ◌, ◌-ℤ◌, ◌*ℤ◌, ◌≤ℤ◌, ◌<ℤ◌, arith}
+use Rattle.std.proofs.Common.{◌≡◌, refl, sym, ◌∙◌, ◌^◌, ℤ, pos, ◌+ℤ◌, ◌*ℤ◌, ◌≤ℤ◌, ◌<ℤ◌, arith}
 use Rattle.cov_types.specs.declared.seg.Seg.{Seg}
 use Rattle.exact.proofs.Ring.{lin, by_ring, Var, Lit, ◌⊕◌, ◌⊗◌}
 use Rattle.exact.proofs.Compare.{lt_excludes_le}
 use Rattle.plane.specs.Point.{Point, at_coord, IsBetween}
-use Rattle.plane.specs.Segment.{side, IsOn}
+use Rattle.plane.specs.Segment.{side}
 use Rattle.plane.specs.Ray.{sweep}
 use Rattle.plane.proofs.Forms.{form, form_positive-between, form_not_positive-between, form_not_negative-between, form_zero-between}
 use Rattle.plane.proofs.Sides.{side-form, side_a, side_b, side_c}

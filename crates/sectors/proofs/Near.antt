@@ -3,11 +3,10 @@ use mathlib.Core.List.{[], ◌∷◌}
 use Rattle.std.proofs.Common.{◌≡◌, refl, sym, ◌∙◌, ap, subst, lit≤, ◌+◌, ◌*◌, ◌^◌, ℤ, pos, negsuc, neg_ℤ, ◌+ℤ◌, ◌-ℤ◌, ◌*ℤ◌, ◌≤ℤ◌, ◌<ℤ◌, inl, inr, ◌⊎◌, unsigned_abs, arith}
 use Rattle.cov_types.specs.declared.coord.Coord.{Coord}
 use Rattle.cov_types.specs.declared.seg.Seg.{Seg}
-use Rattle.cov_types.specs.Range.{IsInRange, IsSegInRange}
-use Rattle.exact.proofs.Bound.{IsWithin, within_product, within_sum, within_difference, within_more, within_abs}
-use Rattle.exact.proofs.Compare.{le_of_lt, lt_or_ge, sign_cases}
+use Rattle.cov_types.specs.Range.{IsSegInRange}
+use Rattle.exact.proofs.Bound.{IsWithin, within_product, within_difference, within_more, within_abs}
+use Rattle.exact.proofs.Compare.{lt_or_ge, sign_cases}
 use Rattle.exact.proofs.Order.{mul_le}
-use Rattle.exact.proofs.Cast.{pos_nonneg}
 use Rattle.exact.proofs.Ring.{lin, by_ring, Var, Lit, ◌⊕◌, ◌⊖◌, ◌⊗◌, Neg, mul_one, one_mul, minus_one_mul, mul_zero, mul_comm, mul_neg, pos_times}
 use Rattle.exact.proofs.Sign.{positive_times_positive}
 use Rattle.plane.specs.Point.{Point, at_coord}
@@ -17,7 +16,7 @@ use Rattle.plane.proofs.Forms.{form}
 use Rattle.plane.proofs.Sides.{side-lo, side-hi}
 use Rattle.plane.proofs.Sweeps.{on_from_sweep, rises-in_range}
 use Rattle.crossings.proofs.Sides.{Misses}
-use Rattle.sectors.proofs.Lines.{mix, mix_parted, parted_above}
+use Rattle.sectors.proofs.Lines.{mix_parted, parted_above}
 use Rattle.sectors.proofs.Sliver.{beside_is}
 
 -- the denominator of the points near a vertex

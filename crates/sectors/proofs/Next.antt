@@ -1,11 +1,10 @@
 -- A half-edge has one next, and is the next of one.
 use mathlib.Core.List.{List}
-use Rattle.std.proofs.Common.{◌≡◌, refl, sym, ◌∙◌, ap, subst, Bool, true, false, not, cond, ◌&&◌, ◌||◌, true≢false, Contains, inl, inr, ◌⊎◌}
-use Rattle.cov_types.specs.declared.coord.Coord.{Coord}
+use Rattle.std.proofs.Common.{◌≡◌, refl, sym, ◌∙◌, ap, subst, Bool, true, false, cond, ◌&&◌, ◌||◌, inl, inr}
 use Rattle.cov_types.specs.declared.seg.Seg.{Seg}
-use Rattle.sectors.specs.Sector.{HalfEdge, origin, target, twin, is_before_by_angle, is_in_sector, Leaves, IsNext, IsPlanar}
+use Rattle.sectors.specs.Sector.{HalfEdge, target, twin, is_before_by_angle, is_in_sector, Leaves, IsNext, IsPlanar}
 use Rattle.sectors.proofs.Angles.{not_in_less, not_in_rest, true_or_false, not_both}
-use Rattle.sectors.proofs.Order.{one_or_before, before-asymm, before-trans}
+use Rattle.sectors.proofs.Order.{one_or_before}
 use Rattle.sectors.proofs.Sectors.{twin_leaves}
 
 -- ---- of two that come one before the other, one is in the sector that ends, or begins, at the other

@@ -1,16 +1,18 @@
 -- The numbers of half-edges: 2k and 2k + 1 are the two of edge k, and the sides on their left.
 use mathlib.Core.List.{List, [], ◌∷◌}
-use Rattle.std.proofs.Common.{◌≡◌, refl, sym, ◌∙◌, ap, subst, ℕ, zero, suc, ◌+◌, ◌*◌, ◌<◌, Bool, true, false, true≢false, map, flat_map, length, Option, Some, None, slice_get, option_map, Contains, AllPairs, inl, inr, ◌⊎◌, arith}
-use Rattle.std.proofs.lemmas.Option.{slice_get-map, none-some, same_Some}
+use Rattle.std.proofs.Common.{◌≡◌, refl, sym, ◌∙◌, ap, subst, ℕ, zero, suc, ◌+◌, ◌*◌, ◌/◌, ◌%◌, ◌<◌, ◌==◌, Bool, true, false, true≢false, map, length, Some, slice_get, option_map, Contains, inl, inr, ◌⊎◌, arith}
+use Rattle.std.proofs.lemmas.Bool.{cases_eq}
+use Rattle.std.proofs.lemmas.Option.{slice_get-map, slice_get-get_or, none-some, same_Some}
 use Rattle.cov_types.specs.declared.seg.Seg.{Seg}
 use Rattle.plane.specs.Point.{Point}
 use Rattle.plane.specs.Segment.{upper, lower}
 use Rattle.plane.specs.Joined.{Joined}
 use Rattle.plane.specs.Region.{side_points, IsSide}
 use Rattle.crossings.proofs.Lists.{contains_here, contains_there}
-use Rattle.sectors.specs.Sector.{HalfEdge, left, half_edges, IsHalfEdge, IsNext, IsNextNumber, IsPlanar, AreDistinct}
+use Rattle.sectors.specs.Sector.{HalfEdge, left, twin, half_edges, IsHalfEdge, IsNext, IsNextNumber, IsPlanar, AreDistinct}
 use Rattle.sectors.proofs.Sectors.{next_joined}
 use Rattle.sectors.proofs.Next.{one_next, next_of_one}
+use Rattle.sectors.proofs.Exists.{some_next}
 
 same : {X : Type 0} {x y : X} → Some x ≡ Some y → x ≡ y
 same {X} {x} {y} h = same_Some x y h
@@ -98,3 +100,50 @@ next_of_one_number edges planar distinct n k m h g =
     let to = one_half_edge edges m g.to h.to g.to_is h.to_is in
     let from = next_of_one edges planar h.from g.from h.to h.follows (subst (λ f. IsNext edges g.from f) to g.follows) in
     one_number edges distinct n k h.from h.from_is (subst (λ f. IsHalfEdge edges k f) (sym from) g.from_is)
+
+-- ---- from number to half-edge and back
+
+even_or_odd : (n : ℕ) → (n % 2 ≡ 0) ⊎ (n % 2 ≡ 1)
+even_or_odd n =
+    elim (cases_eq (n % 2) 0) [
+      | inl even ↦ inl even
+      | inr odd ↦ inr (let small : n % 2 < 2 = omega arith in omega (arith, odd))
+    ]
+
+pub half_edge_at : (edges : List Seg) (n : ℕ) (e : Seg) → slice_get edges (n / 2) ≡ Some e → IsHalfEdge edges n (record { edge = e; forwards = n % 2 == 0 })
+half_edge_at edges n e at =
+    elim (even_or_odd n) [
+      | inl even ↦
+          subst (λ b. IsHalfEdge edges n (record { edge = e; forwards = b })) (sym (ap (λ r. r == 0) even))
+          (subst (λ k. IsHalfEdge edges k (record { edge = e; forwards = true })) (omega arith) (forwards_number edges (n / 2) e at))
+      | inr odd ↦
+          subst (λ b. IsHalfEdge edges n (record { edge = e; forwards = b })) (sym (ap (λ r. r == 0) odd))
+          (subst (λ k. IsHalfEdge edges k (record { edge = e; forwards = false })) (omega arith) (back_number edges (n / 2) e at))
+    ]
+
+pub twin_number : (edges : List Seg) (k : ℕ) (h : HalfEdge) → IsHalfEdge edges (2 * k) h → IsHalfEdge edges (2 * k + 1) (twin h)
+twin_number [] k h at = absurd (none-some h at)
+twin_number (e ∷ es) zero h at = ap (λ o. option_map twin o) at
+twin_number (e ∷ es) (suc k) h at =
+    let twice : 2 * suc k ≡ suc (suc (2 * k)) = omega arith in
+    let above : 2 * suc k + 1 ≡ suc (suc (2 * k + 1)) = omega arith in
+    ap (λ n. slice_get (half_edges (e ∷ es)) n) above ∙ twin_number es k h (sym (ap (λ n. slice_get (half_edges (e ∷ es)) n) twice) ∙ at)
+
+pub some_number : (edges : List Seg) (h : HalfEdge) → Contains edges h.edge → (n : ℕ) × IsHalfEdge edges n h
+some_number edges h (k, below, is) = by_direction h.forwards (slice_get-get_or edges k h.edge below ∙ ap Some is)
+  where
+    by_direction : (b : Bool) → slice_get edges k ≡ Some h.edge → (n : ℕ) × IsHalfEdge edges n (record { edge = h.edge; forwards = b })
+    by_direction true at = (2 * k, forwards_number edges k h.edge at)
+    by_direction false at = (2 * k + 1, back_number edges k h.edge at)
+
+pub some_next_number : (edges : List Seg) → IsPlanar edges → (n : ℕ) → n < length (half_edges edges) → (m : ℕ) × IsNextNumber edges n m
+some_next_number edges planar n below =
+    let (h, at_n) = some_half_edge (half_edges edges) n below in
+    let (g, next) = some_next edges planar h (half_edge_among edges n h at_n) in
+    let (m, at_m) = some_number edges g next.leaves.among in
+    (m, record { from = h; to = g; from_is = at_n; to_is = at_m; follows = next })
+  where
+    some_half_edge : (all : List HalfEdge) (i : ℕ) → i < length all → (h : HalfEdge) × (slice_get all i ≡ Some h)
+    some_half_edge [] i lt = absurd (omega arith)
+    some_half_edge (h ∷ hs) zero lt = (h, refl)
+    some_half_edge (h ∷ hs) (suc i) lt = some_half_edge hs i (omega arith)

@@ -1,12 +1,12 @@
 -- The half-edges that leave a vertex are strictly ordered by angle, and two in one direction are one.
 use mathlib.Core.List.{List}
-use Rattle.std.proofs.Common.{◌≡◌, refl, sym, ◌∙◌, ap, Bool, true, false, not, true≢false, Contains, ℤ, pos, neg_ℤ, ◌+ℤ◌, ◌*ℤ◌, ◌≤ℤ◌, ◌<ℤ◌, int_lt, inl, inr, ◌⊎◌, arith}
+use Rattle.std.proofs.Common.{◌≡◌, refl, sym, ◌∙◌, ap, Bool, true, false, true≢false, ℤ, pos, neg_ℤ, ◌≤ℤ◌, ◌<ℤ◌, inl, inr, ◌⊎◌, arith}
 use Rattle.cov_types.specs.declared.coord.Coord.{Coord}
 use Rattle.cov_types.specs.declared.seg.Seg.{Seg}
 use Rattle.cov_types.proofs.Equal.{same_segs}
 use Rattle.exact.proofs.Compare.{int_tests, le_or_gt, le_of_lt, sign_cases}
 use Rattle.exact.proofs.Ring.{lin, mul_one, mul_comm}
-use Rattle.exact.proofs.Sign.{positive_times_positive, positive_cofactor, positive_factor}
+use Rattle.exact.proofs.Sign.{positive_times_positive, positive_factor}
 use Rattle.plane.specs.Point.{at_coord}
 use Rattle.plane.specs.Segment.{turn_of}
 use Rattle.plane.specs.Ray.{sweep, Rises}
@@ -17,7 +17,7 @@ use Rattle.plane.proofs.Sweeps.{on_from_sweep, rises-in_range}
 use Rattle.sectors.specs.Sector.{HalfEdge, is_left_of, is_before_by_angle, Leaves, IsPlanar}
 use Rattle.sectors.proofs.Near.{cross, cross-swap}
 use Rattle.sectors.proofs.Vectors.{cramer}
-use Rattle.sectors.proofs.Leaving.{ray_x, ray_y, way_x, way_y, edge_in_range, heading_same, turn_cross, left_cross, not_left_cross}
+use Rattle.sectors.proofs.Leaving.{ray_x, ray_y, way_x, way_y, edge_in_range, heading_same, turn_cross, left_cross}
 use Rattle.sectors.proofs.Turns.{same_from_point}
 
 -- ---- two edges that meet in ends alone and lead from one end in one direction are one

@@ -1,13 +1,12 @@
 -- The side points on the left of a half-edge and of the next one are joined.
-use mathlib.Core.List.{List, [], ◌∷◌}
-use Rattle.std.proofs.Common.{◌≡◌, refl, sym, ◌∙◌, subst, Bool, true, false, not, ◌^◌, Contains, ℤ, pos, negsuc, neg_ℤ, ◌*ℤ◌, inl, inr, ◌⊎◌}
+use mathlib.Core.List.{List}
+use Rattle.std.proofs.Common.{◌≡◌, refl, sym, ◌∙◌, subst, Bool, true, false, not, Contains, pos, negsuc, neg_ℤ, inl, inr}
 use Rattle.cov_types.specs.declared.coord.Coord.{Coord}
 use Rattle.cov_types.specs.declared.seg.Seg.{Seg}
-use Rattle.plane.specs.Point.{Point}
 use Rattle.plane.specs.Segment.{upper, lower}
 use Rattle.plane.specs.Joined.{IsClear, Joined}
 use Rattle.plane.proofs.Sweeps.{rises-in_range}
-use Rattle.crossings.proofs.Ways.{joined-trans, joined_by_clear, clear-sym}
+use Rattle.crossings.proofs.Ways.{joined-trans, joined_by_clear}
 use Rattle.sectors.specs.Sector.{HalfEdge, origin, target, left, twin, is_left_of, is_before_by_angle, is_in_sector, Leaves, IsNext, IsPlanar}
 use Rattle.sectors.proofs.Near.{near}
 use Rattle.sectors.proofs.Leaving.{ray_x, ray_y, edge_in_range}

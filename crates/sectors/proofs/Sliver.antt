@@ -6,8 +6,8 @@ use Rattle.cov_types.specs.Range.{IsSegInRange}
 use Rattle.exact.proofs.Bound.{IsWithin}
 use Rattle.exact.proofs.Cast.{pos_nonneg, positive_natural}
 use Rattle.exact.proofs.Compare.{le_of_lt, lt_or_ge}
-use Rattle.exact.proofs.Order.{cancel_lt_right, le_mul, mul_le, mul_lt}
-use Rattle.exact.proofs.Ring.{lin, by_ring, by_one, Var, Lit, ◌⊕◌, ◌⊖◌, ◌⊗◌, Neg, mul_one, one_mul, neg_mul, mul_neg, mul_sub, sub_mul, mul_zero, mul_comm, minus_one_mul, pos_times}
+use Rattle.exact.proofs.Order.{cancel_lt_right, le_mul, mul_le}
+use Rattle.exact.proofs.Ring.{lin, by_ring, by_one, Var, Lit, ◌⊕◌, ◌⊖◌, ◌⊗◌, Neg, mul_one, one_mul, neg_mul, mul_neg, sub_mul, mul_zero, mul_comm, minus_one_mul, pos_times}
 use Rattle.exact.proofs.Sign.{positive_times_positive}
 use Rattle.plane.specs.Point.{Point, at_coord, IsBetween}
 use Rattle.plane.specs.Segment.{side, upper, lower, IsOn}
@@ -18,7 +18,7 @@ use Rattle.plane.proofs.Points.{d_positive, between_by}
 use Rattle.plane.proofs.Forms.{form}
 use Rattle.plane.proofs.Sides.{side-form, side_zero-on}
 use Rattle.plane.proofs.Sweeps.{sweep-form, sweep-same, on_from_sweep, rises-in_range}
-use Rattle.crossings.proofs.Beside.{HaveOnlyEnds, rise, sweep_sum, sweep-upper, sweep-lower, side-upper, side-lower}
+use Rattle.crossings.proofs.Beside.{HaveOnlyEnds, rise, sweep-upper, sweep-lower, side-upper, side-lower}
 use Rattle.sectors.proofs.Lines.{mix, mix_positive-between, mix_not_positive-between, mix_not_negative-between, mix_zero-between}
 
 -- how much flatter than the edge is long

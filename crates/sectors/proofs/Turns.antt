@@ -1,6 +1,6 @@
 -- Turning round a vertex, clockwise from beside one half-edge to beside another.
 use mathlib.Core.List.{List}
-use Rattle.std.proofs.Common.{◌≡◌, refl, sym, ◌∙◌, ap, subst, Bool, true, false, not, ◌^◌, lit≤, Contains, ℤ, pos, neg_ℤ, ◌+ℤ◌, ◌-ℤ◌, ◌*ℤ◌, ◌≤ℤ◌, ◌<ℤ◌, inl, inr, ◌⊎◌, arith}
+use Rattle.std.proofs.Common.{◌≡◌, refl, sym, ◌∙◌, ap, subst, Bool, true, false, not, lit≤, Contains, ℤ, pos, neg_ℤ, ◌+ℤ◌, ◌*ℤ◌, ◌<ℤ◌, inl, inr, ◌⊎◌, arith}
 use Rattle.cov_types.specs.declared.coord.Coord.{Coord}
 use Rattle.cov_types.specs.declared.seg.Seg.{Seg}
 use Rattle.cov_types.proofs.Order.{same_coords}
@@ -11,9 +11,8 @@ use Rattle.plane.specs.Point.{Point, at_coord, SamePoint}
 use Rattle.plane.specs.Segment.{IsOn}
 use Rattle.plane.specs.Joined.{IsClear}
 use Rattle.plane.proofs.Points.{first_between, second_between}
-use Rattle.crossings.proofs.Sides.{Misses}
-use Rattle.sectors.specs.Sector.{HalfEdge, origin, target, is_left_of, Leaves, IsPlanar}
-use Rattle.sectors.proofs.Near.{near, cross, cross-same, cross-swap, IsSlight, IsParted, HasEnds, far_misses, parted_misses}
+use Rattle.sectors.specs.Sector.{HalfEdge, origin, is_left_of, Leaves, IsPlanar}
+use Rattle.sectors.proofs.Near.{near, cross, cross-same, IsSlight, IsParted, far_misses, parted_misses}
 use Rattle.sectors.proofs.Vectors.{other_half_parted, not_left_parted, not_right_parted, left_from_ray, right_from_ray, spread_to_ray, spread_from_ray, ray_self, back_is, spread_in_half}
 use Rattle.sectors.proofs.Leaving.{ray_x, ray_y, way_x, way_y, same_or_other, edge_in_range, heading_same, heading_small, heading_other, left_cross, not_left_cross, way_within, stretch, slight_way, ray_x_within, ray_y_within}
 
@@ -192,8 +191,8 @@ module _ (edges : List Seg) (planar : IsPlanar edges) (v : Coord) where
   to_ahead b e c ends none =
       turn_clear e c ends (ray_x b) (ray_y b) (ray_y b) (neg_ℤ (ray_x b)) (ray_slight b) (ahead_slight b) (ahead_left b)
       (λ k at.
-        other_half_parted (ray_x b) (ray_y b) (ray_y b) (neg_ℤ (ray_x b)) (way_x v k) (way_y v k) (ray_x b) (ray_y b) (ahead_left b)
-        (le_of_eq (sym (cross-same (ray_x b) (ray_y b)))) (le_of_lt (ahead_left b)) (heading_other edges planar v b k at (none k at)))
+      other_half_parted (ray_x b) (ray_y b) (ray_y b) (neg_ℤ (ray_x b)) (way_x v k) (way_y v k) (ray_x b) (ray_y b) (ahead_left b)
+      (le_of_eq (sym (cross-same (ray_x b) (ray_y b)))) (le_of_lt (ahead_left b)) (heading_other edges planar v b k at (none k at)))
 
   pub from_ahead : (b : Bool) (e : Seg) → Contains edges e → EndsAt v e → ((k : HalfEdge) → Leaves edges v k → k.forwards ≡ not b)
       → IsClear edges (near v (ray_y b) (neg_ℤ (ray_x b))) (near v (neg_ℤ (ray_x b)) (neg_ℤ (ray_y b)))
@@ -201,5 +200,5 @@ module _ (edges : List Seg) (planar : IsPlanar edges) (v : Coord) where
       let spread = back_left (ray_y b) (neg_ℤ (ray_x b)) (ray_x b) (ray_y b) (ahead_left b) in
       turn_clear e c ends (ray_y b) (neg_ℤ (ray_x b)) (neg_ℤ (ray_x b)) (neg_ℤ (ray_y b)) (ahead_slight b) (back_slight b) spread
       (λ k at.
-        other_half_parted (ray_y b) (neg_ℤ (ray_x b)) (neg_ℤ (ray_x b)) (neg_ℤ (ray_y b)) (way_x v k) (way_y v k) (ray_x b) (ray_y b) spread
-        (le_of_lt (ahead_left b)) (le_of_eq (sym (ray_self (ray_x b) (ray_y b)))) (heading_other edges planar v b k at (none k at)))
+      other_half_parted (ray_y b) (neg_ℤ (ray_x b)) (neg_ℤ (ray_x b)) (neg_ℤ (ray_y b)) (way_x v k) (way_y v k) (ray_x b) (ray_y b) spread
+      (le_of_lt (ahead_left b)) (le_of_eq (sym (ray_self (ray_x b) (ray_y b)))) (heading_other edges planar v b k at (none k at)))

@@ -1,9 +1,9 @@
 -- Ways from a vertex as pairs of whole numbers: which of them are in the sector of two others. Over plain variables; (ux, uy) leads up
 -- along the ray, or down, and is on the left of the ways of one half.
 use mathlib.Core.List.{[], ◌∷◌}
-use Rattle.std.proofs.Common.{◌≡◌, refl, sym, ◌∙◌, ap, ◌^◌, ℤ, pos, neg_ℤ, ◌+ℤ◌, ◌-ℤ◌, ◌*ℤ◌, ◌≤ℤ◌, ◌<ℤ◌, inl, inr, ◌⊎◌, arith}
+use Rattle.std.proofs.Common.{◌≡◌, refl, ℤ, pos, neg_ℤ, ◌+ℤ◌, ◌-ℤ◌, ◌*ℤ◌, ◌≤ℤ◌, ◌<ℤ◌, inl, inr, arith}
 use Rattle.exact.proofs.Compare.{le_of_lt, lt_or_ge}
-use Rattle.exact.proofs.Order.{mul_le, mul_lt}
+use Rattle.exact.proofs.Order.{mul_le}
 use Rattle.exact.proofs.Ring.{lin, by_ring, Var, Lit, ◌⊕◌, ◌⊖◌, ◌⊗◌, Neg, mul_one}
 use Rattle.exact.proofs.Sign.{nonneg_times_nonneg, positive_times_positive, positive_times_negative, nonneg_times_nonpos}
 use Rattle.sectors.proofs.Near.{cross, IsParted}

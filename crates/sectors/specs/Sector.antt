@@ -1,5 +1,5 @@
 -- Half-edges: directed edges that leave a vertex, their order by angle, and the sector between two of them.
-use Rattle.std.specs.Prelude.{◌≡◌, ℕ, Bool, true, false, cond, not, ◌&&◌, ◌||◌, int_lt, pos, List, [], ◌∷◌, flat_map, Some, slice_get, Contains, All, AllPairs}
+use Rattle.std.specs.Prelude.{◌≡◌, ◌↔◌, ℕ, Bool, true, false, cond, not, ◌&&◌, ◌||◌, int_lt, pos, List, [], ◌∷◌, flat_map, Some, slice_get, Contains, All, AllPairs}
 use Rattle.cov_types.specs.declared.coord.Coord.{Coord}
 use Rattle.cov_types.specs.declared.seg.Seg.{Seg}
 use Rattle.cov_types.specs.Range.{IsSegInRange}
@@ -56,6 +56,11 @@ pub record IsNext (edges : List Seg) (h g : HalfEdge) : Type 0 where
   pub among : Contains edges h.edge
   pub leaves : Leaves edges (target h) g
   pub none_inside : (k : HalfEdge) → Leaves edges (target h) k → is_in_sector g (twin h) k ≡ false
+
+-- the half-edges that leave v, counter-clockwise from straight down the ray
+pub record IsFan (edges : List Seg) (v : Coord) (fan : List HalfEdge) : Type 0 where
+  pub in_order : AllPairs (λ h g. is_before_by_angle h g ≡ true) fan
+  pub members : (h : HalfEdge) → Contains fan h ↔ Leaves edges v h
 
 -- half-edge m follows half-edge n
 pub record IsNextNumber (edges : List Seg) (n m : ℕ) : Type 0 where

@@ -7,8 +7,7 @@ use Rattle.exact.proofs.Compare.{lt_or_ge}
 use Rattle.exact.proofs.Cast.{pos_nonneg, pos_injective, natural}
 use Rattle.plane.specs.Point.{Point, at_coord, IsBetween}
 use Rattle.plane.specs.Segment.{side, IsOn}
-use Rattle.plane.proofs.Points.{between_by}
-use Rattle.plane.proofs.Forms.{weights_positive}
+use Rattle.plane.proofs.Points.{between_by, weights_positive}
 use Rattle.crossings.specs.Meeting.{side_from, IsMeeting}
 
 -- ---- four points of the plane, over plain variables: the edge from (lx, ly) to (hx, hy), the points (px, py, pd) and (qx, qy, qd)

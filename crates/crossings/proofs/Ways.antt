@@ -6,8 +6,7 @@ use Rattle.exact.proofs.Ring.{lin, by_one, by_two, Var, Lit, ◌⊕◌, ◌⊗�
 use Rattle.exact.proofs.Order.{cancel_eq}
 use Rattle.plane.specs.Point.{Point, SamePoint, IsBetween}
 use Rattle.plane.specs.Joined.{IsOff, IsClear, Leads, Joined}
-use Rattle.plane.proofs.Points.{between-sym, between-moved, same_point-sym, first_between}
-use Rattle.plane.proofs.Forms.{weights_positive}
+use Rattle.plane.proofs.Points.{between-sym, between-moved, same_point-sym, first_between, weights_positive}
 use Rattle.crossings.proofs.Sides.{Misses}
 
 pub clear-sym : (edges : List Seg) (p q : Point) → IsClear edges p q → IsClear edges q p

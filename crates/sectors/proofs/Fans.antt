@@ -7,6 +7,7 @@ use Rattle.cov_types.specs.declared.coord.Coord.{Coord}
 use Rattle.cov_types.specs.declared.seg.Seg.{Seg}
 use Rattle.sectors.specs.Sector.{HalfEdge, origin, target, twin, is_before_by_angle, is_in_sector, Leaves, IsNext, IsFan, IsPlanar}
 use Rattle.sectors.proofs.Order.{before-asymm}
+use Rattle.sectors.proofs.Next.{twin-twin}
 use Rattle.sectors.proofs.Exists.{before-irrefl}
 
 out_of_less : (g a k : HalfEdge) → is_before_by_angle g a ≡ true → (is_before_by_angle g k ≡ false) ⊎ (is_before_by_angle k a ≡ false) → is_in_sector g a k ≡ false
@@ -29,13 +30,6 @@ twin_target : (a : HalfEdge) → target (twin a) ≡ origin a
 twin_target a = by_direction a.edge a.forwards
   where
     by_direction : (e : Seg) (b : Bool) → target (twin (record { edge = e; forwards = b })) ≡ origin (record { edge = e; forwards = b })
-    by_direction e true = refl
-    by_direction e false = refl
-
-twin_twin : (a : HalfEdge) → twin (twin a) ≡ a
-twin_twin a = by_direction a.edge a.forwards
-  where
-    by_direction : (e : Seg) (b : Bool) → twin (twin (record { edge = e; forwards = b })) ≡ record { edge = e; forwards = b }
     by_direction e true = refl
     by_direction e false = refl
 
@@ -70,7 +64,7 @@ module _ (edges : List Seg) (planar : IsPlanar edges) (v : Coord) (fan : List Ha
       record {
         among = at_a.among;
         leaves = subst (λ o. Leaves edges o g) (sym ends) at_g;
-        none_inside = λ k at. subst (λ b. is_in_sector g b k ≡ false) (sym (twin_twin a)) (none k (subst (λ o. Leaves edges o k) ends at));
+        none_inside = λ k at. subst (λ b. is_in_sector g b k ≡ false) (sym (twin-twin a)) (none k (subst (λ o. Leaves edges o k) ends at));
       }
 
   pub fan_next : (i : ℕ) (g a : HalfEdge) → slice_get fan i ≡ Some g → slice_get fan (i + 1) ≡ Some a → IsNext edges (twin a) g

@@ -50,9 +50,6 @@ same_or_other false false = inl refl
 
 -- ---- the ray is on the left, as far as the edge rises
 
-abbrev turned_ray : (lx ly hx hy : Term) → Term
-turned_ray lx ly hx hy = (hx ⊖ lx) ⊗ Lit (pos (2 ^ 30)) ⊖ (hy ⊖ ly) ⊗ Lit (negsuc 0)
-
 abbrev rise_term : Term
 rise_term = Lit (pos (2 ^ 30)) ⊗ Var 2 ⊕ Var 3 ⊖ (Lit (pos (2 ^ 30)) ⊗ Var 0 ⊕ Var 1)
 

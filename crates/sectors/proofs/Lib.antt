@@ -10,5 +10,6 @@ pub mod Sectors
 pub mod Order
 pub mod Next
 pub mod Exists
+pub mod Shapes
 pub mod Numbers
 pub mod Fans

@@ -36,7 +36,7 @@ one_reached a c g before out_a out_c =
 
 -- ---- the next
 
-twin-twin : (h : HalfEdge) → twin (twin h) ≡ h
+pub twin-twin : (h : HalfEdge) → twin (twin h) ≡ h
 twin-twin h = by_direction h.edge h.forwards
   where
     by_direction : (e : Seg) (b : Bool) → twin (twin (record { edge = e; forwards = b })) ≡ record { edge = e; forwards = b }

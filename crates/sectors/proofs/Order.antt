@@ -1,6 +1,6 @@
 -- The half-edges that leave a vertex are strictly ordered by angle, and two in one direction are one.
 use mathlib.Core.List.{List}
-use Rattle.std.proofs.Common.{◌≡◌, refl, sym, ◌∙◌, ap, Bool, true, false, true≢false, ℤ, pos, neg_ℤ, ◌≤ℤ◌, ◌<ℤ◌, inl, inr, ◌⊎◌, arith}
+use Rattle.std.proofs.Common.{◌≡◌, refl, sym, ◌∙◌, ap, subst, Bool, true, false, true≢false, ℤ, pos, neg_ℤ, ◌≤ℤ◌, ◌<ℤ◌, inl, inr, ◌⊎◌, arith}
 use Rattle.cov_types.specs.declared.coord.Coord.{Coord}
 use Rattle.cov_types.specs.declared.seg.Seg.{Seg}
 use Rattle.cov_types.proofs.Equal.{same_segs}
@@ -89,12 +89,18 @@ module _ (edges : List Seg) (planar : IsPlanar edges) (v : Coord) where
             (turn_cross edges planar v h g at_g ∙ zero_turned h g at_h at_g zero) (le_of_lt longer))
       ]
 
+  pub same_half_zero : (h g : HalfEdge) → Leaves edges v h → Leaves edges v g → h.forwards ≡ g.forwards → cross (way_x v h) (way_y v h) (way_x v g) (way_y v g) ≡ pos 0 → h ≡ g
+  same_half_zero h g at_h at_g half zero =
+      let turned : g ≡ record { edge = g.edge; forwards = h.forwards } = λ i. record { edge = g.edge; forwards = sym half i } in
+      let same = same_direction h.edge g.edge h.forwards at_h (subst (λ k. Leaves edges v k) turned at_g) (subst (λ k. cross (way_x v h) (way_y v h) (way_x v k) (way_y v k) ≡ pos 0) turned zero) in
+      λ i. record { edge = same i; forwards = half i }
+
   -- ---- of two half-edges one comes first, or they are one
 
-  cross_left : (g h : HalfEdge) → Leaves edges v h → pos 0 <ℤ cross (way_x v h) (way_y v h) (way_x v g) (way_y v g) → is_left_of g h ≡ true
+  pub cross_left : (g h : HalfEdge) → Leaves edges v h → pos 0 <ℤ cross (way_x v h) (way_y v h) (way_x v g) (way_y v g) → is_left_of g h ≡ true
   cross_left g h leaves left = omega (arith, lin, int_tests, turn_cross edges planar v g h leaves)
 
-  cross_not_left : (g h : HalfEdge) → Leaves edges v h → cross (way_x v h) (way_y v h) (way_x v g) (way_y v g) ≤ℤ pos 0 → is_left_of g h ≡ false
+  pub cross_not_left : (g h : HalfEdge) → Leaves edges v h → cross (way_x v h) (way_y v h) (way_x v g) (way_y v g) ≤ℤ pos 0 → is_left_of g h ≡ false
   cross_not_left g h leaves none = omega (arith, lin, int_tests, turn_cross edges planar v g h leaves)
 
   in_one_half : (e f : Seg) (b : Bool) → let h : HalfEdge = record { edge = e; forwards = b } in let g : HalfEdge = record { edge = f; forwards = b } in

@@ -21,7 +21,7 @@ use Rattle.plane.proofs.Sweeps.{sweep-form, sweep-same, on_from_sweep, rises-in_
 use Rattle.crossings.proofs.Beside.{HaveOnlyEnds, rise, sweep-upper, sweep-lower, side-upper, side-lower}
 use Rattle.sectors.proofs.Lines.{mix, mix_positive-between, mix_not_positive-between, mix_not_negative-between, mix_zero-between}
 
--- how much flatter than the edge is long
+-- how many times as long as high the triangle is at least
 abbrev pub flat : ℤ
 flat = pos (2 ^ 60)
 

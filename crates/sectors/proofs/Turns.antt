@@ -13,7 +13,7 @@ use Rattle.plane.specs.Joined.{IsClear}
 use Rattle.plane.proofs.Points.{first_between, second_between}
 use Rattle.sectors.specs.Sector.{HalfEdge, origin, is_left_of, Leaves, IsPlanar}
 use Rattle.sectors.proofs.Near.{near, cross, cross-same, IsSlight, IsParted, far_misses, parted_misses}
-use Rattle.sectors.proofs.Vectors.{other_half_parted, not_left_parted, not_right_parted, left_from_ray, right_from_ray, spread_to_ray, spread_from_ray, ray_self, back_is, spread_in_half}
+use Rattle.sectors.proofs.Vectors.{other_half_parted, not_left_parted, not_right_parted, left_from_ray, right_from_ray, spread_to_ray, ray_self, back_is, spread_in_half}
 use Rattle.sectors.proofs.Leaving.{ray_x, ray_y, way_x, way_y, same_or_other, edge_in_range, heading_same, heading_small, heading_other, left_cross, not_left_cross, way_within, stretch, slight_way, ray_x_within, ray_y_within}
 
 -- two coordinates are one or they are not
@@ -127,7 +127,7 @@ module _ (edges : List Seg) (planar : IsPlanar edges) (v : Coord) where
       → IsClear edges (near v (ray_x b) (ray_y b)) (left_end v b g)
   from_ray b g leaves same none =
       let left = heading_same edges planar v b g leaves same in
-      let spread = spread_from_ray stretch (way_x v g) (way_y v g) (ray_x b) (ray_y b) (omega (arith, lin)) left in
+      let spread = left_from_ray stretch (way_x v g) (way_y v g) (ray_x b) (ray_y b) (omega (arith, lin)) left in
       turn_clear g.edge leaves.among (leaves_end edges v g leaves)
       (ray_x b) (ray_y b) ((stretch *ℤ way_x v g) +ℤ ray_x b) ((stretch *ℤ way_y v g) +ℤ ray_y b)
       (ray_slight b) (left_slight b g leaves) spread

@@ -82,10 +82,6 @@ right_against_ray n ax ay ux uy =
 pub spread_to_ray : (n ax ay ux uy : ℤ) → pos 0 <ℤ n → pos 0 <ℤ cross ax ay ux uy → pos 0 <ℤ cross (neg_ℤ ux) (neg_ℤ uy) ((n *ℤ ax) +ℤ neg_ℤ ux) ((n *ℤ ay) +ℤ neg_ℤ uy)
 spread_to_ray n ax ay ux uy hn h = omega (arith, lin, right_against_ray n ax ay ux uy, positive_times_positive hn h)
 
--- and from the ray down
-pub spread_from_ray : (n ax ay ux uy : ℤ) → pos 0 <ℤ n → pos 0 <ℤ cross ax ay ux uy → pos 0 <ℤ cross ((n *ℤ ax) +ℤ ux) ((n *ℤ ay) +ℤ uy) ux uy
-spread_from_ray n ax ay ux uy hn h = left_from_ray n ax ay ux uy hn h
-
 pub back_is : (x y u w : ℤ) → cross (neg_ℤ u) (neg_ℤ w) x y ≡ cross x y u w
 back_is x y u w = by_ring (x ∷ y ∷ u ∷ w ∷ []) (Neg (Var 2) ⊗ Var 1 ⊖ Neg (Var 3) ⊗ Var 0) (Var 0 ⊗ Var 3 ⊖ Var 1 ⊗ Var 2) refl
 

@@ -4,7 +4,7 @@ use Rattle.std.proofs.Common.{refl}
 use Rattle.plane.specs.Examples.{grid, segment, bottom, right, square}
 use Rattle.sectors.specs.Sector.{HalfEdge, IsHalfEdge, is_before_by_angle, is_in_sector}
 
--- half-edges that leave (1, 1)
+-- half-edges that leave (1, 1), named after where they lead
 abbrev pub south_east : HalfEdge
 south_east = record { edge = segment (grid 1 1) (grid 2 0) refl; forwards = true }
 

@@ -1,11 +1,12 @@
 -- The laws of half-edges and of the sectors between them.
-use Rattle.std.specs.Prelude.{◌≡◌, ℕ, ◌+◌, ◌-◌, ◌*◌, ◌/◌, ◌%◌, ◌<◌, ◌==◌, ◌⊎◌, true, false, List, length, Contains, Some, slice_get}
+use Rattle.std.specs.Prelude.{◌≡◌, ℕ, ◌+◌, ◌-◌, ◌*◌, ◌/◌, ◌%◌, ◌<◌, ◌==◌, ◌⊎◌, ◌↔◌, true, false, pos, ◌<ℤ◌, ◌≤ℤ◌, List, length, Contains, Some, slice_get}
 use Rattle.cov_types.specs.declared.coord.Coord.{Coord}
 use Rattle.cov_types.specs.declared.seg.Seg.{Seg}
 use Rattle.plane.specs.Point.{Point}
+use Rattle.plane.specs.Segment.{turn_of}
 use Rattle.plane.specs.Joined.{Joined}
 use Rattle.plane.specs.Region.{IsSide}
-use Rattle.sectors.specs.Sector.{HalfEdge, left, twin, half_edges, IsHalfEdge, is_before_by_angle, Leaves, IsNext, IsNextNumber, IsFan, AreDistinct, IsPlanar}
+use Rattle.sectors.specs.Sector.{HalfEdge, target, left, twin, half_edges, IsHalfEdge, is_before_by_angle, is_in_sector, Leaves, IsNext, IsNextNumber, IsFan, AreDistinct, IsPlanar}
 
 -- ---- round the region on the left
 
@@ -19,22 +20,27 @@ SidesJoinedLaw = (edges : List Seg) → IsPlanar edges → (n m : ℕ) → IsNex
 
 -- ---- each half-edge has one next, and is the next of one
 
+-- each half-edge of the list has a next
 abbrev pub SomeNextLaw : Type 0
 SomeNextLaw = (edges : List Seg) → IsPlanar edges → (h : HalfEdge) → Contains edges h.edge → (g : HalfEdge) × IsNext edges h g
 
+-- and one only
 abbrev pub OneNextLaw : Type 0
 OneNextLaw = (edges : List Seg) → IsPlanar edges → (h g k : HalfEdge) → IsNext edges h g → IsNext edges h k → g ≡ k
 
+-- and it is the next of one only
 abbrev pub NextOfOneLaw : Type 0
 NextOfOneLaw = (edges : List Seg) → IsPlanar edges → (h k g : HalfEdge) → IsNext edges h g → IsNext edges k g → h ≡ k
 
--- the same by numbers, where no edge stands twice in the list
+-- by numbers: each has a next
 abbrev pub SomeNextNumberLaw : Type 0
 SomeNextNumberLaw = (edges : List Seg) → IsPlanar edges → (n : ℕ) → n < length (half_edges edges) → (m : ℕ) × IsNextNumber edges n m
 
+-- and one only, where no edge stands twice in the list
 abbrev pub OneNextNumberLaw : Type 0
 OneNextNumberLaw = (edges : List Seg) → IsPlanar edges → AreDistinct edges → (n m k : ℕ) → IsNextNumber edges n m → IsNextNumber edges n k → m ≡ k
 
+-- and it is the next of one only
 abbrev pub NextOfOneNumberLaw : Type 0
 NextOfOneNumberLaw = (edges : List Seg) → IsPlanar edges → AreDistinct edges → (n k m : ℕ) → IsNextNumber edges n m → IsNextNumber edges k m → n ≡ k
 
@@ -50,9 +56,35 @@ abbrev pub AngleAsymmetricLaw : Type 0
 AngleAsymmetricLaw = (edges : List Seg) → IsPlanar edges → (v : Coord) (h g : HalfEdge) → Leaves edges v h → Leaves edges v g
     → is_before_by_angle h g ≡ true → is_before_by_angle g h ≡ false
 
+-- and what comes before one that comes before another comes before it
 abbrev pub AngleTransitiveLaw : Type 0
 AngleTransitiveLaw = (edges : List Seg) → IsPlanar edges → (v : Coord) (h g k : HalfEdge) → Leaves edges v h → Leaves edges v g → Leaves edges v k
     → is_before_by_angle h g ≡ true → is_before_by_angle g k ≡ true → is_before_by_angle h k ≡ true
+
+-- ---- what is in the sector from g counter-clockwise to a, by turns alone
+
+-- less than half a turn: k is on the left of g, and a on the left of k
+abbrev pub NarrowSectorLaw : Type 0
+NarrowSectorLaw = (edges : List Seg) → IsPlanar edges → (v : Coord) (g a k : HalfEdge) → Leaves edges v g → Leaves edges v a → Leaves edges v k
+    → pos 0 <ℤ turn_of v (target g) (target a)
+    → (is_in_sector g a k ≡ true) ↔ ((pos 0 <ℤ turn_of v (target g) (target k)) × (pos 0 <ℤ turn_of v (target k) (target a)))
+
+-- more than half a turn: what is outside is not on the left of g, and a not on the left of it
+abbrev pub WideSectorLaw : Type 0
+WideSectorLaw = (edges : List Seg) → IsPlanar edges → (v : Coord) (g a k : HalfEdge) → Leaves edges v g → Leaves edges v a → Leaves edges v k
+    → turn_of v (target g) (target a) <ℤ pos 0
+    → (is_in_sector g a k ≡ false) ↔ ((turn_of v (target g) (target k) ≤ℤ pos 0) × (turn_of v (target k) (target a) ≤ℤ pos 0))
+
+-- half a turn: k is on the left of g
+abbrev pub StraightSectorLaw : Type 0
+StraightSectorLaw = (edges : List Seg) → IsPlanar edges → (v : Coord) (g a k : HalfEdge) → Leaves edges v g → Leaves edges v a → Leaves edges v k
+    → ¬ (g ≡ a) → turn_of v (target g) (target a) ≡ pos 0 → (is_in_sector g a k ≡ true) ↔ (pos 0 <ℤ turn_of v (target g) (target k))
+
+-- the full turn: k is another one
+abbrev pub FullSectorLaw : Type 0
+FullSectorLaw = (edges : List Seg) → IsPlanar edges → (v : Coord) (g k : HalfEdge) → Leaves edges v g → Leaves edges v k → (is_in_sector g g k ≡ true) ↔ ¬ (k ≡ g)
+
+-- ---- fans
 
 -- a half-edge follows the twin of the one after it in the fan
 abbrev pub FanLaw : Type 0

@@ -12,13 +12,15 @@ pub record HalfEdge : Type 0 where
   pub edge : Seg
   pub forwards : Bool
 
--- where it begins, where it ends, and the side point on its left
+-- the vertex where it begins
 abbrev pub origin : HalfEdge → Coord
 origin h = cond h.forwards h.edge.lo h.edge.hi
 
+-- the vertex where it ends
 abbrev pub target : HalfEdge → Coord
 target h = cond h.forwards h.edge.hi h.edge.lo
 
+-- the side point on its left
 abbrev pub left : HalfEdge → Point
 left h = cond h.forwards (upper h.edge) (lower h.edge)
 
@@ -42,7 +44,7 @@ is_left_of g h = int_lt (pos 0) (turn_of (origin h) (target h) (target g))
 abbrev pub is_before_by_angle : HalfEdge → HalfEdge → Bool
 is_before_by_angle h g = cond h.forwards (not g.forwards || is_left_of g h) (not g.forwards && is_left_of g h)
 
--- k leaves strictly inside the sector from g counter-clockwise to h: from a half-edge to itself it is the full turn
+-- k leaves strictly inside the sector from g counter-clockwise to h; the sector from a half-edge to itself is the full turn
 abbrev pub is_in_sector : HalfEdge → HalfEdge → HalfEdge → Bool
 is_in_sector g h k = cond (is_before_by_angle g h) (is_before_by_angle g k && is_before_by_angle k h) (is_before_by_angle g k || is_before_by_angle k h)
 
@@ -62,7 +64,7 @@ pub record IsFan (edges : List Seg) (v : Coord) (fan : List HalfEdge) : Type 0 w
   pub in_order : AllPairs (λ h g. is_before_by_angle h g ≡ true) fan
   pub members : (h : HalfEdge) → Contains fan h ↔ Leaves edges v h
 
--- half-edge m follows half-edge n
+-- the half-edge with the number m follows the one with the number n
 pub record IsNextNumber (edges : List Seg) (n m : ℕ) : Type 0 where
   pub from : HalfEdge
   pub to : HalfEdge

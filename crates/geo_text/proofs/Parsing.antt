@@ -1,211 +1,309 @@
--- The machine over tokens reads what the grammar has, and nothing else.
-use Rattle.std.proofs.Common.{◌≡◌, Bool, true, false, cond, List, [], ◌∷◌, ◌++◌, map, flat_map, Option, Some, None, option_and_then, ℤ, sym, refl, ap, ◌∙◌, subst, arith, append_assoc, append-nil, zero-lt-suc, All}
-use Rattle.std.specs.List.{AllByRecursion}
-use Rattle.std.proofs.lemmas.List.Elements.{All-from_recursion, recursion_from_All}
-use Rattle.cov_types.specs.Range.{IsInRange}
+-- What the grammar has, the machine takes, and keeps what it is read as.
+use Rattle.std.proofs.Common.{◌≡◌, is_some, ℕ, ◌-◌, Bool, true, false, List, [], ◌∷◌, ◌++◌, length, map, take, flat_map, filter, Option, Some, None, option_and_then, sym, refl, ap, ap₂, ◌∙◌, append_assoc, append-nil}
+use Rattle.std.proofs.lemmas.Grind.{flat_map-append}
+use Rattle.std.proofs.lemmas.List.{length-map, map-append}
 use Rattle.cov_types.specs.declared.coord.Coord.{Coord}
-use Rattle.geo_text.specs.Token.{Token, Polygon, Number, Open, Close, Comma}
-use Rattle.geo_text.specs.Grammar.{position, ring, polygon, file}
-use Rattle.geo_text.specs.Machine.{State, run, start, members_at, is_in_range, is_ring}
-use Rattle.geo_text.specs.Reading.{IsRing, IsPolygon, points, member}
+use Rattle.geo_text.specs.Token.{Polygon, MultiPolygon, Dimension, Numeral, Token, Word, Dimensions, Number, Open, Close, Comma}
+use Rattle.geo_text.specs.Grammar.{Position, Two, Three, Four, Ring, Element, OnePolygon, ManyPolygons, Geometry, Single, Collection, body, dimension, position, ring, polygon_body, multi_body, element, geometry, file}
+use Rattle.geo_text.specs.Reading.{positions, elements, bodies, has_ring}
+use Rattle.geo_text.specs.Fault.{rings_of, rings, position_numbers, dimension_places, third_places, ring_extras, element_extras, geometry_extras, extra_places}
+use Rattle.geo_text.specs.Machine.{Kept, State, Symbol, Named, Axes, Numbered, Opening, Closing, Separator, at, start, step, no_faults, ring_kept, member_kept, element_end, body_end, with_extra, with_number, with_ring}
+use Rattle.geo_text.specs.declared.faults.Faults.{Faults}
+use Rattle.geo_text.specs.declared.place.Body.{Body}
+use Rattle.geo_text.specs.declared.place.Body.TheVariants as kinds
 use Rattle.geo_text.specs.declared.place.Place.{Place}
-use Rattle.geo_text.specs.declared.place.Place.TheVariants.{Outside, Word, RingStart, PositionStart, SecondNumber, PositionEnd, RingEnd}
-use Rattle.geo_text.proofs.Rings.{is_in_range-true, in_range, is_ring-true, is_ring-long, is_ring-closed}
+use Rattle.geo_text.specs.declared.place.Place.TheVariants.{Outside, Head, ElementStart, ElementEnd, BodyStart, BodyEnd, RingStart, PositionStart, PositionEnd, RingEnd}
+use Rattle.geo_text.proofs.Keeping.{read_value, is_whole, coordinate_by, ring_points, noted, noted-append, noted-nil, with_number-noted, with_extra-noted, with_ring-noted, grown, grown-append, grown-nil, with_extra-grown}
 
-abbrev at : Place → List (List (List (List Coord))) → List (List Coord) → List Coord → State
-at place members rings positions = record { place = place; members = members; rings = rings; positions = positions }
+module _ (cap : ℕ) where
+  -- what the machine sees of a token
+  abbrev pub seen : Token → Symbol
+  seen (Word name) = Named name
+  seen (Dimensions d) = Axes d.at
+  seen (Number n) = Numbered n.at (read_value cap n) (is_whole cap n)
+  seen Open = Opening
+  seen Close = Closing
+  seen Comma = Separator
 
--- ---- what the grammar has, the machine reads
+  -- the state behind tokens
+  abbrev pub run : State → List Token → Option State
+  run s [] = Some s
+  run s (token ∷ tokens) = option_and_then (λ after. run after tokens) (step s (seen token))
 
-run_position : (p : Coord) → IsInRange p → (ms : List (List (List (List Coord)))) (rs : List (List Coord)) (qs : List Coord) (rest : List Token) → run (at PositionStart ms rs qs) (position p ++ rest) ≡ run (at PositionEnd ms rs (qs ++ p ∷ [])) rest
-run_position p h ms rs qs rest = rw (is_in_range-true p.x h.left h.right, is_in_range-true p.y h.bottom h.top) refl
+  abbrev pub Members : Type 0
+  Members = List (List (List (List Coord)))
 
-run_positions : (ps : List Coord) → AllByRecursion IsInRange ps → (ms : List (List (List (List Coord)))) (rs : List (List Coord)) (qs : List Coord) (rest : List Token) → run (at PositionEnd ms rs qs) (flat_map (λ p. Comma ∷ position p) ps ++ rest) ≡ run (at PositionEnd ms rs (qs ++ ps)) rest
-run_positions [] h ms rs qs rest = ap (λ xs. run (at PositionEnd ms rs xs) rest) (sym (append-nil qs))
-run_positions (p ∷ ps) h ms rs qs rest =
-    run_position p h.0 ms rs qs (flat_map (λ q. Comma ∷ position q) ps ++ rest)
-    ∙ run_positions ps h.1 ms rs (qs ++ p ∷ []) rest
-    ∙ ap (λ xs. run (at PositionEnd ms rs xs) rest) (append_assoc qs (p ∷ []) ps)
+  abbrev pub kept : Members → List (List (List Coord)) → List (List Coord) → List Coord → Faults → Kept
+  kept ms ps rs qs f = record { members = ms; polys = ps; rings = rs; points = qs; faults = f }
 
-close_ring : (ps : List Coord) → IsRing ps → (ms : List (List (List (List Coord)))) (rs : List (List Coord)) (rest : List Token) → run (at PositionEnd ms rs ps) (Close ∷ rest) ≡ run (at RingEnd ms (rs ++ points ps ∷ []) []) rest
-close_ring ps h ms rs rest = rw (is_ring-true ps h.long h.closed) refl
+  -- ---- positions
 
-run_ring : (ps : List Coord) → IsRing ps → (ms : List (List (List (List Coord)))) (rs : List (List Coord)) (rest : List Token) → run (at RingStart ms rs []) (ring ps ++ rest) ≡ run (at RingEnd ms (rs ++ points ps ∷ []) []) rest
-run_ring [] h ms rs rest = absurd (omega (arith, h.long))
-run_ring (p ∷ ps) h ms rs rest =
-    ap (λ ts. run (at PositionStart ms rs []) (position p ++ ts)) (append_assoc (flat_map (λ q. Comma ∷ position q) ps) (Close ∷ []) rest)
-    ∙ run_position p (recursion_from_All IsInRange (p ∷ ps) h.in_range).0 ms rs [] (flat_map (λ q. Comma ∷ position q) ps ++ Close ∷ rest)
-    ∙ run_positions ps (recursion_from_All IsInRange (p ∷ ps) h.in_range).1 ms rs (p ∷ []) (Close ∷ rest)
-    ∙ close_ring (p ∷ ps) h ms rs rest
+  abbrev further : Position → ℕ
+  further (Two x y) = 0
+  further (Three x y z) = 1
+  further (Four x y z m) = 2
 
-run_rings : (rings : List (List Coord)) → AllByRecursion IsRing rings → (ms : List (List (List (List Coord)))) (rs : List (List Coord)) (rest : List Token) → run (at RingEnd ms rs []) (flat_map (λ r. Comma ∷ ring r) rings ++ rest) ≡ run (at RingEnd ms (rs ++ map points rings) []) rest
-run_rings [] h ms rs rest = ap (λ xs. run (at RingEnd ms xs []) rest) (sym (append-nil rs))
-run_rings (r ∷ rings) h ms rs rest =
-    ap (λ ts. run (at RingStart ms rs []) ts) (append_assoc (ring r) (flat_map (λ q. Comma ∷ ring q) rings) rest)
-    ∙ run_ring r h.0 ms rs (flat_map (λ q. Comma ∷ ring q) rings ++ rest)
-    ∙ run_rings rings h.1 ms (rs ++ points r ∷ []) rest
-    ∙ ap (λ xs. run (at RingEnd ms xs []) rest) (append_assoc rs (points r ∷ []) (map points rings))
+  note_two : (x y : Numeral) (f : Faults) → with_number y.at (read_value cap y) (is_whole cap y) (with_number x.at (read_value cap x) (is_whole cap x) f) ≡ noted cap f [] (x ∷ y ∷ [])
+  note_two x y f = ap (with_number y.at (read_value cap y) (is_whole cap y)) (with_number-noted cap x f) ∙ with_number-noted cap y (noted cap f [] (x ∷ [])) ∙ noted-append cap f [] [] (x ∷ []) (y ∷ [])
 
-run_polygon : (rings : List (List Coord)) → IsPolygon rings → (ms : List (List (List (List Coord)))) (rest : List Token) → run (at Outside ms [] []) (polygon rings ++ rest) ≡ run (at Outside (ms ++ member rings ∷ []) [] []) rest
-run_polygon [] h ms rest = absurd (omega (arith, h.some_ring))
-run_polygon (r ∷ rings) h ms rest =
-    let more = flat_map (λ q. Comma ∷ ring q) rings in
-    let regroup : ((ring r ++ more) ++ Close ∷ []) ++ rest ≡ ring r ++ (more ++ Close ∷ rest) = simp append_assoc in
-    ap (λ ts. run (at RingStart ms [] []) ts) regroup
-    ∙ run_ring r (recursion_from_All IsRing (r ∷ rings) h.each_ring).0 ms [] (more ++ Close ∷ rest)
-    ∙ run_rings rings (recursion_from_All IsRing (r ∷ rings) h.each_ring).1 ms (points r ∷ []) (Close ∷ rest)
+  note_three : (x y z : Numeral) (f : Faults) → with_number z.at (read_value cap z) (is_whole cap z) (with_extra z.at (with_number y.at (read_value cap y) (is_whole cap y) (with_number x.at (read_value cap x) (is_whole cap x) f))) ≡ noted cap f (z.at ∷ []) (x ∷ y ∷ z ∷ [])
+  note_three x y z f =
+      ap (λ g. with_number z.at (read_value cap z) (is_whole cap z) (with_extra z.at g)) (note_two x y f)
+      ∙ ap (with_number z.at (read_value cap z) (is_whole cap z)) (with_extra-noted cap z.at (noted cap f [] (x ∷ y ∷ [])) ∙ noted-append cap f [] (z.at ∷ []) (x ∷ y ∷ []) [])
+      ∙ with_number-noted cap z (noted cap f (z.at ∷ []) (x ∷ y ∷ [])) ∙ noted-append cap f (z.at ∷ []) [] (x ∷ y ∷ []) (z ∷ [])
 
-run_file : (polygons : List (List (List Coord))) → AllByRecursion IsPolygon polygons → (ms : List (List (List (List Coord)))) → run (at Outside ms [] []) (file polygons) ≡ Some (at Outside (ms ++ map member polygons) [] [])
-run_file [] h ms = ap (λ xs. Some (at Outside xs [] [])) (sym (append-nil ms))
-run_file (rings ∷ polygons) h ms =
-    run_polygon rings h.0 ms (file polygons)
-    ∙ run_file polygons h.1 (ms ++ member rings ∷ [])
-    ∙ ap (λ xs. Some (at Outside xs [] [])) (append_assoc ms (member rings ∷ []) (map member polygons))
+  note_four : (x y z m : Numeral) (f : Faults) → with_number m.at (read_value cap m) (is_whole cap m) (with_number z.at (read_value cap z) (is_whole cap z) (with_extra z.at (with_number y.at (read_value cap y) (is_whole cap y) (with_number x.at (read_value cap x) (is_whole cap x) f)))) ≡ noted cap f (z.at ∷ []) (x ∷ y ∷ z ∷ m ∷ [])
+  note_four x y z m f =
+      ap (with_number m.at (read_value cap m) (is_whole cap m)) (note_three x y z f)
+      ∙ with_number-noted cap m (noted cap f (z.at ∷ []) (x ∷ y ∷ z ∷ [])) ∙ noted-append cap f (z.at ∷ []) [] (x ∷ y ∷ z ∷ []) (m ∷ [])
 
--- the machine reads the tokens of polygons
-pub run-file : (polygons : List (List (List Coord))) → All IsPolygon polygons → run start (file polygons) ≡ Some (record start { members = map member polygons })
-run-file polygons h = run_file polygons (recursion_from_All IsPolygon polygons h) []
+  run_position : (p : Position) (c m : Bool) (ms : Members) (ps : List (List (List Coord))) (rs : List (List Coord)) (qs : List Coord) (f : Faults) (rest : List Token)
+      → run (at PositionStart c m (kept ms ps rs qs f)) (position p ++ rest) ≡ run (at (PositionEnd (further p)) c m (kept ms ps rs (qs ++ coordinate_by (read_value cap) p ∷ []) (noted cap f (third_places p) (position_numbers p)))) rest
+  run_position (Two x y) c m ms ps rs qs f rest = ap (λ g. run (at (PositionEnd 0) c m (kept ms ps rs (qs ++ coordinate_by (read_value cap) (Two x y) ∷ []) g)) rest) (note_two x y f)
+  run_position (Three x y z) c m ms ps rs qs f rest = ap (λ g. run (at (PositionEnd 1) c m (kept ms ps rs (qs ++ coordinate_by (read_value cap) (Two x y) ∷ []) g)) rest) (note_three x y z f)
+  run_position (Four x y z w) c m ms ps rs qs f rest = ap (λ g. run (at (PositionEnd 2) c m (kept ms ps rs (qs ++ coordinate_by (read_value cap) (Two x y) ∷ []) g)) rest) (note_four x y z w f)
 
--- ---- what the machine reads, the grammar has: what is left to come at each place, up to the coverage c
+  -- further positions, up to the end of the ring
+  run_positions : (ks : List Position) (n : ℕ) (c m : Bool) (ms : Members) (ps : List (List (List Coord))) (rs : List (List Coord)) (qs : List Coord) (f : Faults) (rest : List Token)
+      → run (at (PositionEnd n) c m (kept ms ps rs qs f)) (flat_map (λ p. Comma ∷ position p) ks ++ Close ∷ rest)
+      ≡ run (at RingEnd c m (ring_kept (kept ms ps rs (qs ++ map (coordinate_by (read_value cap)) ks) (noted cap f (flat_map third_places ks) (flat_map position_numbers ks))))) rest
+  run_positions [] n c m ms ps rs qs f rest =
+      ap₂ (λ (xs : List Coord) (g : Faults). run (at RingEnd c m (ring_kept (kept ms ps rs xs g))) rest) (sym (append-nil qs)) (sym (noted-nil cap f))
+  run_positions (p ∷ ks) n c m ms ps rs qs f rest =
+      ap (run (at PositionStart c m (kept ms ps rs qs f))) (append_assoc (position p) (flat_map (λ q. Comma ∷ position q) ks) (Close ∷ rest))
+      ∙ run_position p c m ms ps rs qs f (flat_map (λ q. Comma ∷ position q) ks ++ Close ∷ rest)
+      ∙ run_positions ks (further p) c m ms ps rs (qs ++ coordinate_by (read_value cap) p ∷ []) (noted cap f (third_places p) (position_numbers p)) rest
+      ∙ ap₂ (λ (xs : List Coord) (g : Faults). run (at RingEnd c m (ring_kept (kept ms ps rs xs g))) rest)
+      (append_assoc qs (coordinate_by (read_value cap) p ∷ []) (map (coordinate_by (read_value cap)) ks))
+      (noted-append cap f (third_places p) (flat_map third_places ks) (position_numbers p) (flat_map position_numbers ks))
 
-abbrev Members : Type 0
-Members = List (List (List (List Coord)))
+  -- ---- rings
 
--- behind a polygon: further polygons
-abbrev FileRest : Members → List Token → Members → Type 0
-FileRest ms ts c = (polygons : List (List (List Coord))) × AllByRecursion IsPolygon polygons × (ts ≡ file polygons) × (c ≡ ms ++ map member polygons)
+  -- the points of a ring, without the last
+  abbrev pub open_points : Ring → List Coord
+  open_points r = take (length (positions r) - 1) (ring_points cap r)
 
--- behind a ring: further rings, and the end of the polygon
-abbrev RingsRest : Members → List (List Coord) → List Token → Members → Type 0
-RingsRest ms rs ts c =
-    (rings : List (List Coord)) × (rest : List Token) × AllByRecursion IsRing rings
-    × (ts ≡ flat_map (λ r. Comma ∷ ring r) rings ++ Close ∷ rest) × FileRest (ms ++ ((rs ++ map points rings) ∷ []) ∷ []) rest c
+  run_ring : (r : Ring) (c m : Bool) (ms : Members) (ps : List (List (List Coord))) (rs : List (List Coord)) (f : Faults) (rest : List Token)
+      → run (at RingStart c m (kept ms ps rs [] f)) (ring r ++ rest) ≡ run (at RingEnd c m (kept ms ps (rs ++ open_points r ∷ []) [] (grown cap f (ring_extras r) (r ∷ [])))) rest
+  run_ring r c m ms ps rs f rest =
+      let more = flat_map (λ q. Comma ∷ position q) r.others in
+      let regroup : ((position r.first ++ more) ++ Close ∷ []) ++ rest ≡ position r.first ++ (more ++ Close ∷ rest) = simp append_assoc in
+      ap (run (at PositionStart c m (kept ms ps rs [] f))) regroup
+      ∙ run_position r.first c m ms ps rs [] f (more ++ Close ∷ rest)
+      ∙ run_positions r.others (further r.first) c m ms ps rs (coordinate_by (read_value cap) r.first ∷ []) (noted cap f (third_places r.first) (position_numbers r.first)) rest
+      ∙ ap₂ (λ (n : ℕ) (g : Faults). run (at RingEnd c m (kept ms ps (rs ++ take (n - 1) (ring_points cap r) ∷ []) [] (with_ring (ring_points cap r) g))) rest)
+      (length-map (positions r) (coordinate_by (read_value cap)))
+      (noted-append cap f (third_places r.first) (flat_map third_places r.others) (position_numbers r.first) (flat_map position_numbers r.others))
+      ∙ ap (λ g. run (at RingEnd c m (kept ms ps (rs ++ open_points r ∷ []) [] g)) rest) (with_ring-noted cap r f (ring_extras r))
 
--- at a ring
-abbrev RingRest : Members → List (List Coord) → List Token → Members → Type 0
-RingRest ms rs ts c =
-    (positions : List Coord) × (rest : List Token) × IsRing positions × (ts ≡ ring positions ++ rest) × RingsRest ms (rs ++ points positions ∷ []) rest c
+  run_rings : (ks : List Ring) (c m : Bool) (ms : Members) (ps : List (List (List Coord))) (rs : List (List Coord)) (f : Faults) (rest : List Token)
+      → run (at RingEnd c m (kept ms ps rs [] f)) (flat_map (λ r. Comma ∷ ring r) ks ++ rest)
+      ≡ run (at RingEnd c m (kept ms ps (rs ++ map open_points ks) [] (grown cap f (flat_map ring_extras ks) ks))) rest
+  run_rings [] c m ms ps rs f rest =
+      ap₂ (λ (xs : List (List Coord)) (g : Faults). run (at RingEnd c m (kept ms ps xs [] g)) rest) (sym (append-nil rs)) (sym (grown-nil cap f))
+  run_rings (r ∷ ks) c m ms ps rs f rest =
+      ap (run (at RingStart c m (kept ms ps rs [] f))) (append_assoc (ring r) (flat_map (λ q. Comma ∷ ring q) ks) rest)
+      ∙ run_ring r c m ms ps rs f (flat_map (λ q. Comma ∷ ring q) ks ++ rest)
+      ∙ run_rings ks c m ms ps (rs ++ open_points r ∷ []) (grown cap f (ring_extras r) (r ∷ [])) rest
+      ∙ ap₂ (λ (xs : List (List Coord)) (g : Faults). run (at RingEnd c m (kept ms ps xs [] g)) rest)
+      (append_assoc rs (open_points r ∷ []) (map open_points ks))
+      (grown-append cap f (ring_extras r) (flat_map ring_extras ks) (r ∷ []) ks)
 
--- behind a position: further positions, and the end of the ring
-abbrev PositionsRest : Members → List (List Coord) → List Coord → List Token → Members → Type 0
-PositionsRest ms rs qs ts c =
-    (positions : List Coord) × (rest : List Token) × AllByRecursion IsInRange positions × (is_ring (qs ++ positions) ≡ true)
-    × (ts ≡ flat_map (λ p. Comma ∷ position p) positions ++ Close ∷ rest) × RingsRest ms (rs ++ points (qs ++ positions) ∷ []) rest c
+  -- ---- polygon bodies
 
--- at a position
-abbrev PositionRest : Members → List (List Coord) → List Coord → List Token → Members → Type 0
-PositionRest ms rs qs ts c = (p : Coord) × (rest : List Token) × IsInRange p × (ts ≡ position p ++ rest) × PositionsRest ms rs (qs ++ p ∷ []) rest c
+  -- the polygons of polygon bodies that are not EMPTY
+  abbrev pub polys_of : List (List Ring) → List (List (List Coord))
+  polys_of polygons = map (λ rings. map open_points rings) (filter has_ring polygons)
 
--- at the second number of a position
-abbrev SecondRest : Members → List (List Coord) → List Coord → ℤ → List Token → Members → Type 0
-SecondRest ms rs qs x ts c =
-    (y : ℤ) × (rest : List Token) × (is_in_range y ≡ true) × (ts ≡ Number y ∷ rest) × PositionsRest ms rs (qs ++ record { x = x; y = y } ∷ []) rest c
+  abbrev pub bodies_extras : List (List Ring) → List ℕ
+  bodies_extras polygons = flat_map ring_extras (flat_map (λ rings. rings) polygons)
 
-abbrev Rest : Place → Members → List (List Coord) → List Coord → List Token → Members → Type 0
-Rest Outside ms rs qs ts c = rs ≡ [] → qs ≡ [] → FileRest ms ts c
-Rest Word ms rs qs ts c = rs ≡ [] → qs ≡ [] → ((rest : List Token) × (ts ≡ Open ∷ rest) × RingRest ms [] rest c)
-Rest RingStart ms rs qs ts c = qs ≡ [] → RingRest ms rs ts c
-Rest PositionStart ms rs qs ts c = PositionRest ms rs qs ts c
-Rest (SecondNumber x) ms rs qs ts c = SecondRest ms rs qs x ts c
-Rest PositionEnd ms rs qs ts c = PositionsRest ms rs qs ts c
-Rest RingEnd ms rs qs ts c = qs ≡ [] → RingsRest ms rs ts c
+  -- what is kept behind polygon bodies
+  abbrev pub with_bodies : List (List Ring) → Members → List (List (List Coord)) → Faults → Kept
+  with_bodies polygons ms ps f = kept ms (ps ++ polys_of polygons) [] [] (grown cap f (bodies_extras polygons) (flat_map (λ rings. rings) polygons))
 
-none_some : {A : Type 0} (x : A) → None ≡ Some x → ⊥
-none_some x e = cc
+  -- behind the bracket that opens a polygon body
+  run_open_body : (r : Ring) (ks : List Ring) (c m : Bool) (ms : Members) (ps : List (List (List Coord))) (f : Faults) (rest : List Token)
+      → run (at RingStart c m (kept ms ps [] [] f)) (((ring r ++ flat_map (λ q. Comma ∷ ring q) ks) ++ Close ∷ []) ++ rest) ≡ run (body_end c m (with_bodies ((r ∷ ks) ∷ []) ms ps f)) rest
+  run_open_body r ks c m ms ps f rest =
+      let more = flat_map (λ q. Comma ∷ ring q) ks in
+      let regroup : ((ring r ++ more) ++ Close ∷ []) ++ rest ≡ ring r ++ (more ++ Close ∷ rest) = simp append_assoc in
+      ap (run (at RingStart c m (kept ms ps [] [] f))) regroup
+      ∙ run_ring r c m ms ps [] f (more ++ Close ∷ rest)
+      ∙ run_rings ks c m ms ps (open_points r ∷ []) (grown cap f (ring_extras r) (r ∷ [])) (Close ∷ rest)
+      ∙ ap (λ g. run (body_end c m (kept ms (ps ++ (open_points r ∷ map open_points ks) ∷ []) [] [] g)) rest)
+      (grown-append cap f (ring_extras r) (flat_map ring_extras ks) (r ∷ []) ks
+      ∙ ap₂ (λ (xs : List ℕ) (ss : List Ring). grown cap f xs ss) (ap (flat_map ring_extras) (sym (append-nil (r ∷ ks)))) (sym (append-nil (r ∷ ks))))
 
--- a token that is taken only where a test holds
-taken : {A : Type 0} (b : Bool) (s : State) (f : State → Option A) (r : A) → option_and_then f (cond b (Some s) None) ≡ Some r → (b ≡ true) × (f s ≡ Some r)
-taken true s f r e = (refl, e)
-taken false s f r e = absurd (none_some r e)
+  with_empty : (ms : Members) (ps : List (List (List Coord))) (f : Faults) → with_bodies ([] ∷ []) ms ps f ≡ kept ms ps [] [] f
+  with_empty ms ps f = ap₂ (λ (xs : List (List (List Coord))) (g : Faults). kept ms xs [] [] g) (append-nil ps) (grown-nil cap f)
 
--- the end of the file
-ends : (s f : State) (c : Members) → Some s ≡ Some f → members_at f.place f ≡ Some c → members_at s.place s ≡ Some c
-ends s f c e h = let same : s ≡ f = cc in subst (λ (t : State). members_at t.place t ≡ Some c) (sym same) h
+  run_polygon_head : (ks : List Ring) (d c m : Bool) (ms : Members) (ps : List (List (List Coord))) (f : Faults) (rest : List Token)
+      → run (at (Head kinds.Polygon d) c m (kept ms ps [] [] f)) (polygon_body ks ++ rest) ≡ run (body_end c m (with_bodies (ks ∷ []) ms ps f)) rest
+  run_polygon_head [] d c m ms ps f rest = ap (λ k. run (body_end c m k) rest) (sym (with_empty ms ps f))
+  run_polygon_head (r ∷ ks) d c m ms ps f rest = run_open_body r ks c m ms ps f rest
 
-file_text : (r : List Coord) (rings : List (List Coord)) (polygons : List (List (List Coord))) (ts a b d : List Token) → ts ≡ Open ∷ a → a ≡ ring r ++ b → b ≡ flat_map (λ q. Comma ∷ ring q) rings ++ Close ∷ d → d ≡ file polygons → Polygon ∷ ts ≡ file ((r ∷ rings) ∷ polygons)
-file_text r rings polygons ts a b d e1 e2 e3 e4 =
-    let more = flat_map (λ q. Comma ∷ ring q) rings in
-    let regroup : ((ring r ++ more) ++ Close ∷ []) ++ file polygons ≡ ring r ++ (more ++ Close ∷ file polygons) = simp append_assoc in
-    ap (λ xs. Polygon ∷ xs) (e1 ∙ ap (λ xs. Open ∷ xs) (e2 ∙ ap (λ xs. ring r ++ xs) (e3 ∙ ap (λ xs. more ++ Close ∷ xs) e4) ∙ sym regroup))
+  run_body : (ks : List Ring) (c : Bool) (ms : Members) (ps : List (List (List Coord))) (f : Faults) (rest : List Token)
+      → run (at BodyStart c true (kept ms ps [] [] f)) (polygon_body ks ++ rest) ≡ run (at BodyEnd c true (with_bodies (ks ∷ []) ms ps f)) rest
+  run_body [] c ms ps f rest = ap (λ k. run (at BodyEnd c true k) rest) (sym (with_empty ms ps f))
+  run_body (r ∷ ks) c ms ps f rest = run_open_body r ks c true ms ps f rest
 
-after_word : (ms : Members) (ts : List Token) (c : Members) → ((rest : List Token) × (ts ≡ Open ∷ rest) × RingRest ms [] rest c) → FileRest ms (Polygon ∷ ts) c
-after_word ms ts c w =
-    let r = w.2 in
-    let rs = r.4 in
-    let f = rs.4 in
-    ((r.0 ∷ rs.0) ∷ f.0, (record { some_ring = zero-lt-suc _; each_ring = All-from_recursion IsRing (r.0 ∷ rs.0) (r.2, rs.2) }, f.1), file_text r.0 rs.0 f.0 ts w.0 r.1 rs.1 w.1 r.3 rs.3 f.2, f.3 ∙ append_assoc ms (member (r.0 ∷ rs.0) ∷ []) (map member f.0))
+  polys_of-cons : (ks : List Ring) (polygons : List (List Ring)) → polys_of (ks ∷ polygons) ≡ polys_of (ks ∷ []) ++ polys_of polygons
+  polys_of-cons [] polygons = refl
+  polys_of-cons (r ∷ ks) polygons = refl
 
-ring_text : (p : Coord) (ps : List Coord) (ts a b : List Token) → ts ≡ position p ++ a → a ≡ flat_map (λ q. Comma ∷ position q) ps ++ Close ∷ b → Open ∷ ts ≡ ring (p ∷ ps) ++ b
-ring_text p ps ts a b e1 e2 =
-    let more = flat_map (λ q. Comma ∷ position q) ps in
-    ap (λ xs. Open ∷ xs) (e1 ∙ ap (λ xs. position p ++ xs) (e2 ∙ sym (append_assoc more (Close ∷ []) b)))
+  -- bodies behind bodies
+  with_bodies-cons : (ks : List Ring) (polygons : List (List Ring)) (ms : Members) (ps : List (List (List Coord))) (f : Faults)
+      → with_bodies polygons ms (ps ++ polys_of (ks ∷ [])) (grown cap f (bodies_extras (ks ∷ [])) (flat_map (λ rings. rings) (ks ∷ []))) ≡ with_bodies (ks ∷ polygons) ms ps f
+  with_bodies-cons ks polygons ms ps f =
+      let all = flat_map (λ (rings : List Ring). rings) polygons in
+      let same : flat_map (λ (rings : List Ring). rings) (ks ∷ []) ≡ ks = append-nil ks in
+      let places : bodies_extras (ks ∷ []) ++ bodies_extras polygons ≡ bodies_extras (ks ∷ polygons) = ap (λ (rings : List Ring). flat_map ring_extras rings ++ flat_map ring_extras all) same ∙ sym (flat_map-append ring_extras ks all) in
+      ap₂ (λ (xs : List (List (List Coord))) (g : Faults). kept ms xs [] [] g)
+      (append_assoc ps (polys_of (ks ∷ [])) (polys_of polygons) ∙ ap (λ xs. ps ++ xs) (sym (polys_of-cons ks polygons)))
+      (grown-append cap f (bodies_extras (ks ∷ [])) (bodies_extras polygons) (flat_map (λ rings. rings) (ks ∷ [])) all
+      ∙ ap₂ (λ (xs : List ℕ) (ss : List Ring). grown cap f xs ss) places (ap (λ (rings : List Ring). rings ++ all) same))
 
-ring_opens : (ms : Members) (rs : List (List Coord)) (ts : List Token) (c : Members) → PositionRest ms rs [] ts c → RingRest ms rs (Open ∷ ts) c
-ring_opens ms rs ts c w =
-    let more = w.4 in
-    let ps = w.0 ∷ more.0 in
-    let e : is_ring ps ≡ true = more.3 in
-    (ps, more.1, record { long = is_ring-long ps e; closed = is_ring-closed ps e; in_range = All-from_recursion IsInRange ps (w.2, more.2) }, ring_text w.0 more.0 ts w.1 more.1 w.3 more.4, more.5)
+  run_bodies : (polygons : List (List Ring)) (c : Bool) (ms : Members) (ps : List (List (List Coord))) (f : Faults) (rest : List Token)
+      → run (at BodyEnd c true (kept ms ps [] [] f)) (flat_map (λ rings. Comma ∷ polygon_body rings) polygons ++ Close ∷ rest) ≡ run (element_end c (with_bodies polygons ms ps f)) rest
+  run_bodies [] c ms ps f rest =
+      ap₂ (λ (xs : List (List (List Coord))) (g : Faults). run (element_end c (kept ms xs [] [] g)) rest) (sym (append-nil ps)) (sym (grown-nil cap f))
+  run_bodies (ks ∷ polygons) c ms ps f rest =
+      let more = flat_map (λ rings. Comma ∷ polygon_body rings) polygons in
+      ap (run (at BodyStart c true (kept ms ps [] [] f))) (append_assoc (polygon_body ks) more (Close ∷ rest))
+      ∙ run_body ks c ms ps f (more ++ Close ∷ rest)
+      ∙ run_bodies polygons c ms (ps ++ polys_of (ks ∷ [])) (grown cap f (bodies_extras (ks ∷ [])) (flat_map (λ rings. rings) (ks ∷ []))) rest
+      ∙ ap (λ k. run (element_end c k) rest) (with_bodies-cons ks polygons ms ps f)
 
-first_number : (ms : Members) (rs : List (List Coord)) (qs : List Coord) (x : ℤ) (ts : List Token) (c : Members) → is_in_range x ≡ true → SecondRest ms rs qs x ts c → PositionRest ms rs qs (Number x ∷ ts) c
-first_number ms rs qs x ts c h w = (record { x = x; y = w.0 }, w.1, in_range x w.0 h w.2, ap (λ xs. Number x ∷ xs) w.3, w.4)
+  run_multi_head : (polygons : List (List Ring)) (d c m : Bool) (ms : Members) (ps : List (List (List Coord))) (f : Faults) (rest : List Token)
+      → run (at (Head kinds.MultiPolygon d) c m (kept ms ps [] [] f)) (multi_body polygons ++ rest) ≡ run (element_end c (with_bodies polygons ms ps f)) rest
+  run_multi_head [] d c m ms ps f rest =
+      ap₂ (λ (xs : List (List (List Coord))) (g : Faults). run (element_end c (kept ms xs [] [] g)) rest) (sym (append-nil ps)) (sym (grown-nil cap f))
+  run_multi_head (ks ∷ polygons) d c m ms ps f rest =
+      let more = flat_map (λ rings. Comma ∷ polygon_body rings) polygons in
+      let regroup : ((polygon_body ks ++ more) ++ Close ∷ []) ++ rest ≡ polygon_body ks ++ (more ++ Close ∷ rest) = simp append_assoc in
+      ap (run (at BodyStart c true (kept ms ps [] [] f))) regroup
+      ∙ run_body ks c ms ps f (more ++ Close ∷ rest)
+      ∙ run_bodies polygons c ms (ps ++ polys_of (ks ∷ [])) (grown cap f (bodies_extras (ks ∷ [])) (flat_map (λ rings. rings) (ks ∷ []))) rest
+      ∙ ap (λ k. run (element_end c k) rest) (with_bodies-cons ks polygons ms ps f)
 
-next_position : (ms : Members) (rs : List (List Coord)) (qs : List Coord) (ts : List Token) (c : Members) → PositionRest ms rs qs ts c → PositionsRest ms rs qs (Comma ∷ ts) c
-next_position ms rs qs ts c w =
-    let more = w.4 in
-    let regroup : (qs ++ w.0 ∷ []) ++ more.0 ≡ qs ++ w.0 ∷ more.0 = append_assoc qs (w.0 ∷ []) more.0 in (
-      w.0 ∷ more.0,
-      more.1,
-      (w.2, more.2),
-      subst (λ (xs : List Coord). is_ring xs ≡ true) regroup more.3,
-      ap (λ xs. Comma ∷ xs) (w.3 ∙ ap (λ xs. position w.0 ++ xs) more.4),
-      subst (λ (xs : List Coord). RingsRest ms (rs ++ points xs ∷ []) more.1 c) regroup more.5,
-    )
+  -- ---- elements, geometries, files
 
-ring_closes : (ms : Members) (rs : List (List Coord)) (qs : List Coord) (ts : List Token) (c : Members) → is_ring qs ≡ true → RingsRest ms (rs ++ points qs ∷ []) ts c → PositionsRest ms rs qs (Close ∷ ts) c
-ring_closes ms rs qs ts c h w =
-    let same : qs ≡ qs ++ [] = sym (append-nil qs) in
-    ([], ts, tt, subst (λ (xs : List Coord). is_ring xs ≡ true) same h, refl, subst (λ (xs : List Coord). RingsRest ms (rs ++ points xs ∷ []) ts c) same w)
+  -- the member that is read of an element
+  abbrev pub member_of : Element → List (List (List Coord))
+  member_of e = polys_of (bodies e)
 
-next_ring : (ms : Members) (rs : List (List Coord)) (ts : List Token) (c : Members) → RingRest ms rs ts c → RingsRest ms rs (Comma ∷ ts) c
-next_ring ms rs ts c w =
-    let more = w.4 in
-    let regroup : (rs ++ points w.0 ∷ []) ++ map points more.0 ≡ rs ++ points w.0 ∷ map points more.0 = append_assoc rs (points w.0 ∷ []) (map points more.0) in (
-      w.0 ∷ more.0,
-      more.1,
-      (w.2, more.2),
-      ap (λ xs. Comma ∷ xs) (w.3 ∙ ap (λ xs. ring w.0 ++ xs) more.3 ∙ sym (append_assoc (ring w.0) (flat_map (λ r. Comma ∷ ring r) more.0) (Close ∷ more.1))),
-      subst (λ (xs : List (List Coord)). FileRest (ms ++ (xs ∷ []) ∷ []) more.1 c) regroup more.4,
-    )
+  -- what is kept behind an element
+  abbrev pub with_element : Element → Members → Faults → Kept
+  with_element e ms f = kept (ms ++ member_of e ∷ []) [] [] [] (grown cap f (element_extras e) (rings_of e))
 
-polygon_closes : (ms : Members) (rs : List (List Coord)) (ts : List Token) (c : Members) → FileRest (ms ++ (rs ∷ []) ∷ []) ts c → RingsRest ms rs (Close ∷ ts) c
-polygon_closes ms rs ts c w = ([], ts, tt, refl, subst (λ (xs : List (List Coord)). FileRest (ms ++ (xs ∷ []) ∷ []) ts c) (sym (append-nil rs)) w)
+  -- behind the word of a body, its dimension
+  run_dimension : (d : Option Dimension) (kind : Body) (c m : Bool) (ms : Members) (f : Faults) (rest : List Token)
+      → run (at (Head kind false) c m (kept ms [] [] [] f)) (dimension d ++ rest) ≡ run (at (Head kind (is_some d)) c m (kept ms [] [] [] (grown cap f (dimension_places d) []))) rest
+  run_dimension None kind c m ms f rest = ap (λ g. run (at (Head kind false) c m (kept ms [] [] [] g)) rest) (sym (grown-nil cap f))
+  run_dimension (Some d) kind c m ms f rest = ap (λ g. run (at (Head kind true) c m (kept ms [] [] [] g)) rest) (with_extra-grown cap d.at f)
 
-some_equal : {A : Type 0} (x y : A) → Some x ≡ Some y → x ≡ y
-some_equal x y e = cc
+  element_grown : (d : Option Dimension) (polygons : List (List Ring)) (ms : Members) (f : Faults)
+      → member_kept (with_bodies polygons ms [] (grown cap f (dimension_places d) [])) ≡ kept (ms ++ polys_of polygons ∷ []) [] [] [] (grown cap f (dimension_places d ++ bodies_extras polygons) (flat_map (λ rings. rings) polygons))
+  element_grown d polygons ms f = ap (λ g. kept (ms ++ polys_of polygons ∷ []) [] [] [] g) (grown-append cap f (dimension_places d) (bodies_extras polygons) [] (flat_map (λ rings. rings) polygons))
 
-sound : (place : Place) (ms : Members) (rs : List (List Coord)) (qs : List Coord) (ts : List Token) (f : State) (c : Members) → run (at place ms rs qs) ts ≡ Some f → members_at f.place f ≡ Some c → Rest place ms rs qs ts c
-sound Outside ms rs qs [] f c e h = λ er eq. ([], tt, refl, sym (some_equal ms c (ends (at Outside ms rs qs) f c e h)) ∙ sym (append-nil ms))
-sound place ms rs qs [] f c e h = absurd (none_some c (ends (at place ms rs qs) f c e h))
-sound Outside ms rs qs (Polygon ∷ ts) f c e h = λ er eq. after_word ms ts c (sound Word ms rs qs ts f c e h er eq)
-sound Word ms rs qs (Open ∷ ts) f c e h = λ er eq. (ts, refl, subst (λ (xs : List (List Coord)). RingRest ms xs ts c) er (sound RingStart ms rs qs ts f c e h eq))
-sound RingStart ms rs qs (Open ∷ ts) f c e h = λ eq. ring_opens ms rs ts c (subst (λ (xs : List Coord). PositionRest ms rs xs ts c) eq (sound PositionStart ms rs qs ts f c e h))
-sound PositionStart ms rs qs (Number x ∷ ts) f c e h =
-    let t = taken (is_in_range x) (at (SecondNumber x) ms rs qs) (λ s. run s ts) f e in
-    first_number ms rs qs x ts c t.0 (sound (SecondNumber x) ms rs qs ts f c t.1 h)
-sound (SecondNumber x) ms rs qs (Number y ∷ ts) f c e h =
-    let t = taken (is_in_range y) (at PositionEnd ms rs (qs ++ record { x = x; y = y } ∷ [])) (λ s. run s ts) f e in
-    (y, ts, t.0, refl, sound PositionEnd ms rs (qs ++ record { x = x; y = y } ∷ []) ts f c t.1 h)
-sound PositionEnd ms rs qs (Comma ∷ ts) f c e h = next_position ms rs qs ts c (sound PositionStart ms rs qs ts f c e h)
-sound PositionEnd ms rs qs (Close ∷ ts) f c e h =
-    let t = taken (is_ring qs) (at RingEnd ms (rs ++ points qs ∷ []) []) (λ s. run s ts) f e in
-    ring_closes ms rs qs ts c t.0 (sound RingEnd ms (rs ++ points qs ∷ []) [] ts f c t.1 h refl)
-sound RingEnd ms rs qs (Comma ∷ ts) f c e h = λ eq. next_ring ms rs ts c (sound RingStart ms rs qs ts f c e h eq)
-sound RingEnd ms rs qs (Close ∷ ts) f c e h = λ eq. polygon_closes ms rs ts c (sound Outside (ms ++ (rs ∷ []) ∷ []) [] qs ts f c e h refl eq)
-sound place ms rs qs ts f c e h = absurd (none_some f e)
+  -- the state behind an element whose member was kept
+  abbrev pub element_place : Bool → Place
+  element_place true = ElementEnd
+  element_place false = Outside
 
--- what the machine reads is a file of polygons
-pub file-run : (ts : List Token) (f : State) (c : Members) → run start ts ≡ Some f → members_at f.place f ≡ Some c → (polygons : List (List (List Coord))) × All IsPolygon polygons × (ts ≡ file polygons) × (c ≡ map member polygons)
-file-run ts f c e h =
-    let read = sound Outside [] [] [] ts f c e h refl refl in
-    (read.0, All-from_recursion IsPolygon read.0 read.1, read.2, read.3)
+  pub element_end_is : (c : Bool) (k : Kept) → element_end c k ≡ at (element_place c) c false (member_kept k)
+  element_end_is true k = refl
+  element_end_is false k = refl
+
+  -- behind the word of an element
+  run_element_head : (e : Element) (c : Bool) (ms : Members) (f : Faults) (rest : List Token) (place : Place)
+      → ((k : Kept) (ts : List Token) → run (at place c false k) (Word Polygon ∷ ts) ≡ run (at (Head kinds.Polygon false) c false k) ts)
+      → ((k : Kept) (ts : List Token) → run (at place c false k) (Word MultiPolygon ∷ ts) ≡ run (at (Head kinds.MultiPolygon false) c false k) ts)
+      → run (at place c false (kept ms [] [] [] f)) (element e ++ rest) ≡ run (at (element_place c) c false (with_element e ms f)) rest
+  run_element_head (OnePolygon d ks) c ms f rest place one many =
+      one (kept ms [] [] [] f) ((dimension d ++ polygon_body ks) ++ rest)
+      ∙ ap (run (at (Head kinds.Polygon false) c false (kept ms [] [] [] f))) (append_assoc (dimension d) (polygon_body ks) rest)
+      ∙ run_dimension d kinds.Polygon c false ms f (polygon_body ks ++ rest)
+      ∙ run_polygon_head ks (is_some d) c false ms [] (grown cap f (dimension_places d) []) rest
+      ∙ ap (λ s. run s rest) (element_end_is c (with_bodies (ks ∷ []) ms [] (grown cap f (dimension_places d) [])))
+      ∙ ap (λ k. run (at (element_place c) c false k) rest) (element_grown d (ks ∷ []) ms f)
+  run_element_head (ManyPolygons d polygons) c ms f rest place one many =
+      many (kept ms [] [] [] f) ((dimension d ++ multi_body polygons) ++ rest)
+      ∙ ap (run (at (Head kinds.MultiPolygon false) c false (kept ms [] [] [] f))) (append_assoc (dimension d) (multi_body polygons) rest)
+      ∙ run_dimension d kinds.MultiPolygon c false ms f (multi_body polygons ++ rest)
+      ∙ run_multi_head polygons (is_some d) c false ms [] (grown cap f (dimension_places d) []) rest
+      ∙ ap (λ s. run s rest) (element_end_is c (with_bodies polygons ms [] (grown cap f (dimension_places d) [])))
+      ∙ ap (λ k. run (at (element_place c) c false k) rest) (element_grown d polygons ms f)
+
+  abbrev pub elements_extras : List Element → List ℕ
+  elements_extras es = flat_map element_extras es
+
+  -- what is kept behind elements
+  abbrev pub with_elements : List Element → Members → Faults → Kept
+  with_elements es ms f = kept (ms ++ map member_of es) [] [] [] (grown cap f (elements_extras es) (flat_map rings_of es))
+
+  with_elements-nil : (ms : Members) (f : Faults) → kept ms [] [] [] f ≡ with_elements [] ms f
+  with_elements-nil ms f = ap₂ (λ (xs : Members) (g : Faults). kept xs [] [] [] g) (sym (append-nil ms)) (sym (grown-nil cap f))
+
+  with_elements-cons : (e : Element) (es : List Element) (ms : Members) (f : Faults) → with_elements es (ms ++ member_of e ∷ []) (grown cap f (element_extras e) (rings_of e)) ≡ with_elements (e ∷ es) ms f
+  with_elements-cons e es ms f = ap₂ (λ (xs : Members) (g : Faults). kept xs [] [] [] g) (append_assoc ms (member_of e ∷ []) (map member_of es)) (grown-append cap f (element_extras e) (elements_extras es) (rings_of e) (flat_map rings_of es))
+
+  -- further elements of a collection, and its end
+  run_elements : (es : List Element) (ms : Members) (f : Faults) (rest : List Token)
+      → run (at ElementEnd true false (kept ms [] [] [] f)) (flat_map (λ e. Comma ∷ element e) es ++ Close ∷ rest) ≡ run (at Outside false false (with_elements es ms f)) rest
+  run_elements [] ms f rest = ap (λ k. run (at Outside false false k) rest) (with_elements-nil ms f)
+  run_elements (e ∷ es) ms f rest =
+      let more = flat_map (λ x. Comma ∷ element x) es in
+      ap (run (at ElementStart true false (kept ms [] [] [] f))) (append_assoc (element e) more (Close ∷ rest))
+      ∙ run_element_head e true ms f (more ++ Close ∷ rest) ElementStart (λ k ts. refl) (λ k ts. refl)
+      ∙ run_elements es (ms ++ member_of e ∷ []) (grown cap f (element_extras e) (rings_of e)) rest
+      ∙ ap (λ k. run (at Outside false false k) rest) (with_elements-cons e es ms f)
+
+  run_collection_head : (es : List Element) (d : Bool) (ms : Members) (f : Faults) (rest : List Token)
+      → run (at (Head kinds.GeometryCollection d) false false (kept ms [] [] [] f)) (body element es ++ rest) ≡ run (at Outside false false (with_elements es ms f)) rest
+  run_collection_head [] d ms f rest = ap (λ k. run (at Outside false false k) rest) (with_elements-nil ms f)
+  run_collection_head (e ∷ es) d ms f rest =
+      let more = flat_map (λ x. Comma ∷ element x) es in
+      let regroup : ((element e ++ more) ++ Close ∷ []) ++ rest ≡ element e ++ (more ++ Close ∷ rest) = simp append_assoc in
+      ap (run (at ElementStart true false (kept ms [] [] [] f))) regroup
+      ∙ run_element_head e true ms f (more ++ Close ∷ rest) ElementStart (λ k ts. refl) (λ k ts. refl)
+      ∙ run_elements es (ms ++ member_of e ∷ []) (grown cap f (element_extras e) (rings_of e)) rest
+      ∙ ap (λ k. run (at Outside false false k) rest) (with_elements-cons e es ms f)
+
+  -- what is kept behind geometries
+  abbrev pub with_geometry : Geometry → Members → Faults → Kept
+  with_geometry g ms f = kept (ms ++ map member_of (elements g)) [] [] [] (grown cap f (geometry_extras g) (flat_map rings_of (elements g)))
+
+  run_geometry : (g : Geometry) (ms : Members) (f : Faults) (rest : List Token)
+      → run (at Outside false false (kept ms [] [] [] f)) (geometry g ++ rest) ≡ run (at Outside false false (with_geometry g ms f)) rest
+  run_geometry (Single e) ms f rest =
+      run_element_head e false ms f rest Outside (λ k ts. refl) (λ k ts. refl)
+      ∙ ap (λ ss. run (at Outside false false (kept (ms ++ member_of e ∷ []) [] [] [] (grown cap f (element_extras e) ss))) rest) (sym (append-nil (rings_of e)))
+  run_geometry (Collection d es) ms f rest =
+      ap (run (at (Head kinds.GeometryCollection false) false false (kept ms [] [] [] f))) (append_assoc (dimension d) (body element es) rest)
+      ∙ run_dimension d kinds.GeometryCollection false false ms f (body element es ++ rest)
+      ∙ run_collection_head es (is_some d) ms (grown cap f (dimension_places d) []) rest
+      ∙ ap (λ h. run (at Outside false false (kept (ms ++ map member_of es) [] [] [] h)) rest) (grown-append cap f (dimension_places d) (elements_extras es) [] (flat_map rings_of es))
+
+  -- what is kept behind a file
+  abbrev pub with_file : List Geometry → Members → Faults → Kept
+  with_file gs ms f = kept (ms ++ map member_of (flat_map elements gs)) [] [] [] (grown cap f (extra_places gs) (rings gs))
+
+  run_file : (gs : List Geometry) (ms : Members) (f : Faults) → run (at Outside false false (kept ms [] [] [] f)) (file gs) ≡ Some (at Outside false false (with_file gs ms f))
+  run_file [] ms f = ap (λ k. Some (at Outside false false k)) (with_elements-nil ms f)
+  run_file (g ∷ gs) ms f =
+      run_geometry g ms f (file gs)
+      ∙ run_file gs (ms ++ map member_of (elements g)) (grown cap f (geometry_extras g) (flat_map rings_of (elements g)))
+      ∙ ap₂ (λ (xs : Members) (h : Faults). Some (at Outside false false (kept xs [] [] [] h)))
+      (append_assoc ms (map member_of (elements g)) (map member_of (flat_map elements gs)) ∙ ap (λ xs. ms ++ xs) (sym (map-append member_of (elements g) (flat_map elements gs))))
+      (grown-append cap f (geometry_extras g) (extra_places gs) (flat_map rings_of (elements g)) (rings gs)
+      ∙ ap (grown cap f (extra_places (g ∷ gs))) (sym (flat_map-append rings_of (elements g) (flat_map elements gs))))
+
+  -- the state behind a file
+  abbrev pub end_of : List Geometry → State
+  end_of gs = at Outside false false (with_file gs [] no_faults)
+
+  -- the machine takes each file
+  pub run-file : (gs : List Geometry) → run start (file gs) ≡ Some (end_of gs)
+  run-file gs = run_file gs [] no_faults

@@ -1,4 +1,5 @@
 pub mod Token
 pub mod Grammar
 pub mod Reading
+pub mod Fault
 pub mod Machine

@@ -1,42 +1,49 @@
--- What a text is read as.
-use Rattle.std.specs.Prelude.{◌≡◌, ℕ, ◌-◌, ◌<◌, ◌≤◌, None, List, [], ◌∷◌, length, map, take, slice_get, All}
-use Rattle.cov_types.specs.Range.{IsInRange}
+-- What a file is read as.
+use Rattle.std.specs.Prelude.{◌≡◌, ℕ, ◌-◌, Bool, true, false, List, [], ◌∷◌, length, map, take, filter, flat_map}
 use Rattle.cov_types.specs.declared.coord.Coord.{Coord}
-use Rattle.geo_text.specs.Token.{Spells}
-use Rattle.geo_text.specs.Grammar.{file}
+use Rattle.geo_text.specs.Token.{Numeral, value}
+use Rattle.geo_text.specs.Grammar.{Position, Two, Three, Four, Ring, Element, OnePolygon, ManyPolygons, Geometry, Single, Collection, IsFile}
 
--- a ring has four positions or more
-abbrev pub IsRingLong : List Coord → Type 0
-IsRingLong positions = 4 ≤ length positions
+abbrev pub x_of : Position → Numeral
+x_of (Two x y) = x
+x_of (Three x y z) = x
+x_of (Four x y z m) = x
 
--- its last position is its first
-abbrev pub IsRingClosed : List Coord → Type 0
-IsRingClosed positions = slice_get positions (length positions - 1) ≡ slice_get positions 0
+abbrev pub y_of : Position → Numeral
+y_of (Two x y) = y
+y_of (Three x y z) = y
+y_of (Four x y z m) = y
 
--- a ring of the file: closed, of four positions or more, all in range
-pub record IsRing (positions : List Coord) : Type 0 where
-  pub long : IsRingLong positions
-  pub closed : IsRingClosed positions
-  pub in_range : All IsInRange positions
+-- the values of the first two numbers of a position
+abbrev pub coordinate : Position → Coord
+coordinate p = record { x = value (x_of p); y = value (y_of p) }
 
--- a polygon of the file: a ring or more
-pub record IsPolygon (rings : List (List Coord)) : Type 0 where
-  pub some_ring : 0 < length rings
-  pub each_ring : All IsRing rings
-
--- the bytes are a file of these polygons of rings of positions
-pub record IsFile (bytes : List ℕ) (polygons : List (List (List Coord))) : Type 0 where
-  pub spelled : Spells None (file polygons) bytes
-  pub each_polygon : All IsPolygon polygons
+abbrev pub positions : Ring → List Position
+positions r = r.first ∷ r.others
 
 -- the points of a ring are its positions without the last, which repeats the first
-abbrev pub points : List Coord → List Coord
-points positions = take (length positions - 1) positions
+abbrev pub points : Ring → List Coord
+points r = take (length (positions r) - 1) (map coordinate (positions r))
 
--- each polygon is a member
-abbrev pub member : List (List Coord) → List (List (List Coord))
-member rings = map points rings ∷ []
+abbrev pub elements : Geometry → List Element
+elements (Single e) = e ∷ []
+elements (Collection d es) = es
+
+abbrev pub bodies : Element → List (List Ring)
+bodies (OnePolygon d rings) = rings ∷ []
+bodies (ManyPolygons d polygons) = polygons
+
+abbrev pub has_ring : List Ring → Bool
+has_ring [] = false
+has_ring (r ∷ rings) = true
+
+-- an element is a member: its polygon bodies that are not EMPTY
+abbrev pub member : Element → List (List (List Coord))
+member e = map (λ rings. map points rings) (filter has_ring (bodies e))
+
+abbrev pub coverage : List Geometry → List (List (List (List Coord)))
+coverage geometries = map member (flat_map elements geometries)
 
 -- the bytes are a file that is read as the coverage c
 abbrev pub Reads : List ℕ → List (List (List (List Coord))) → Type 0
-Reads bytes c = (polygons : List (List (List Coord))) × IsFile bytes polygons × (c ≡ map member polygons)
+Reads bytes c = (geometries : List Geometry) × IsFile bytes geometries × (c ≡ coverage geometries)

@@ -1,12 +1,27 @@
 use std::alloc::{AllocError, AllocFailed};
 use thiserror::Error;
 
-/// Why a text is not read.
+/// Why a text is not read. Places are numbers of bytes; rings are numbered from 0 through the whole file.
 #[derive(Clone, Copy, Debug, PartialEq, Eq, Error)]
 pub enum TextFault {
-    /// The text is no file of polygons whose rings are closed and in range.
-    #[error("not read yet")]
-    Unread,
+    /// The text is no file. The first `at` bytes begin some file, and no more of them do.
+    #[error("syntax at {at}")]
+    Syntax { at: u64 },
+    /// A dimension word or a third number comes behind `at` bytes.
+    #[error("not planar at {at}")]
+    NotPlanar { at: u64 },
+    /// A number with a fraction comes behind `at` bytes.
+    #[error("not whole at {at}")]
+    NotWhole { at: u64 },
+    /// A number out of range comes behind `at` bytes.
+    #[error("out of range at {at}")]
+    OutOfRange { at: u64 },
+    /// A ring has fewer than four positions.
+    #[error("ring {ring} is short")]
+    RingShort { ring: u32 },
+    /// A ring's first and last position differ.
+    #[error("ring {ring} is open")]
+    RingOpen { ring: u32 },
 }
 
 /// What `read_text` answers in place of a coverage.
@@ -18,24 +33,32 @@ pub enum TextError {
     NoMemory,
 }
 
-impl From<AllocError> for TextError {
+/// Why a byte is not taken.
+#[derive(Debug, Drop)]
+pub(crate) enum Stop {
+    /// No file goes on so.
+    Refused,
+    NoMemory,
+}
+
+impl From<AllocError> for Stop {
     ghost use Rattle.std.specs.Prelude.{◌≡◌};
-    ghost use Rattle.geo_text.specs.declared.error.TextError.TheVariants.{NoMemory};
+    ghost use Rattle.geo_text.specs.declared.error.Stop.TheVariants.{NoMemory};
 
     ghost from_gives = { λ _ e. e ≡ NoMemory };
 
-    fn from(_e: AllocError) -> TextError {
-        TextError::NoMemory
+    fn from(_e: AllocError) -> Stop {
+        Stop::NoMemory
     }
 }
 
-impl<T: Drop> From<AllocFailed<T>> for TextError {
+impl<T: Drop> From<AllocFailed<T>> for Stop {
     ghost use Rattle.std.specs.Prelude.{◌≡◌};
-    ghost use Rattle.geo_text.specs.declared.error.TextError.TheVariants.{NoMemory};
+    ghost use Rattle.geo_text.specs.declared.error.Stop.TheVariants.{NoMemory};
 
     ghost from_gives = { λ _ e. e ≡ NoMemory };
 
-    fn from(_e: AllocFailed<T>) -> TextError {
-        TextError::NoMemory
+    fn from(_e: AllocFailed<T>) -> Stop {
+        Stop::NoMemory
     }
 }

@@ -1,10 +1,14 @@
 //! Reads polygons from well-known text.
 //!
-//! Its promise: `read_text` answers a coverage exactly where the bytes are a file that is read as it.
+//! Its promise: `read_text` answers a coverage exactly where the bytes are a file that is read as it and has no
+//! fault, and otherwise the one fault that the text has.
 #![tactic(auto)]
 
 mod error;
+mod faults;
+mod keyword;
 mod lexeme;
+mod number;
 mod parser;
 mod place;
 mod reader;
@@ -12,4 +16,4 @@ mod reader;
 mod tests;
 
 pub use error::{TextError, TextFault};
-pub use reader::read_text;
+pub use reader::{one_answer, read_text};

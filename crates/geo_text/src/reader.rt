@@ -1,105 +1,140 @@
-ghost use Rattle.std.specs.Prelude.{◌≡◌, ◌≤◌, ℕ, length, List, IsErrOf, OnOk, IfOk, Some, None};
-ghost use Rattle.geo_text.specs.Machine.{ending, beginning, read_byte, coverage_of, IsCapped};
-ghost use Rattle.geo_text.specs.Reading.{Reads};
+ghost use Rattle.std.specs.Prelude.{◌≡◌, ◌⊎◌, ◌+◌, ◌^◌, ◌<◌, ◌≤◌, ℕ, List, length, IsErrOf, OnOk, IfOk, Some, None};
 ghost use Rattle.cov_types.specs.Coverage.{IsFormed};
 ghost use Rattle.cov_types.specs.declared.coord.Coord.{Coord};
+ghost use Rattle.geo_text.specs.Reading.{Reads};
+ghost use Rattle.geo_text.specs.Fault.{IsFault, IsFaultless};
+ghost use Rattle.geo_text.specs.declared.error.TextFault.{TextFault};
+ghost use Rattle.geo_text.specs.Machine.{ending, beginning, read_byte, IsLexeme, answer, Gives, error_of, start};
+ghost use Rattle.geo_text.specs.declared.number.TheConstants.{CAP};
+ghost use Rattle.geo_text.specs.declared.lexeme.Lexeme.TheVariants.{Blank};
 
-use crate::error::{TextError, TextFault};
-use crate::lexeme::{Lexeme, is_digit, is_white};
-use crate::parser::{Parser, unread};
+use crate::error::{Stop, TextError, TextFault};
+use crate::keyword::keyword_at;
+use crate::lexeme::{Lexeme, is_letter, is_number_byte, is_white};
+use crate::number::Number;
+use crate::parser::Parser;
 use cov_types::Coverage;
 use std::alloc::Global;
 
 /// Ends a lexeme: the parser takes the token that it is.
-fn end(lexeme: Lexeme, parser: &mut Parser) -> Result<(), TextError>
-    requires { IsCapped lexeme }
+fn end(lexeme: Lexeme, parser: &mut Parser) -> Result<(), Stop>
+    requires { IsLexeme lexeme }
     ensures ok { OnOk result (ending lexeme parser.old ≡ Some parser.new) }
-    ensures unread { IsErrOf result (TextError.Fault TextFault.Unread) → ending lexeme parser.old ≡ None }
+    ensures refused { IsErrOf result Stop.Refused → ending lexeme parser.old ≡ None }
+    ensures rings { OnOk result (parser.new.kept.faults.rings ≡ parser.old.kept.faults.rings) }
 {
     match lexeme {
         Lexeme::Blank => Ok(()),
-        Lexeme::Word { typed: 7 } => parser.word(),
-        Lexeme::Number {
-            negative,
-            some_digit: true,
-            size,
-        } => {
-            let size = size as i32;
-            parser.number(if negative { -size } else { size })
+        Lexeme::Word { at, keyword, typed } if keyword.is_complete(typed) => {
+            parser.word(keyword, at)
         }
-        _ => Err(unread()),
+        Lexeme::Number(number) if number.some_digit => {
+            parser.number(number.at, number.value(), number.whole)
+        }
+        _ => Err(Stop::Refused),
     }
 }
 
-/// Begins a lexeme with a byte, or lets the parser take the token that the byte is.
-fn begin(parser: &mut Parser, byte: u8) -> Result<Lexeme, TextError>
-    ensures ok { IfOk result (λ lexeme. beginning parser.old byte ≡ Some (lexeme, parser.new)) }
-    ensures capped { IfOk result IsCapped }
-    ensures unread { IsErrOf result (TextError.Fault TextFault.Unread) → beginning parser.old byte ≡ None }
+/// Begins a lexeme with a byte behind `at` bytes, or lets the parser take the token that the byte is.
+fn begin(at: u64, parser: &mut Parser, byte: u8) -> Result<Lexeme, Stop>
+    requires { parser.old.kept.faults.rings + 1 < 2 ^ 32 }
+    ensures ok { IfOk result (λ lexeme. beginning CAP at parser.old byte ≡ Some (lexeme, parser.new)) }
+    ensures kept { IfOk result IsLexeme }
+    ensures refused { IsErrOf result Stop.Refused → beginning CAP at parser.old byte ≡ None }
+    ensures rings { OnOk result (parser.new.kept.faults.rings ≤ parser.old.kept.faults.rings + 1) }
 {
     if is_white(byte) {
         return Ok(Lexeme::Blank);
     }
-    if is_digit(byte) {
-        return Ok(Lexeme::Number {
-            negative: false,
-            some_digit: true,
-            size: u32::from(byte - b'0'),
-        });
+    if is_letter(byte) {
+        return match keyword_at(parser.place(), byte.to_ascii_uppercase()) {
+            Some(keyword) => Ok(Lexeme::Word {
+                at,
+                keyword,
+                typed: 1,
+            }),
+            None => Err(Stop::Refused),
+        };
+    }
+    if is_number_byte(byte) {
+        if !parser.place().takes_number() {
+            return Err(Stop::Refused);
+        }
+        return match Number::begun(at, byte) {
+            Some(number) => Ok(Lexeme::Number(number)),
+            None => Err(Stop::Refused),
+        };
     }
     match byte {
-        b'-' => {
-            return Ok(Lexeme::Number {
-                negative: true,
-                some_digit: false,
-                size: 0,
-            });
-        }
-        b'P' | b'p' => return Ok(Lexeme::Word { typed: 1 }),
         b'(' => parser.open()?,
         b')' => parser.close()?,
         b',' => parser.comma()?,
-        _ => return Err(unread()),
+        _ => return Err(Stop::Refused),
     }
     Ok(Lexeme::Blank)
 }
 
-/// Takes one byte more.
-fn read_byte(lexeme: Lexeme, parser: &mut Parser, byte: u8) -> Result<Lexeme, TextError>
-    requires { IsCapped lexeme }
-    ensures ok { IfOk result (λ next. read_byte lexeme parser.old byte ≡ Some (next, parser.new)) }
-    ensures capped { IfOk result IsCapped }
-    ensures unread { IsErrOf result (TextError.Fault TextFault.Unread) → read_byte lexeme parser.old byte ≡ None }
+/// Takes one byte more, behind `at` bytes.
+fn read_byte(at: u64, lexeme: Lexeme, parser: &mut Parser, byte: u8) -> Result<Lexeme, Stop>
+    requires kept { IsLexeme lexeme }
+    requires room { parser.old.kept.faults.rings + 1 < 2 ^ 32 }
+    ensures ok { IfOk result (λ next. read_byte CAP at lexeme parser.old byte ≡ Some (next, parser.new)) }
+    ensures kept { IfOk result IsLexeme }
+    ensures refused { IsErrOf result Stop.Refused → read_byte CAP at lexeme parser.old byte ≡ None }
+    ensures rings { OnOk result (parser.new.kept.faults.rings ≤ parser.old.kept.faults.rings + 1) }
 {
     if lexeme.goes_on(byte) {
-        return lexeme.typed_on(byte).ok_or(unread());
+        return lexeme.typed_on(byte).ok_or(Stop::Refused);
     }
     end(lexeme, parser)?;
-    begin(parser, byte)
+    begin(at, parser, byte)
+}
+
+/// What a refusal behind `at` bytes means.
+fn stopped(stop: Stop, at: u64) -> TextError
+    ensures { result ≡ error_of stop at }
+{
+    match stop {
+        Stop::Refused => TextError::Fault(TextFault::Syntax { at }),
+        Stop::NoMemory => TextError::NoMemory,
+    }
 }
 
 fn read_all(alloc: Global, bytes: &[u8]) -> Result<Coverage, TextError>
-    ensures ok { IfOk result (λ c. coverage_of bytes.now ≡ Some c) }
-    ensures unread { IsErrOf result (TextError.Fault TextFault.Unread) → coverage_of bytes.now ≡ None }
+    requires { length bytes.now ≤ 67108864 }
+    ensures { Gives result (answer CAP 0 Blank start bytes.now) }
 {
     let mut parser = Parser::new(alloc);
     let mut lexeme = Lexeme::Blank;
-    for byte in bytes {
-        lexeme = read_byte(lexeme, &mut parser, *byte)?;
+    for (at, byte) in bytes.iter().enumerate() {
+        match read_byte(at as u64, lexeme, &mut parser, *byte) {
+            Ok(next) => lexeme = next,
+            Err(stop) => return Err(stopped(stop, at as u64)),
+        }
     }
-    end(lexeme, &mut parser)?;
-    parser.finish()
+    let at = bytes.len() as u64;
+    match end(lexeme, &mut parser) {
+        Ok(()) => parser.finish(at),
+        Err(stop) => Err(stopped(stop, at)),
+    }
 }
 
-/// Reads a text of polygons; each is a member of the coverage.
+/// Reads a well-known text of polygons: each polygon, multipolygon and element of a collection is a member of the
+/// coverage, in order.
 pub fn read_text(alloc: Global, bytes: &[u8]) -> Result<Coverage, TextError>
     requires { length bytes.now ≤ 67108864 }
     ensures read { IfOk result (λ c. Reads bytes.now c) }
+    ensures faultless { OnOk result (IsFaultless bytes.now) }
     ensures formed { IfOk result IsFormed }
-    ensures unread { IsErrOf result (TextError.Fault TextFault.Unread)
-        → (c : List (List (List (List Coord)))) → Reads bytes.now c → ⊥ }
-    // A file has at most one reading.
-    ensures one { (c d : List (List (List (List Coord)))) → Reads bytes.now c → Reads bytes.now d → c ≡ d }
+    ensures fault { (fault : TextFault) → IsErrOf result (TextError.Fault fault) → IsFault bytes.now fault }
 {
     read_all(alloc, bytes)
 }
+
+/// Laws of texts: each has at most one reading and at most one fault, and has a fault or is read without one.
+pub fn one_answer()
+    ensures reading { (bytes : List ℕ) (c d : List (List (List (List Coord)))) → Reads bytes c → Reads bytes d → c ≡ d }
+    ensures fault { (bytes : List ℕ) (e f : TextFault) → IsFault bytes e → IsFault bytes f → e ≡ f }
+    ensures either { (bytes : List ℕ)
+        → ((c : List (List (List (List Coord)))) × Reads bytes c × IsFaultless bytes) ⊎ ((fault : TextFault) × IsFault bytes fault) }
+{}

@@ -29,13 +29,24 @@ fn answer(alloc: Global, text: &[u8]) -> Result<String, Fail> {
     }
     Ok(match read_text(alloc, text) {
         Ok(coverage) => shown(alloc, &coverage)?,
-        Err(TextError::Fault(TextFault::Unread)) => String::from_str(alloc, "unread")?,
+        Err(TextError::Fault(fault)) => named(alloc, fault)?,
         Err(TextError::NoMemory) => String::from_str(alloc, "no memory")?,
     })
 }
 
+fn named(alloc: Global, fault: TextFault) -> Result<String, AllocError> {
+    match fault {
+        TextFault::Syntax { at } => format!(in alloc; "syntax {at}"),
+        TextFault::NotPlanar { at } => format!(in alloc; "not planar {at}"),
+        TextFault::NotWhole { at } => format!(in alloc; "not whole {at}"),
+        TextFault::OutOfRange { at } => format!(in alloc; "out of range {at}"),
+        TextFault::RingShort { ring } => format!(in alloc; "short {ring}"),
+        TextFault::RingOpen { ring } => format!(in alloc; "open {ring}"),
+    }
+}
+
 #[test]
-fn files_of_closed_polygons_are_read(rt: HostRuntime) -> Result<(), Fail> {
+fn files_are_read(rt: HostRuntime) -> Result<(), Fail> {
     for (text, want) in [
         ("", ""),
         (" \t\r\n", ""),
@@ -57,6 +68,23 @@ fn files_of_closed_polygons_are_read(rt: HostRuntime) -> Result<(), Fail> {
             "POLYGON((-16777216 16777216,0 0,0 0,-16777216 16777216))",
             "mpr -16777216 16777216 0 0 0 0",
         ),
+        ("GEOMETRYCOLLECTION EMPTY", ""),
+        ("GEOMETRYCOLLECTION (POLYGON EMPTY, POLYGON EMPTY)", "mm"),
+        (
+            "MULTIPOLYGON (EMPTY, ((0 0, 4 0, 0 4, 0 0)))",
+            "mpr 0 0 4 0 0 4",
+        ),
+        ("multipolygon empty POLYGON EMPTY", "mm"),
+        ("POLYGON ((+0 -0, 4. 0, 0 04, .0 0))", "mpr 0 0 4 0 0 4"),
+        ("POLYGON ((0 0, 1.0 0, 0 5, 0 0))", "mpr 0 0 1 0 0 5"),
+        (
+            "\tPOLYGON\r\n(\t(0\t0,\r1\n0,1 1,0 0\t)\n)\r\tPOLYGON EMPTY\n\nMULTIPOLYGON\tEMPTY\r",
+            "mpr 0 0 1 0 1 1mm",
+        ),
+        (
+            "GeometryCollection(MultiPolygon(((0 0,1 0,1 1,0 0)),((2 2,3 2,3 3,2 2))),Polygon((5 5,6 5,5 6,5 5)))Polygon Empty",
+            "mpr 0 0 1 0 1 1pr 2 2 3 2 3 3mpr 5 5 6 5 5 6m",
+        ),
     ] {
         let got = answer(rt.alloc(), text.as_bytes())?;
         assert_eq!(rt; got.as_str(), want, "at {text}");
@@ -65,29 +93,128 @@ fn files_of_closed_polygons_are_read(rt: HostRuntime) -> Result<(), Fail> {
 }
 
 #[test]
-fn other_files_are_unread(rt: HostRuntime) -> Result<(), Fail> {
-    for text in [
-        "POLYGON EMPTY",
-        "POLYGON((0 0,1 0,0 0))",
-        "POLYGON((0 0,1 0,1 1,0 1))",
-        "POLYGON((16777217 0,1 0,1 1,16777217 0))",
-        "POLYGON((0 -16777217,1 0,1 1,0 -16777217))",
-        "POLYGON((999999999999999999999999999999 0,1 0,1 1,0 0))",
-        "POLYGON((0 0 1 0,1 1,0 0))",
-        "POLYGON((0 0,1 0,1-1,0 0))",
-        "POLYGON((0 0,1 0,1 1,0 0)) x",
-        "POLYGON((0 0,1 0,1 1,0 0)))",
-        "POLYGON((0 0,1 0,1 1,0 0)",
-        "POLYGON((0 0,1 0,1 1,0 0),)",
-        "POLYGON()",
-        "POLYGO((0 0,1 0,1 1,0 0))",
-        "POLYGONS((0 0,1 0,1 1,0 0))",
-        "POLYGON((0 0,1 0,1 1,- 0))",
-        "POLYGON((0 0,1 0,1 1.0,0 0))",
-        "MULTIPOLYGON(((0 0,1 0,1 1,0 0)))",
+fn each_fault_has_its_place(rt: HostRuntime) -> Result<(), Fail> {
+    for (text, want) in [
+        ("POLYGONEMPTY", "syntax 7"),
+        ("POINT (1 2)", "syntax 2"),
+        ("SRID=1;POLYGON EMPTY", "syntax 0"),
+        ("POLYGON ((0 0, 1e3 0, 0 1, 0 0))", "syntax 16"),
+        ("POLYGON", "syntax 7"),
+        ("POLYGON M EMPTY", "not planar 8"),
+        ("POLYGONZ", "syntax 7"),
+        ("POLYGON ZEMPTY", "syntax 9"),
+        ("POLYGON Z M", "syntax 10"),
+        ("POLYGON ((0 0, 1", "syntax 16"),
+        ("POLYGON ((0 0, 1.", "syntax 17"),
+        ("POLYGON ((0 0, +", "syntax 16"),
+        ("POLYGON ((0 0, .", "syntax 16"),
+        ("POLYGON ((0 0, . ", "syntax 16"),
+        ("POLYGON ((0 0, 1.2.3", "syntax 18"),
+        ("POLYGON ((0 0, 1-2", "syntax 16"),
+        ("POLYGON ((0 0 0 0 0", "syntax 18"),
+        ("POLYGON ((0,", "syntax 11"),
+        ("POLYGON (EMPTY)", "syntax 9"),
+        ("POLYGON ()", "syntax 9"),
+        ("MULTIPOLYGON ()", "syntax 14"),
+        ("GEOMETRYCOLLECTION (GEOMETRYCOLLECTION EMPTY)", "syntax 20"),
+        ("GEOMETRYCOLLECTION (EMPTY)", "syntax 20"),
+        ("POLYGON EMPTY)", "syntax 13"),
+        ("POLYGON EMPTY,", "syntax 13"),
+        ("MULTIPOLYGON(((0 0, 4 0, 0 4, 0 0)) ((", "syntax 36"),
+        ("POLYGON((0 0,1 0,1 1,0 0)) x", "syntax 27"),
+        ("\u{feff}POLYGON EMPTY", "syntax 0"),
+        ("POLYGON ((0 0, 16777217 0, 0 5, 0 0))", "out of range 15"),
+        ("POLYGON ((0 0, 1.5 -16777217, 0 5, 0 0))", "not whole 15"),
+        ("POLYGON ((0 0, 1 -16777217, .5 5, 0 0))", "out of range 17"),
+        ("POLYGON Z ((0 0 1, 4 0 1, 0 4 1, 0 0 1))", "not planar 8"),
+        ("POLYGON ((0 0 1, 4 0 1, 0 4 1, 0 0 1))", "not planar 14"),
+        ("POLYGON ((.5 0, 0 0 1))", "not planar 20"),
+        ("POLYGON ((0 0 1 2)) POLYGON zM EMPTY", "not planar 14"),
+        ("POLYGON ((0 0, 10 0, 0 0))", "short 0"),
+        ("POLYGON ((0 0, 10 0, 10 10, 0 10))", "open 0"),
+        (
+            "POLYGON ((0 0, 1 0, 0 1, 0 0), (0 0)) MULTIPOLYGON (((5 5, 6 6, 7 7, 8 8)))",
+            "short 1",
+        ),
+        (
+            "POLYGON ((0 0, 1 0, 0 1, 0 0)) MULTIPOLYGON (((5 5, 6 6, 7 7, 8 8)), ((0 0)))",
+            "open 1",
+        ),
+        (
+            "POLYGON ((0 0, 10 0, 999999999999999999999999999999 10, 0 10))",
+            "out of range 21",
+        ),
     ] {
         let got = answer(rt.alloc(), text.as_bytes())?;
-        assert_eq!(rt; got.as_str(), "unread", "at {text}");
+        assert_eq!(rt; got.as_str(), want, "at {text}");
+    }
+    Ok(())
+}
+
+#[test]
+fn bytes_that_are_no_text_are_refused(rt: HostRuntime) -> Result<(), Fail> {
+    let got = answer(rt.alloc(), &[0xff, 0xfe])?;
+    assert_eq!(rt; got.as_str(), "syntax 0");
+    Ok(())
+}
+
+/// A line, and each of its beginnings: none but the whole is a file.
+#[test]
+fn beginnings_are_cut_where_they_end(rt: HostRuntime) -> Result<(), Fail> {
+    let good = "MULTIPOLYGON (EMPTY, ((+0 0.0, 4. 0, 0 .0, 0 0)))".as_bytes();
+    for n in 1..good.len() {
+        let got = answer(rt.alloc(), &good[..n])?;
+        let want = format!(in rt.alloc(); "syntax {n}")?;
+        assert_eq!(rt; got.as_str(), want.as_str(), "at {n}");
+    }
+    let got = answer(rt.alloc(), good)?;
+    assert_eq!(rt; got.as_str(), "mpr 0 0 4 0 0 0");
+    Ok(())
+}
+
+/// Each mixture of case of a word.
+#[test]
+fn words_are_read_in_any_case(rt: HostRuntime) -> Result<(), Fail> {
+    for mask in 0..128u32 {
+        let mut text = Vec::new(rt.alloc());
+        for (i, letter) in b"polygon".iter().enumerate() {
+            let raised = (mask >> i) & 1 == 1;
+            text.push(if raised {
+                letter.to_ascii_uppercase()
+            } else {
+                *letter
+            })?;
+        }
+        text.extend_from_slice(b" eMpTy")?;
+        let got = answer(rt.alloc(), text.as_slice())?;
+        assert_eq!(rt; got.as_str(), "m", "at {mask}");
+    }
+    Ok(())
+}
+
+#[test]
+fn a_million_brackets_are_refused(rt: HostRuntime) -> Result<(), Fail> {
+    let mut text = Vec::new(rt.alloc());
+    text.extend_from_slice(b"MULTIPOLYGON")?;
+    for _ in 0..1_000_000 {
+        text.push(b'(')?;
+    }
+    let got = answer(rt.alloc(), text.as_slice())?;
+    assert_eq!(rt; got.as_str(), "syntax 15");
+    Ok(())
+}
+
+#[test]
+fn a_number_of_a_thousand_digits_is_read(rt: HostRuntime) -> Result<(), Fail> {
+    for (digit, want) in [(b'0', "mpr 0 0 1 0 1 1"), (b'7', "out of range 9")] {
+        let mut text = Vec::new(rt.alloc());
+        text.extend_from_slice(b"POLYGON((")?;
+        for _ in 0..1000 {
+            text.push(digit)?;
+        }
+        text.extend_from_slice(b" 0,1 0,1 1,0 0))")?;
+        let got = answer(rt.alloc(), text.as_slice())?;
+        assert_eq!(rt; got.as_str(), want);
     }
     Ok(())
 }

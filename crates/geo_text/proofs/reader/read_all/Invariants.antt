@@ -1,11 +1,13 @@
-use Rattle.std.proofs.Common.{◌≡◌, drop}
-use Rattle.geo_text.specs.Machine.{read_bytes, start, IsCapped}
+use Rattle.std.proofs.Common.{◌≡◌, ◌≤◌, drop}
+use Rattle.geo_text.specs.Machine.{IsLexeme, answer, start}
+use Rattle.geo_text.specs.declared.number.TheConstants.{CAP}
 use Rattle.geo_text.specs.declared.lexeme.Lexeme.TheVariants.{Blank}
 use Rattle.geo_text.proofs.reader.read_all.Given as goal
 
--- what is left, read from here, is what the file is
-abbrev pub invariant-loop-byte : goal.invariant-loop-byte
-invariant-loop-byte l = record {
-  capped : IsCapped l.lexeme;
-  rest : read_bytes l.lexeme l.parser (drop l.byte-index l.bytes) ≡ read_bytes Blank start l.bytes;
+-- the answer to what is left is the answer to the file
+abbrev pub invariant-loop-at : goal.invariant-loop-at
+invariant-loop-at l = record {
+  kept : IsLexeme l.lexeme;
+  room : l.parser.kept.faults.rings ≤ l.at;
+  rest : answer CAP l.at l.lexeme l.parser (drop l.at l.bytes) ≡ answer CAP 0 Blank start l.bytes;
 }

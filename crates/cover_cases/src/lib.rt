@@ -1,0 +1,12 @@
+//! Cases of the whole program: words, files in memory and the calls of them that are to fail, each with the
+//! answer and with what the files then hold, as worked out by hand.
+//!
+//! Its promise: a case runs over exactly the files `in` and `out`, and `out` isn't empty before, so that a
+//! refusal that touches it shows.
+#![tactic(auto)]
+
+mod files;
+#[cfg(test)]
+mod tests;
+
+pub use files::{BEFORE, shelf_of};

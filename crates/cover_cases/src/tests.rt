@@ -1,0 +1,340 @@
+use crate::{BEFORE, shelf_of};
+use cov_io::{Call, Fail, Shelf};
+use cover_cli::{Outcome, cover, message, status};
+use geo_text::TextFault;
+use std::alloc::{AllocError, Global};
+use std::process::Abort;
+use std::test;
+
+const ROOM: usize = 4_194_304;
+
+// A square, and a triangle whose tip touches the middle of the square's side.
+const TOUCH: &str =
+    "POLYGON ((0 0, 10 0, 10 10, 0 10, 0 0))\nPOLYGON ((10 5, 20 0, 20 10, 10 5))\n";
+
+const TOUCH_MARKS: &str =
+    "MULTILINESTRING ((10 0, 10 10))\nMULTILINESTRING ((10 5, 20 0), (10 5, 20 10))\n";
+
+// The bytes of the output before the program ran are no text of polygons.
+const NO_TEXT: Outcome = Outcome::BadText(TextFault::Syntax { at: 0 });
+
+// Runs the program on the words of a line.
+fn answer(alloc: Global, line: &str, files: &mut Shelf) -> Result<Outcome, AllocError> {
+    let mut words = Vec::new(alloc);
+    for word in line.split_whitespace() {
+        words.push(String::from_str(alloc, word)?)?;
+    }
+    Ok(cover(alloc, &words, files))
+}
+
+fn holds(files: &Shelf, name: &str, text: &str) -> bool {
+    match files.held(name) {
+        Some(bytes) => bytes == text.as_bytes(),
+        None => false,
+    }
+}
+
+// The two files hold these texts.
+fn expect_files(rt: &impl Abort, files: &Shelf, input: &str, output: &str, case: &str) {
+    assert!(rt; holds(files, "in", input), "in: {case}");
+    assert!(rt; holds(files, "out", output), "out: {case}");
+}
+
+#[test]
+fn validate_lists_the_segments_at_fault(rt: HostRuntime) -> Result<(), test::Fail> {
+    for (case, input, expected, output) in [
+        (
+            "a tip that touches a side marks both sides of the tip and the side",
+            TOUCH,
+            Outcome::Marked { edges: 3 },
+            TOUCH_MARKS,
+        ),
+        (
+            "of rings wound the other way the same segments are marked, in the order of the points",
+            "POLYGON ((0 0, 0 10, 10 10, 10 0, 0 0))\nPOLYGON ((10 5, 20 10, 20 0, 10 5))\n",
+            Outcome::Marked { edges: 3 },
+            "MULTILINESTRING ((10 0, 10 10))\nMULTILINESTRING ((10 5, 20 10), (10 5, 20 0))\n",
+        ),
+        (
+            "sides that cross are marked",
+            "POLYGON ((0 0, 10 10, 10 0, 0 10, 0 0))",
+            Outcome::Marked { edges: 2 },
+            "MULTILINESTRING ((0 0, 10 10), (0 10, 10 0))\n",
+        ),
+        (
+            "of two squares that overlap along their sides the two sides that meet nothing stay",
+            "POLYGON ((0 0, 10 0, 10 10, 0 10, 0 0))\nPOLYGON ((5 0, 15 0, 15 10, 5 10, 5 0))\n",
+            Outcome::Marked { edges: 6 },
+            "MULTILINESTRING ((0 0, 10 0), (10 0, 10 10), (0 10, 10 10))\n\
+             MULTILINESTRING ((5 0, 15 0), (5 10, 15 10), (5 0, 5 10))\n",
+        ),
+        (
+            "a side that is walked there and back is marked twice",
+            "POLYGON ((0 0, 10 0, 0 0, 0 0))",
+            Outcome::Marked { edges: 2 },
+            "MULTILINESTRING ((0 0, 10 0), (0 0, 10 0))\n",
+        ),
+        (
+            "each side of a square that is drawn twice is marked in both",
+            "POLYGON ((0 0, 10 0, 10 10, 0 10, 0 0))\nPOLYGON ((0 0, 10 0, 10 10, 0 10, 0 0))\n",
+            Outcome::Marked { edges: 8 },
+            "MULTILINESTRING ((0 0, 10 0), (10 0, 10 10), (0 10, 10 10), (0 0, 0 10))\n\
+             MULTILINESTRING ((0 0, 10 0), (10 0, 10 10), (0 10, 10 10), (0 0, 0 10))\n",
+        ),
+        (
+            "a square within another is marked, and the outer one isn't",
+            "POLYGON ((0 0, 10 0, 10 10, 0 10, 0 0))\nPOLYGON ((2 2, 4 2, 4 4, 2 4, 2 2))\n",
+            Outcome::Marked { edges: 4 },
+            "MULTILINESTRING EMPTY\nMULTILINESTRING ((2 2, 4 2), (4 2, 4 4), (2 4, 4 4), (2 2, 2 4))\n",
+        ),
+        (
+            "a triangle in one of two neighbours, on their common side, is marked and that side in the one",
+            "POLYGON ((0 0, 10 0, 10 10, 0 10, 0 0))\nPOLYGON ((10 0, 20 0, 20 10, 10 10, 10 0))\n\
+             POLYGON ((10 0, 15 5, 10 10, 10 0))\n",
+            Outcome::Marked { edges: 4 },
+            "MULTILINESTRING EMPTY\nMULTILINESTRING ((10 0, 10 10))\n\
+             MULTILINESTRING ((10 0, 15 5), (10 10, 15 5), (10 0, 10 10))\n",
+        ),
+        (
+            "of six parcels, in several lines and in mixed case, two overlap",
+            "Polygon((0 0, 100 0, 100 100, 0 100, 0 0))\n\
+             POLYGON ((100 0, 200 0, 200 100,\n          100 100, 102 50, 100 0))\n\
+             polygon ((200 0, 300 0, 300 100, 250 103, 200 100, 200 0))\n\
+             POLYGON ((0 100, 100 100, 100 200, 0 200, 0 100))\n\
+             Polygon ((100 100, 200 100, 200 200, 100 200, 100 100))\n\
+             POLYGON ((200 100, 300 100, 300 200, 200 200, 201 150, 200 100))\n",
+            Outcome::Marked { edges: 3 },
+            "MULTILINESTRING EMPTY\nMULTILINESTRING EMPTY\n\
+             MULTILINESTRING ((250 103, 300 100), (200 100, 250 103))\n\
+             MULTILINESTRING EMPTY\nMULTILINESTRING EMPTY\nMULTILINESTRING ((200 100, 300 100))\n",
+        ),
+        ("an empty file has no members", "", Outcome::Done, ""),
+        (
+            "a square in the hole of another is in neither's way",
+            "POLYGON ((0 0, 20 0, 20 20, 0 20, 0 0), (5 5, 5 15, 15 15, 15 5, 5 5))\n\
+             POLYGON ((7 7, 9 7, 9 9, 7 9, 7 7))\n",
+            Outcome::Done,
+            "MULTILINESTRING EMPTY\nMULTILINESTRING EMPTY\n",
+        ),
+        (
+            "a square that fills the hole of another shares its sides from the other side",
+            "POLYGON ((0 0, 20 0, 20 20, 0 20, 0 0), (5 5, 5 15, 15 15, 15 5, 5 5))\n\
+             POLYGON ((5 5, 15 5, 15 15, 5 15, 5 5))\n",
+            Outcome::Done,
+            "MULTILINESTRING EMPTY\nMULTILINESTRING EMPTY\n",
+        ),
+        (
+            "a ring may be wound either way",
+            "POLYGON ((0 0, 0 10, 10 10, 10 0, 0 0))",
+            Outcome::Done,
+            "MULTILINESTRING EMPTY\n",
+        ),
+        (
+            "a vertex beside a side, in the same pixel, isn't on it",
+            "POLYGON ((0 0, 10 1, 0 10, 0 0))\nPOLYGON ((5 0, 10 -10, 0 -10, 5 0))\n",
+            Outcome::Done,
+            "MULTILINESTRING EMPTY\nMULTILINESTRING EMPTY\n",
+        ),
+        (
+            "a polygon without rings is a member without segments",
+            "POLYGON EMPTY",
+            Outcome::Done,
+            "MULTILINESTRING EMPTY\n",
+        ),
+        (
+            "a fraction of zeros is read",
+            "POLYGON ((0 0, 1.0 0, 0 5, 0 0))",
+            Outcome::Done,
+            "MULTILINESTRING EMPTY\n",
+        ),
+    ] {
+        let mut files = shelf_of(rt.alloc(), input.as_bytes(), &[], ROOM, ROOM)?;
+        let came = answer(rt.alloc(), "validate in out", &mut files)?;
+        assert_eq!(rt; came, expected, "{case}");
+        expect_files(&rt, &files, input, output, case);
+    }
+    Ok(())
+}
+
+#[test]
+fn each_fault_of_a_text_is_answered_at_its_place(rt: HostRuntime) -> Result<(), test::Fail> {
+    for (input, fault) in [
+        ("POLYGON ((0 0, 1", TextFault::Syntax { at: 16 }),
+        (
+            "POLYGON ((0 0, 16777217 0, 0 5, 0 0))",
+            TextFault::OutOfRange { at: 15 },
+        ),
+        (
+            "POLYGON ((0 0, 1.5 0, 0 5, 0 0))",
+            TextFault::NotWhole { at: 15 },
+        ),
+        (
+            "POLYGON Z ((0 0 1, 4 0 1, 0 4 1, 0 0 1))",
+            TextFault::NotPlanar { at: 8 },
+        ),
+        (
+            "POLYGON ((0 0 1, 4 0 1, 0 4 1, 0 0 1))",
+            TextFault::NotPlanar { at: 14 },
+        ),
+        (
+            "POLYGON ((0 0, 10 0, 0 0))",
+            TextFault::RingShort { ring: 0 },
+        ),
+        (
+            "POLYGON ((0 0, 10 0, 10 10, 0 10))",
+            TextFault::RingOpen { ring: 0 },
+        ),
+    ] {
+        let mut files = shelf_of(rt.alloc(), input.as_bytes(), &[], ROOM, ROOM)?;
+        let came = answer(rt.alloc(), "validate in out", &mut files)?;
+        assert_eq!(rt; came, Outcome::BadText(fault), "{input}");
+        expect_files(&rt, &files, input, BEFORE, input);
+    }
+    Ok(())
+}
+
+#[test]
+fn words_name_the_operation_and_its_files(rt: HostRuntime) -> Result<(), test::Fail> {
+    let marked = Outcome::Marked { edges: 3 };
+    for (line, expected, input, output) in [
+        ("", Outcome::Usage, TOUCH, BEFORE),
+        ("validate", Outcome::Usage, TOUCH, BEFORE),
+        ("validate in", Outcome::Usage, TOUCH, BEFORE),
+        ("clean in out", Outcome::Usage, TOUCH, BEFORE),
+        ("Validate in out", Outcome::Usage, TOUCH, BEFORE),
+        ("validate -in out", Outcome::Usage, TOUCH, BEFORE),
+        ("validate in -out", Outcome::Usage, TOUCH, BEFORE),
+        ("validate in out more", Outcome::Usage, TOUCH, BEFORE),
+        ("validate none out", Outcome::ReadFault, TOUCH, BEFORE),
+        ("validate in none", Outcome::WriteFault, TOUCH, BEFORE),
+        ("validate out in", NO_TEXT, TOUCH, BEFORE),
+        ("validate in in", marked, TOUCH_MARKS, BEFORE),
+        ("validate in out", marked, TOUCH, TOUCH_MARKS),
+    ] {
+        let mut files = shelf_of(rt.alloc(), TOUCH.as_bytes(), &[], ROOM, ROOM)?;
+        let came = answer(rt.alloc(), line, &mut files)?;
+        assert_eq!(rt; came, expected, "{line}");
+        expect_files(&rt, &files, input, output, line);
+    }
+    Ok(())
+}
+
+#[test]
+fn a_call_that_fails_is_answered_and_leaves_the_bytes_before_it(
+    rt: HostRuntime,
+) -> Result<(), test::Fail> {
+    let marked = Outcome::Marked { edges: 3 };
+    for (call, nth, expected, output) in [
+        (Call::OpenInput, 0, Outcome::ReadFault, BEFORE),
+        (Call::Read, 0, Outcome::ReadFault, BEFORE),
+        (Call::Read, 1, Outcome::ReadFault, BEFORE),
+        (Call::Read, 3, Outcome::ReadFault, BEFORE),
+        // The read that finds the end.
+        (Call::Read, 5, Outcome::ReadFault, BEFORE),
+        (Call::Read, 6, marked, TOUCH_MARKS),
+        (Call::Create, 0, Outcome::WriteFault, BEFORE),
+        (Call::Write, 0, Outcome::WriteFault, ""),
+        (Call::Write, 1, Outcome::WriteFault, "MULTILINESTRING "),
+        (
+            Call::Write,
+            4,
+            Outcome::WriteFault,
+            "MULTILINESTRING ((10 0, 10 10))\nMULTILINESTRING ((10 5, 20 0), (",
+        ),
+        (Call::Write, 5, marked, TOUCH_MARKS),
+        (Call::Close, 0, Outcome::WriteFault, TOUCH_MARKS),
+    ] {
+        let fails = [Fail { call, nth }];
+        let mut files = shelf_of(rt.alloc(), TOUCH.as_bytes(), &fails, 16, ROOM)?;
+        let came = answer(rt.alloc(), "validate in out", &mut files)?;
+        assert_eq!(rt; came, expected, "{call:?} {nth}");
+        expect_files(&rt, &files, TOUCH, output, "validate in out");
+    }
+    Ok(())
+}
+
+#[test]
+fn a_full_file_holds_the_first_bytes(rt: HostRuntime) -> Result<(), test::Fail> {
+    for (case, room, expected, output) in [
+        ("no room", 0, Outcome::WriteFault, ""),
+        (
+            "room for the first line and eight bytes",
+            40,
+            Outcome::WriteFault,
+            "MULTILINESTRING ((10 0, 10 10))\nMULTILIN",
+        ),
+        (
+            "room for all but the last line end",
+            77,
+            Outcome::WriteFault,
+            "MULTILINESTRING ((10 0, 10 10))\nMULTILINESTRING ((10 5, 20 0), (10 5, 20 10))",
+        ),
+        (
+            "room for all",
+            78,
+            Outcome::Marked { edges: 3 },
+            TOUCH_MARKS,
+        ),
+    ] {
+        let mut files = shelf_of(rt.alloc(), TOUCH.as_bytes(), &[], 16, room)?;
+        let came = answer(rt.alloc(), "validate in out", &mut files)?;
+        assert_eq!(rt; came, expected, "{case}");
+        expect_files(&rt, &files, TOUCH, output, case);
+    }
+    Ok(())
+}
+
+#[test]
+fn each_outcome_has_its_status_and_its_message(rt: HostRuntime) -> Result<(), test::Fail> {
+    for (outcome, number, text) in [
+        (Outcome::Done, 0, "done"),
+        (Outcome::Marked { edges: 3 }, 1, "marked 3"),
+        (
+            Outcome::Marked {
+                edges: 18_446_744_073_709_551_615,
+            },
+            1,
+            "marked 18446744073709551615",
+        ),
+        (Outcome::Usage, 2, "usage: cover validate"),
+        (NO_TEXT, 4, "text: syntax at 0"),
+        (
+            Outcome::BadText(TextFault::NotPlanar { at: 14 }),
+            4,
+            "text: not planar at 14",
+        ),
+        (
+            Outcome::BadText(TextFault::NotWhole { at: 15 }),
+            4,
+            "text: not whole at 15",
+        ),
+        (
+            Outcome::BadText(TextFault::OutOfRange {
+                at: 18_446_744_073_709_551_615,
+            }),
+            4,
+            "text: out of range at 18446744073709551615",
+        ),
+        (
+            Outcome::BadText(TextFault::RingShort { ring: 0 }),
+            4,
+            "text: ring 0 is short",
+        ),
+        (
+            Outcome::BadText(TextFault::RingOpen {
+                ring: 4_294_967_295,
+            }),
+            4,
+            "text: ring 4294967295 is open",
+        ),
+        (Outcome::TooLong, 6, "input is longer than 67108864 bytes"),
+        (Outcome::ReadFault, 7, "cannot read"),
+        (Outcome::WriteFault, 8, "cannot write"),
+        (Outcome::NoMemory, 9, "no memory"),
+    ] {
+        assert_eq!(rt; status(&outcome), number, "{text}");
+        let line = message(rt.alloc(), &outcome)?;
+        assert!(rt; line.as_str() == text, "{text}");
+    }
+    Ok(())
+}

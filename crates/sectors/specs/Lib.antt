@@ -1,0 +1,3 @@
+pub mod Sector
+pub mod Laws
+pub mod Examples

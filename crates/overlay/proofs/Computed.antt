@@ -3,7 +3,7 @@ use Rattle.std.proofs.Common.{refl}
 use Rattle.plane.specs.Segment.{side, turn_of}
 use Rattle.plane.specs.Ray.{sweep}
 use Rattle.overlay.specs.Measure.{root, edge_length, trapezoid}
-use Rattle.overlay.specs.Examples.{LengthExamples, SnappedExamples, OverlapExamples, RuleExamples, MoatExamples, NotchedExamples, SectorExamples, StateExamples}
+use Rattle.overlay.specs.Examples.{LengthExamples, SnappedExamples, OverlapExamples, RuleExamples, MoatExamples, NotchedExamples, AngleExamples, StateExamples}
 
 pub length_examples : LengthExamples
 unfolding root edge_length
@@ -27,9 +27,9 @@ notched_examples = record { areas = refl; rings = refl; in_hole = refl; beside_h
 pub snapped_examples : SnappedExamples
 snapped_examples = record { half_segments = refl; half_edges = refl; one_is_even = refl; thin_edges = refl; all_are_even = refl }
 
-pub sector_examples : SectorExamples
+pub angle_examples : AngleExamples
 unfolding turn_of
-sector_examples = record { quarter = refl; not_its_side = refl; not_behind = refl; the_other_way = refl; half = refl; other_half = refl; full = refl; not_itself = refl }
+angle_examples = record { quarter = refl; not_its_side = refl; not_behind = refl; the_other_way = refl; half = refl; other_half = refl; full = refl; not_itself = refl }
 
 pub state_examples : StateExamples
 state_examples = record { before = refl; after = refl; over_removed = refl; two_meet = refl; ring = refl; one_point = refl }

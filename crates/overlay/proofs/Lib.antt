@@ -12,3 +12,4 @@ pub mod Straightening
 pub mod Squares
 pub mod SquareRegions
 pub mod SquareCleaned
+pub mod Angles

@@ -16,7 +16,7 @@ use Rattle.overlay.specs.Overlay.{Overlay, label_of}
 use Rattle.overlay.specs.Measure.{root, edge_length, member_area2, region_area2, border, owned_border}
 use Rattle.overlay.specs.Owner.{Rule, rule_by, least_index, greatest_area, least_area, longest_border, shared_regions, last_state, label_owner, neighbour_of}
 use Rattle.overlay.specs.Lines.{is_same_coord, degree, point_before, point_after, ring_without}
-use Rattle.overlay.specs.Parts.{is_counter_clockwise, is_clockwise, is_in_sector, corners, is_free_corner, boundary, is_in_polygon}
+use Rattle.overlay.specs.Parts.{is_counter_clockwise, is_clockwise, is_in_angle, corners, is_free_corner, boundary, is_in_polygon}
 
 -- ---- writing edges, rings and odd pairs
 
@@ -183,7 +183,7 @@ hole = at 0 0 ++ at 3 6 ++ at 6 3
 abbrev pub pinched : List Coord
 pinched = hole ++ shell
 
--- whether no corner of the rings has a side within the sector on its right
+-- whether no corner of the rings has a side within the angle on its right
 abbrev pub has_free_corners : List (List Coord) → Bool
 has_free_corners rings = list_all (is_free_corner (flat_map sides rings)) (flat_map corners rings)
 
@@ -198,18 +198,18 @@ pub record NotchedExamples : Type 0 where
   pub two_rings : has_free_corners (shell ∷ hole ∷ []) ≡ true
   pub one_walk : has_free_corners (pinched ∷ []) ≡ false
 
--- ---- angular sectors
+-- ---- angles
 
--- what is strictly within a sector at (1, 1)
-pub record SectorExamples : Type 0 where
-  pub quarter : is_in_sector (grid 1 1) (grid 2 1) (grid 1 2) (grid 2 2) ≡ true
-  pub not_its_side : is_in_sector (grid 1 1) (grid 2 1) (grid 1 2) (grid 3 1) ≡ false
-  pub not_behind : is_in_sector (grid 1 1) (grid 2 1) (grid 1 2) (grid 0 0) ≡ false
-  pub the_other_way : is_in_sector (grid 1 1) (grid 1 2) (grid 2 1) (grid 0 0) ≡ true
-  pub half : is_in_sector (grid 1 1) (grid 2 1) (grid 0 1) (grid 1 2) ≡ true
-  pub other_half : is_in_sector (grid 1 1) (grid 2 1) (grid 0 1) (grid 1 0) ≡ false
-  pub full : is_in_sector (grid 1 1) (grid 2 1) (grid 2 1) (grid 0 1) ≡ true
-  pub not_itself : is_in_sector (grid 1 1) (grid 2 1) (grid 2 1) (grid 2 1) ≡ false
+-- what is strictly within an angle at (1, 1)
+pub record AngleExamples : Type 0 where
+  pub quarter : is_in_angle (grid 1 1) (grid 2 1) (grid 1 2) (grid 2 2) ≡ true
+  pub not_its_side : is_in_angle (grid 1 1) (grid 2 1) (grid 1 2) (grid 3 1) ≡ false
+  pub not_behind : is_in_angle (grid 1 1) (grid 2 1) (grid 1 2) (grid 0 0) ≡ false
+  pub the_other_way : is_in_angle (grid 1 1) (grid 1 2) (grid 2 1) (grid 0 0) ≡ true
+  pub half : is_in_angle (grid 1 1) (grid 2 1) (grid 0 1) (grid 1 2) ≡ true
+  pub other_half : is_in_angle (grid 1 1) (grid 2 1) (grid 0 1) (grid 1 0) ≡ false
+  pub full : is_in_angle (grid 1 1) (grid 2 1) (grid 2 1) (grid 0 1) ≡ true
+  pub not_itself : is_in_angle (grid 1 1) (grid 2 1) (grid 2 1) (grid 2 1) ≡ false
 
 -- ---- simplifying
 

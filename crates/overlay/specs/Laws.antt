@@ -1,11 +1,13 @@
 -- The laws that make the definitions of overlays believable.
 use Rattle.std.specs.Prelude.{◌≡◌, ℕ, ◌+◌, ◌*◌, ◌<◌, ◌≤◌, ◌↔◌, nat_lt, int_lt, List, length, Option, Some}
 use Rattle.std.specs.List.{IsFirstBest}
+use Rattle.cov_types.specs.declared.coord.Coord.{Coord}
 use Rattle.cov_types.specs.declared.edge_use.EdgeUse.{EdgeUse}
 use Rattle.cov_types.specs.declared.seg.Seg.{Seg}
 use Rattle.plane.specs.Parity.{member_holds}
 use Rattle.plane.specs.Point.{Point}
 use Rattle.plane.specs.Region.{IsSide, AreRegions}
+use Rattle.sectors.specs.Sector.{HalfEdge, target, is_in_sector, Leaves, IsPlanar}
 use Rattle.overlay.specs.declared.candidate.Candidate.{Candidate}
 use Rattle.overlay.specs.declared.odd_use.OddUse.{OddUse}
 use Rattle.overlay.specs.Noding.{AreEdges, AreLiveEdges, odd_uses}
@@ -13,7 +15,7 @@ use Rattle.overlay.specs.Overlay.{Overlay}
 use Rattle.overlay.specs.Measure.{root, region_area2, border, owned_border}
 use Rattle.overlay.specs.Gap.{IsClearance, IsNarrow}
 use Rattle.overlay.specs.Owner.{Rule, least_index, greatest_area, least_area, longest_border, IsOwner}
-use Rattle.overlay.specs.Parts.{InOnePart}
+use Rattle.overlay.specs.Parts.{InOnePart, is_in_angle}
 
 -- ---- lengths
 
@@ -96,3 +98,10 @@ pub record IsPartEquivalence (o : Overlay) (owners : ℕ → Option ℕ) (i : �
 
 abbrev pub PartLaw : Type 0
 PartLaw = (o : Overlay) (owners : ℕ → Option ℕ) (i : ℕ) → IsPartEquivalence o owners i
+
+-- ---- angles
+
+-- at half-edges that leave a vertex, the angle between two of them is the sector between them
+abbrev pub AngleLaw : Type 0
+AngleLaw = (edges : List Seg) → IsPlanar edges → (v : Coord) (g h k : HalfEdge) → Leaves edges v g → Leaves edges v h → Leaves edges v k
+    → is_in_angle v (target g) (target h) (target k) ≡ is_in_sector g h k

@@ -51,15 +51,18 @@ is_counter_clockwise points = list_all (λ p. holds (ring_edges points) p) (flat
 abbrev pub is_clockwise : List Coord → Bool
 is_clockwise points = list_all (λ p. not (holds (ring_edges points) p)) (flat_map left_points (sides points))
 
--- ---- angular sectors
+-- ---- angles
 
--- w is strictly within the angular sector at v, counter-clockwise from a to c; where a and c are one point this is a full turn
-abbrev pub is_in_sector : Coord → Coord → Coord → Coord → Bool
-is_in_sector v a c w =
+-- p is on the left of the way from v to a
+abbrev pub is_left : Coord → Coord → Coord → Bool
+is_left v a p = int_lt (pos 0) (turn_of v a p)
+
+-- w is strictly within the angle at v counter-clockwise from a to c: a full turn where these are one point, less than half a turn, more, or half
+abbrev pub is_in_angle : Coord → Coord → Coord → Coord → Bool
+is_in_angle v a c w =
     cond (is_same_coord a c) (not (is_same_coord a w)) (
-    cond (int_lt (pos 0) (turn_of v a c))
-    (int_lt (pos 0) (turn_of v a w) && int_lt (pos 0) (turn_of v w c))
-    (int_lt (pos 0) (turn_of v a w) || int_lt (pos 0) (turn_of v w c)))
+    cond (is_left v a c) (is_left v a w && is_left v w c) (
+    cond (is_left v c a) (is_left v a w || is_left v w c) (is_left v a w)))
 
 -- the corners of a ring: each side with the next
 abbrev pub corners : List Coord → List ((Coord × Coord) × (Coord × Coord))
@@ -69,9 +72,9 @@ corners points = zip (sides points) (sides (drop 1 points ++ take 1 points))
 abbrev pub far_ends : Coord → List (Coord × Coord) → List Coord
 far_ends v ways = flat_map (λ way. cond (is_same_coord v way.0) (way.1 ∷ []) [] ++ cond (is_same_coord v way.1) (way.0 ∷ []) []) ways
 
--- from a over v to c: no way round the rings that ends at v is strictly within the sector on the right there
+-- from a over v to c: no way round the rings that ends at v is strictly within the angle on the right there
 abbrev pub is_free_corner : List (Coord × Coord) → (Coord × Coord) × (Coord × Coord) → Bool
-is_free_corner ways ((a, v), (u, c)) = not (list_any (is_in_sector v a c) (far_ends v ways))
+is_free_corner ways ((a, v), (u, c)) = not (list_any (is_in_angle v a c) (far_ends v ways))
 
 -- ---- polygons
 

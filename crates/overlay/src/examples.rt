@@ -1,4 +1,4 @@
-ghost use Rattle.overlay.specs.Examples.{LengthExamples, SnappedExamples, OverlapExamples, RuleExamples, MoatExamples, NotchedExamples, SectorExamples, StateExamples};
+ghost use Rattle.overlay.specs.Examples.{LengthExamples, SnappedExamples, OverlapExamples, RuleExamples, MoatExamples, NotchedExamples, AngleExamples, StateExamples};
 ghost use Rattle.overlay.specs.Snaps.{HotExamples, ChainExamples};
 ghost use Rattle.overlay.specs.Runs.{RunExamples};
 ghost use Rattle.overlay.specs.Square.{SquareExamples};
@@ -11,7 +11,7 @@ pub fn vectors()
     ensures rules { RuleExamples }
     ensures moat { MoatExamples }
     ensures notched { NotchedExamples }
-    ensures sectors { SectorExamples }
+    ensures angles { AngleExamples }
     ensures states { StateExamples }
 {}
 

@@ -1,4 +1,4 @@
-ghost use Rattle.overlay.specs.Laws.{RootLaw, OddUsesLaw, LiveUsesLaw, LiveAgainLaw, NumberingLaw, MeasuresLaw, ClearanceLaw, NarrowLaw, PickLaw, OwnerLaw, PartLaw};
+ghost use Rattle.overlay.specs.Laws.{RootLaw, OddUsesLaw, LiveUsesLaw, LiveAgainLaw, NumberingLaw, MeasuresLaw, ClearanceLaw, NarrowLaw, PickLaw, OwnerLaw, PartLaw, AngleLaw};
 
 /// The root of a number is the whole part of its square root. A call does nothing.
 pub fn root_law()
@@ -37,4 +37,9 @@ pub fn owner_law<State>()
 /// The parts of an owner are disjoint. A call does nothing.
 pub fn part_law()
     ensures { PartLaw }
+{}
+
+/// The angles at a vertex are the sectors between half-edges. A call does nothing.
+pub fn angle_law()
+    ensures { AngleLaw }
 {}

@@ -2,7 +2,7 @@
 //!
 //! It has definitions, laws and examples, and no code but two structs that contracts speak of. Its promise: each definition
 //! counts crossings, asks for lists of points or adds up over edges, and none knows a half-edge, a cycle, a sweep, a heap or an
-//! index. The laws are the public functions `root_law` to `part_law`; `vectors` has examples with numbers, and `instances` has
+//! index. The laws are the public functions `root_law` to `angle_law`; `vectors` has examples with numbers, and `instances` has
 //! small cases of what does not compute, up to one square that clean leaves as it is.
 //!
 //! The files of `specs/`, lowest first:
@@ -24,6 +24,7 @@
 //! - `Numberings`: the sides of edge k (`upper_side`, `lower_side`), and measures under another numbering (`measures_same`).
 //! - `Clearances`: one clearance (`clearance_unique`), and narrow by it (`narrow_is`).
 //! - `Picks`: the first best place (`first_best_is`). `Owners`: one owner. `SameParts`: parts are disjoint (`part_equivalence`).
+//! - `Angles`: the angle between two half-edges that leave a vertex is the sector between them (`angle_is_sector`).
 //! - `Short`: facts of short lists, element by element or by a test. `Computed`, `HalfCrossing`, `Straightening`, `Squares`,
 //!   `SquareRegions`, `SquareCleaned`: the examples and instances.
 #![tactic(auto)]

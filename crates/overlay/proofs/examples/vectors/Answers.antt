@@ -1,4 +1,4 @@
-use Rattle.overlay.proofs.Computed.{length_examples, snapped_examples, overlap_examples, rule_examples, moat_examples, notched_examples, sector_examples, state_examples}
+use Rattle.overlay.proofs.Computed.{length_examples, snapped_examples, overlap_examples, rule_examples, moat_examples, notched_examples, angle_examples, state_examples}
 use Rattle.overlay.proofs.examples.vectors.Goals as goal
 
 pub returns-clause-lengths : goal.returns-clause-lengths
@@ -19,8 +19,8 @@ returns-clause-moat c = moat_examples
 pub returns-clause-notched : goal.returns-clause-notched
 returns-clause-notched c = notched_examples
 
-pub returns-clause-sectors : goal.returns-clause-sectors
-returns-clause-sectors c = sector_examples
+pub returns-clause-angles : goal.returns-clause-angles
+returns-clause-angles c = angle_examples
 
 pub returns-clause-states : goal.returns-clause-states
 returns-clause-states c = state_examples

@@ -1,5 +1,5 @@
 -- The angle between two half-edges that leave a vertex is the sector between them.
-use Rattle.std.proofs.Common.{◌≡◌, ◌⊎◌, inl, inr, refl, sym, ◌∙◌, ap, subst, Bool, true, false, not, ◌&&◌, ◌||◌, cond, List, IsTrue, true≢false, ℤ, pos, ◌<ℤ◌, ◌≤ℤ◌, int_lt, arith}
+use Rattle.std.proofs.Common.{◌≡◌, inl, inr, sym, ◌∙◌, ap, subst, Bool, true, false, not, ◌&&◌, ◌||◌, cond, List, IsTrue, true≢false, pos, ◌<ℤ◌, ◌≤ℤ◌, arith}
 use Rattle.std.proofs.lemmas.Bool.{and_parts, and_from, or_parts, or_from, cond-true, cond-false, not-true, not_from_false, false_from_ne_true, true_from_ne_false, false≢true}
 use Rattle.cov_types.specs.declared.coord.Coord.{Coord}
 use Rattle.cov_types.specs.declared.seg.Seg.{Seg}
@@ -11,7 +11,7 @@ use Rattle.exact.proofs.Ring.{lin}
 use Rattle.plane.specs.Segment.{turn_of}
 use Rattle.plane.proofs.Same.{same_tests}
 use Rattle.plane.proofs.Sides.{turn-same_last, turn-last_two}
-use Rattle.sectors.specs.Sector.{HalfEdge, origin, target, is_in_sector, Leaves, IsPlanar}
+use Rattle.sectors.specs.Sector.{HalfEdge, target, is_in_sector, Leaves, IsPlanar}
 use Rattle.sectors.proofs.Turns.{same_coord_or_not}
 use Rattle.sectors.proofs.Shapes.{narrow_sector, wide_sector, straight_sector, full_sector}
 use Rattle.overlay.specs.Lines.{is_same_coord}

@@ -13,3 +13,4 @@ pub mod Squares
 pub mod SquareRegions
 pub mod SquareCleaned
 pub mod Angles
+pub mod Labels

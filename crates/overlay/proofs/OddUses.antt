@@ -194,6 +194,17 @@ pub live_uses_law : (uses : List EdgeUse) (edges : List Seg) (odd : List OddUse)
     → (member : ℕ) (p : Point) → member_holds (odd_uses edges odd) member p ≡ member_holds uses member p
 live_uses_law uses edges odd h = odd_uses_hold uses edges odd h.ascending h.pairs (λ m e is_odd. (h.exact e).1 (m, is_odd))
 
+-- an odd edge is one of the odd uses an odd number of times
+pub live_odd_again : (uses : List EdgeUse) (edges : List Seg) (odd : List OddUse) → AreLiveEdges uses edges odd → (member : ℕ) (e : Seg) → IsOdd uses member e → IsOdd (odd_uses edges odd) member e
+live_odd_again uses edges odd h member e i = sym (odd_again uses edges odd h.ascending h.pairs (λ m e is_odd. (h.exact e).1 (m, is_odd)) member e) ∙ i
+
+-- each odd use is of an edge of the list
+pub odd_use_listed : (edges : List Seg) (odd : List OddUse) (u : EdgeUse) → Contains (odd_uses edges odd) u → Contains edges u.seg
+odd_use_listed edges odd u h =
+    let found = pair_of edges odd u h in
+    let at = found.1.1.edge in
+    (found.0.edge, slice_get_within edges found.0.edge u.seg at, get_or_from_slice_get edges found.0.edge u.seg u.seg at)
+
 pub live_again_law : (uses : List EdgeUse) (edges : List Seg) (odd : List OddUse) → AreEdges uses edges odd
     → (live : List Seg) (live_odd : List OddUse) → AreLiveEdges (odd_uses edges odd) live live_odd → AreLiveEdges uses live live_odd
 live_again_law uses edges odd h live live_odd k = record {

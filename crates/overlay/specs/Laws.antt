@@ -1,16 +1,18 @@
 -- The laws that make the definitions of overlays believable.
-use Rattle.std.specs.Prelude.{◌≡◌, ℕ, ◌+◌, ◌*◌, ◌<◌, ◌≤◌, ◌↔◌, nat_lt, int_lt, List, length, Option, Some}
+use Rattle.std.specs.Prelude.{◌≡◌, ℕ, ◌+◌, ◌*◌, ◌<◌, ◌≤◌, ◌↔◌, nat_lt, int_lt, List, length, Option, Some, All, Contains, false}
 use Rattle.std.specs.List.{IsFirstBest}
 use Rattle.cov_types.specs.declared.coord.Coord.{Coord}
 use Rattle.cov_types.specs.declared.edge_use.EdgeUse.{EdgeUse}
 use Rattle.cov_types.specs.declared.seg.Seg.{Seg}
+use Rattle.cov_types.specs.Range.{IsSegInRange}
 use Rattle.plane.specs.Parity.{member_holds}
 use Rattle.plane.specs.Point.{Point}
-use Rattle.plane.specs.Region.{IsSide, AreRegions}
+use Rattle.plane.specs.Region.{IsSide, AreRegions, far_point}
+use Rattle.plane.specs.Segment.{upper, lower}
 use Rattle.sectors.specs.Sector.{HalfEdge, target, is_in_sector, Leaves, IsPlanar}
 use Rattle.overlay.specs.declared.candidate.Candidate.{Candidate}
 use Rattle.overlay.specs.declared.odd_use.OddUse.{OddUse}
-use Rattle.overlay.specs.Noding.{AreEdges, AreLiveEdges, odd_uses}
+use Rattle.overlay.specs.Noding.{segments, AreEdges, AreLiveEdges, odd_uses}
 use Rattle.overlay.specs.Overlay.{Overlay}
 use Rattle.overlay.specs.Measure.{root, region_area2, border, owned_border}
 use Rattle.overlay.specs.Gap.{IsClearance, IsNarrow}
@@ -43,6 +45,17 @@ LiveUsesLaw = (uses : List EdgeUse) (edges : List Seg) (odd : List OddUse) → A
 abbrev pub LiveAgainLaw : Type 0
 LiveAgainLaw = (uses : List EdgeUse) (edges : List Seg) (odd : List OddUse) → AreEdges uses edges odd
     → (live : List Seg) (live_odd : List OddUse) → AreLiveEdges (odd_uses edges odd) live live_odd → AreLiveEdges uses live live_odd
+
+-- ---- labels
+
+-- some member holds just one of the two side points of a live edge
+abbrev pub SidesDifferLaw : Type 0
+SidesDifferLaw = (uses : List EdgeUse) (edges : List Seg) (odd : List OddUse) → AreLiveEdges uses edges odd → IsPlanar edges → (e : Seg) → Contains edges e
+    → (member : ℕ) × ¬ (member_holds (odd_uses edges odd) member (lower e) ≡ member_holds (odd_uses edges odd) member (upper e))
+
+-- no member with segments in range holds the point past the range
+abbrev pub FarLaw : Type 0
+FarLaw = (uses : List EdgeUse) → All IsSegInRange (segments uses) → (member : ℕ) → member_holds uses member far_point ≡ false
 
 -- ---- numberings
 

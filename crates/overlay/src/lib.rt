@@ -21,6 +21,7 @@
 //!
 //! - `Roots`: the root is the whole part of the square root (`root_is`), and the only such number (`root_unique`).
 //! - `OddUses`: where all uses are held, the odd ones are (`odd_uses_law`, `live_uses_law`); an odd edge is used (`odd_used`).
+//! - `Labels`: some member holds just one side of a live edge (`sides_differ`), and none the point past the range (`far_free`).
 //! - `Numberings`: the sides of edge k (`upper_side`, `lower_side`), and measures under another numbering (`measures_same`).
 //! - `Clearances`: one clearance (`clearance_unique`), and narrow by it (`narrow_is`).
 //! - `Picks`: the first best place (`first_best_is`). `Owners`: one owner. `SameParts`: parts are disjoint (`part_equivalence`).
@@ -37,6 +38,7 @@ mod odd_use;
 pub use candidate::Candidate;
 pub use examples::{instances, vectors};
 pub use laws::{
-    clearance_law, numbering_law, odd_uses_law, owner_law, part_law, pick_law, root_law,
+    angle_law, clearance_law, label_law, numbering_law, odd_uses_law, owner_law, part_law,
+    pick_law, root_law,
 };
 pub use odd_use::OddUse;

@@ -5,6 +5,9 @@
 
 ghost use Rattle.round_trip.specs.Laws.{IsReadBack};
 
+#[cfg(test)]
+mod tests;
+
 /// The law of writing and reading a coverage, whatever the length of its text. A call does nothing.
 pub fn reading_back()
     ensures { IsReadBack }

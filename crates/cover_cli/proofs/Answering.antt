@@ -150,7 +150,7 @@ validation_made from to s made from_file =
     record {
       members = from_file.members;
       input = from_file.input;
-      writes = of from_file.made_of.edges made.outcome from_file.made_of.outcome (record { members = from_file.members; input = from_file.input; validation = from_file.made_of.validation })
+      writes = of from_file.made_of.edges made.outcome from_file.made_of.outcome (record { members = from_file.members; input = from_file.input; validation = from_file.made_of.validation });
     }
 
 -- the file holds the same, seen from before the input was read

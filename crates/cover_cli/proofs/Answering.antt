@@ -1,16 +1,16 @@
 -- What an operation answers, from how its input was read and its text was written.
-use Rattle.std.proofs.Common.{◌≡◌, ◌≢◌, ℕ, zero, suc, ◌≤◌, ◌<◌, Bool, true, false, List, take, length, Some, IsTrue, refl, sym, ap, subst, ◌∙◌, arith, ◌⊎◌, inl, inr}
+use Rattle.std.proofs.Common.{◌≡◌, ◌≢◌, ℕ, zero, suc, ◌≤◌, ◌<◌, Bool, true, false, List, take, length, Some, IsTrue, refl, sym, ap, subst, ◌∙◌, arith, inl, inr}
 use Rattle.cov_io.specs.Calls.{IsPromised}
 use Rattle.cov_io.specs.Contents.{Contents, SameFiles, HoldsNow, HoldsPrefix}
 use Rattle.cov_io.specs.Count.{Rose}
 use Rattle.cov_io.specs.Frame.{KeepsOutput, KeepsInput}
 use Rattle.cov_io.specs.State.{State, IsTelling}
 use Rattle.cov_types.specs.declared.coord.Coord.{Coord}
-use Rattle.cover_cli.specs.Answers.{input_of, output_of, is_success, is_touching, Writes, HoldsText, HoldsPart, IsUnlessEarlier, IsSuccessUnlessFault, FitsRoom, IsAnswer}
+use Rattle.cover_cli.specs.Answers.{input_of, output_of, is_success, is_touching, Writes, IsAnswer}
 use Rattle.cover_cli.specs.Input.{longest_input, HoldsCoverage, HoldsFault, HoldsTooMuch}
 use Rattle.cover_cli.specs.Made.{marking, IsMadeFrom, IsMadeBy}
 use Rattle.cover_cli.specs.Refusal.{IsCause}
-use Rattle.cover_cli.specs.Validate.{Validates, IsValidation}
+use Rattle.cover_cli.specs.Validate.{Validates}
 use Rattle.cover_cli.specs.Words.{Operation, Validate}
 use Rattle.cover_cli.specs.Written.{IsWritten, IsWrittenWhole, IsWrittenInPart}
 use Rattle.cover_cli.specs.declared.outcome.Outcome.{Outcome}
@@ -150,7 +150,7 @@ validation_made from to s made from_file =
     record {
       members = from_file.members;
       input = from_file.input;
-      writes = of from_file.made_of.edges made.outcome from_file.made_of.outcome (record { members = from_file.members; input = from_file.input; validation = from_file.made_of.validation })
+      writes = of from_file.made_of.edges made.outcome from_file.made_of.outcome (record { members = from_file.members; input = from_file.input; validation = from_file.made_of.validation });
     }
 
 -- the file holds the same, seen from before the input was read

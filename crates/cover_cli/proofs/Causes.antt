@@ -1,7 +1,6 @@
 -- Why an input is refused.
 use Rattle.std.proofs.Common.{◌≡◌, ℕ, ◌≤◌, List, length, Some, IsTrue, refl}
 use Rattle.cov_io.specs.State.{State}
-use Rattle.cover_cli.specs.declared.outcome.Outcome.{Outcome}
 use Rattle.cover_cli.specs.Input.{longest_input}
 use Rattle.cover_cli.specs.Refusal.{outcome_of_text, IsCause}
 use Rattle.geo_text.specs.Fault.{IsFault}

@@ -1,8 +1,6 @@
 -- How a file is read as a coverage, or why not.
-use Rattle.std.specs.Prelude.{◌≡◌, ◌≢◌, ℕ, ◌<◌, ◌≤◌, Bool, true, false, List, length, Some, IsTrue, Result, Ok, Err}
+use Rattle.std.specs.Prelude.{◌≡◌, ℕ, ◌<◌, ◌≤◌, List, length, Some}
 use Rattle.cov_io.specs.State.{State}
-use Rattle.cov_io.specs.Count.{Rose}
-use Rattle.cov_types.specs.Coverage.{IsFormed}
 use Rattle.cov_types.specs.declared.coord.Coord.{Coord}
 use Rattle.geo_text.specs.Fault.{IsFault, IsFaultless}
 use Rattle.geo_text.specs.Reading.{Reads}

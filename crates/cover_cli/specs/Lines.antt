@@ -1,7 +1,6 @@
 -- The lists of segments that the operations write.
-use Rattle.std.specs.Prelude.{◌≡◌, ◌<◌, length, Some, Vec, ℕ, ◌==◌, List, map, filter, flat_map, option_map, option_to_list, slice_get}
+use Rattle.std.specs.Prelude.{◌≡◌, ◌<◌, length, Some, Vec, ℕ, ◌==◌, List, filter, flat_map, option_map, option_to_list, slice_get}
 use Rattle.std.specs.declared.alloc.Global.{Global}
-use Rattle.cov_types.specs.declared.coord.Coord.{Coord}
 use Rattle.cov_types.specs.declared.edge_use.EdgeUse.{EdgeUse}
 use Rattle.cov_types.specs.declared.seg.Seg.{Seg}
 use Rattle.cov_valid.specs.declared.mark.Mark.{Mark}

@@ -283,7 +283,7 @@ read_byte cap a lexeme s b =
     then option_map (λ more. (more, s)) (typed_on cap lexeme b)
     else option_and_then (λ after. beginning cap a after b) (ending lexeme s)
 
--- what a lexeme keeps: a number's size is capped, and no word has more letters than it may have
+-- the size of a number that is being typed is capped
 abbrev pub IsLexeme : Lexeme → Type 0
 IsLexeme (lexemes.Number n) = IsCapped n
 IsLexeme lexeme = Unit {0}

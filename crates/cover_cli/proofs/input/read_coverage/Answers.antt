@@ -3,7 +3,6 @@ use Rattle.std.proofs.Common.{ℕ, ◌≤◌, List, Some, Err, length, sym, ap, 
 use Rattle.std.proofs.lemmas.Result.{err_from_is_err_and}
 use Rattle.cover_cli.proofs.Causes.{text_cause}
 use Rattle.cover_cli.proofs.input.read_coverage.Goals as goal
-use Rattle.geo_text.specs.declared.error.TextError.{TextError}
 
 pub returns-in_err-read_text-clause-cause : goal.returns-in_err-read_text-clause-cause
 returns-in_err-read_text-clause-cause g c =

@@ -1,10 +1,6 @@
 -- The text has the lists of the marks.
-use Rattle.std.proofs.Common.{◌≡◌, ◌∙◌, ap, sym, List, Vec, length, arith}
-use Rattle.std.specs.declared.alloc.Global.{Global}
+use Rattle.std.proofs.Common.{◌≡◌, ◌∙◌, ap, sym, length, arith}
 use Rattle.cov_types.specs.Uses.{uses_of}
-use Rattle.cov_types.specs.declared.edge_use.EdgeUse.{EdgeUse}
-use Rattle.cov_types.specs.declared.seg.Seg.{Seg}
-use Rattle.cov_valid.specs.declared.mark.Mark.{Mark}
 use Rattle.cov_write.specs.Written.{lines_text}
 use Rattle.cover_cli.proofs.Listing.{marked_lists_are, lists_moved}
 use Rattle.cover_cli.specs.Lines.{AreMarkedLists}

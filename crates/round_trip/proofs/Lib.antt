@@ -1,0 +1,6 @@
+pub mod Lists
+pub mod Spelling
+pub mod Tree
+pub mod Spelled
+pub mod Conditions
+pub mod Back

@@ -1,0 +1,17 @@
+pub mod Near
+pub mod Means
+pub mod Vectors
+pub mod Moves
+pub mod Passing
+pub mod Pieces
+pub mod Edges
+pub mod Shadow
+pub mod Crossing
+pub mod NoCrossing
+pub mod Noded
+pub mod Ends
+pub mod First
+pub mod Unique
+pub mod Meets
+pub mod Lone
+pub mod InRange

@@ -18,7 +18,7 @@ use Rattle.cov_types.proofs.Order.{cases_coords}
 use Rattle.plane.specs.Point.{at_coord}
 use Rattle.plane.specs.Ray.{sweep, Rises}
 use Rattle.plane.specs.Snapping.{IsInPixel, IsChain, chain_edges}
-use Rattle.plane.proofs.Points.{same_point-refl, first_between, second_between}
+use Rattle.plane.proofs.Points.{first_between, second_between}
 use Rattle.plane.proofs.Sweeps.{sweep-on_from, sweep-on_to}
 use Rattle.rounding.proofs.Near.{pixel_own}
 use Rattle.rounding.proofs.Pieces.{point_in, in_order}

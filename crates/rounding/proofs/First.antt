@@ -1,8 +1,8 @@
 -- Which of two points a segment passes first, and which of two pixels: by their centres.
 use mathlib.Core.List.{List, [], ◌∷◌}
-use Rattle.std.proofs.Common.{◌≡◌, ◌⊎◌, inl, inr, refl, sym, ◌∙◌, ap, subst, ◌^◌, ℤ, pos, neg_ℤ, ◌+ℤ◌, ◌-ℤ◌, ◌*ℤ◌, ◌<ℤ◌, ◌≤ℤ◌, ◌↔◌, arith}
-use Rattle.exact.proofs.Ring.{lin, by_ring, by_two, Term, Var, Lit, ◌⊕◌, ◌⊖◌, ◌⊗◌, Neg, mul_one, mul_comm, add_mul, pos_times}
-use Rattle.exact.proofs.Compare.{le_of_lt, le_of_eq, lt_excludes_eq, lt_excludes_le, lt_irrefl, lt_trans, trichotomy, lt_or_ge}
+use Rattle.std.proofs.Common.{◌≡◌, ◌⊎◌, inl, inr, refl, sym, subst, ◌^◌, ℤ, pos, ◌+ℤ◌, ◌-ℤ◌, ◌*ℤ◌, ◌<ℤ◌, ◌≤ℤ◌, ◌↔◌, arith}
+use Rattle.exact.proofs.Ring.{lin, by_ring, by_two, Term, Var, Lit, ◌⊕◌, ◌⊖◌, ◌⊗◌, Neg, mul_comm, add_mul, pos_times}
+use Rattle.exact.proofs.Compare.{le_of_lt, le_of_eq, lt_excludes_eq, lt_irrefl, lt_trans, trichotomy, lt_or_ge}
 use Rattle.exact.proofs.Sign.{positive_times_positive, positive_times_negative, nonneg_times_nonneg, positive_factor, positive_cofactor}
 use Rattle.exact.proofs.Order.{le_mul, lt_mul}
 use Rattle.cov_types.specs.declared.coord.Coord.{Coord}
@@ -11,7 +11,7 @@ use Rattle.cov_types.proofs.Order.{cases_before, same_coords}
 use Rattle.plane.specs.Point.{Point, at_coord}
 use Rattle.plane.specs.Segment.{IsOn, side}
 use Rattle.plane.specs.Ray.{sweep, Rises}
-use Rattle.plane.specs.Snapping.{IsInPixel, MeetsPixel, IsBefore, PassesFirst}
+use Rattle.plane.specs.Snapping.{MeetsPixel, IsBefore, PassesFirst}
 use Rattle.plane.proofs.Points.{d_positive, between_by}
 use Rattle.plane.proofs.Sides.{side_zero-on}
 use Rattle.plane.proofs.Sweeps.{sweep-on_from, sweep-same}
@@ -109,10 +109,10 @@ sweep_before s p q rises on_p on_q l =
     let first = positive_times_positive {x = height} {y = past k p.x p.y (pos p.d) q.x q.y (pos q.d)} (omega (arith, lin)) (omega (arith, lin)) in
     let second = nonneg_times_nonneg {x = height} {y = at k p.x p.y -ℤ (lo *ℤ pos p.d)} (omega (arith, lin)) (omega (arith, lin)) in (
       between_by p (at_coord s.lo) q (height *ℤ (at k q.x q.y -ℤ (lo *ℤ pos q.d))) (height *ℤ past k p.x p.y (pos p.d) q.x q.y (pos q.d)) (height *ℤ (at k p.x p.y -ℤ (lo *ℤ pos p.d)))
-      (le_of_lt first) second (omega (arith, lin))
-      (from_lo_x k s.lo.x s.lo.y s.hi.x s.hi.y p.x p.y (pos p.d) q.x q.y (pos q.d) line_p line_q)
-      (from_lo_y k s.lo.x s.lo.y s.hi.x s.hi.y p.x p.y (pos p.d) q.x q.y (pos q.d) line_p line_q)
-      (from_lo_d height (at k p.x p.y) (at k q.x q.y) lo (pos p.d) (pos q.d)),
+          (le_of_lt first) second (omega (arith, lin))
+          (from_lo_x k s.lo.x s.lo.y s.hi.x s.hi.y p.x p.y (pos p.d) q.x q.y (pos q.d) line_p line_q)
+          (from_lo_y k s.lo.x s.lo.y s.hi.x s.hi.y p.x p.y (pos p.d) q.x q.y (pos q.d) line_p line_q)
+          (from_lo_d height (at k p.x p.y) (at k q.x q.y) lo (pos p.d) (pos q.d)),
       λ same. lt_excludes_eq l (sweep-same p q same),
     )
 

@@ -15,3 +15,4 @@ pub mod Unique
 pub mod Meets
 pub mod Lone
 pub mod InRange
+pub mod Odd

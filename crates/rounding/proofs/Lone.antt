@@ -1,6 +1,6 @@
 -- A chain from what it has: the hot centres that a segment meets, in their order. A segment alone has the chain of its two ends.
 use mathlib.Core.List.{[], ◌∷◌}
-use Rattle.std.proofs.Common.{◌≡◌, ◌⊎◌, inl, inr, sym, ◌∙◌, subst, ℕ, zero, suc, ◌+◌, ◌<◌, ◌↔◌, List, length, refl, arith}
+use Rattle.std.proofs.Common.{◌≡◌, ◌⊎◌, inl, inr, sym, subst, zero, suc, ◌↔◌, List, refl, arith}
 use Rattle.std.specs.Prelude.{Contains, AllPairs}
 use Rattle.exact.proofs.Compare.{le_of_lt}
 use Rattle.cov_types.specs.declared.coord.Coord.{Coord}
@@ -10,8 +10,8 @@ use Rattle.plane.specs.Point.{Point, SamePoint, at_coord}
 use Rattle.plane.specs.Segment.{IsEnd}
 use Rattle.plane.specs.Ray.{Rises}
 use Rattle.plane.specs.Contact.{IsOnlyCommon}
-use Rattle.plane.specs.Snapping.{IsInPixel, IsHot, IsCrossingOf, MeetsPixel, PassesFirst, IsChain}
-use Rattle.plane.proofs.Points.{same_point-refl, same_point-sym, first_between, second_between}
+use Rattle.plane.specs.Snapping.{IsInPixel, IsHot, MeetsPixel, IsChain}
+use Rattle.plane.proofs.Points.{same_point-sym, first_between}
 use Rattle.rounding.specs.Formulas.{ComesFirst, IsBeside}
 use Rattle.rounding.proofs.Near.{pixel_own, pixel_unique, pixel_same}
 use Rattle.rounding.proofs.First.{passes_by_centre}

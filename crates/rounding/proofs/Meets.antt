@@ -1,6 +1,6 @@
 -- Which pixels a segment meets: by their centres.
 use mathlib.Core.List.{[], ◌∷◌}
-use Rattle.std.proofs.Common.{◌≡◌, ◌⊎◌, inl, inr, refl, sym, ◌∙◌, ap, ℕ, ◌+◌, ◌≤◌, ℤ, pos, negsuc, neg_ℤ, ◌+ℤ◌, ◌-ℤ◌, ◌*ℤ◌, ◌<ℤ◌, ◌≤ℤ◌, ◌↔◌, arith}
+use Rattle.std.proofs.Common.{◌≡◌, inl, inr, refl, ◌∙◌, ap, ◌+◌, ◌≤◌, ℤ, pos, negsuc, neg_ℤ, ◌+ℤ◌, ◌-ℤ◌, ◌*ℤ◌, ◌<ℤ◌, ◌≤ℤ◌, ◌↔◌, arith}
 use Rattle.exact.proofs.Ring.{lin, by_ring, by_one, by_two, Var, Lit, ◌⊕◌, ◌⊖◌, ◌⊗◌, Neg, mul_one, mul_add, add_mul, sub_mul, neg_mul, mul_neg, pos_times}
 use Rattle.exact.proofs.Compare.{lt_or_ge, le_of_lt, le_cases, le_refl}
 use Rattle.exact.proofs.Order.{mul_le, mul_lt, cancel_lt_right, cancel_le_right}
@@ -29,13 +29,15 @@ pub record IsMeanOfEnds (s : Seg) (i j : ℤ) (p : Point) : Type 0 where
 
 mean_of_ends : (s : Seg) (i j : ℤ) → pos 0 ≤ℤ i → pos 0 ≤ℤ j → pos 0 <ℤ (i +ℤ j) → (p : Point) × IsMeanOfEnds s i j p
 mean_of_ends s (pos m) (pos n) hi hj positive =
-    let weighted : 1 ≤ m + n = omega (arith, lin) in
-    (mean (at_coord s.lo) (at_coord s.hi) m n weighted, record {
-      on = mean-between (at_coord s.lo) (at_coord s.hi) m n weighted;
-      x = refl;
-      y = refl;
-      d = omega (arith, lin);
-    })
+    let weighted : 1 ≤ m + n = omega (arith, lin) in (
+      mean (at_coord s.lo) (at_coord s.hi) m n weighted,
+      record {
+        on = mean-between (at_coord s.lo) (at_coord s.hi) m n weighted;
+        x = refl;
+        y = refl;
+        d = omega (arith, lin);
+      },
+    )
 mean_of_ends s (pos m) (negsuc n) hi hj positive = absurd hj.le
 mean_of_ends s (negsuc m) j hi hj positive = absurd hi.le
 
@@ -98,10 +100,15 @@ beside_up_meets s r from to h =
     let t = turn_of s.lo s.hi r in
     let found = mean_of_ends s i j (omega (arith, lin)) (omega (arith, lin)) (omega (arith, lin, pos_times 2 t)) in
     let p = found.0 in
-    let total : pos p.d ≡ reach_up s = found.1.d ∙ omega (arith, lin) in
-    (p, (found.1.on, near-pixel p r
-    (gap_rounds r.x p.x (reach_up s) t ((i *ℤ s.lo.x) +ℤ (j *ℤ s.hi.x)) (pos p.d) found.1.x total (diagonal_x s.lo.x s.lo.y s.hi.x s.hi.y r.x r.y) right left)
-    (gap_rounds_back r.y p.y (reach_up s) t ((i *ℤ s.lo.y) +ℤ (j *ℤ s.hi.y)) (pos p.d) found.1.y total (diagonal_y s.lo.x s.lo.y s.hi.x s.hi.y r.x r.y) right (le_of_lt left))))
+    let total : pos p.d ≡ reach_up s = found.1.d ∙ omega (arith, lin) in (
+      p,
+      (
+        found.1.on,
+        near-pixel p r
+            (gap_rounds r.x p.x (reach_up s) t ((i *ℤ s.lo.x) +ℤ (j *ℤ s.hi.x)) (pos p.d) found.1.x total (diagonal_x s.lo.x s.lo.y s.hi.x s.hi.y r.x r.y) right left)
+            (gap_rounds_back r.y p.y (reach_up s) t ((i *ℤ s.lo.y) +ℤ (j *ℤ s.hi.y)) (pos p.d) found.1.y total (diagonal_y s.lo.x s.lo.y s.hi.x s.hi.y r.x r.y) right (le_of_lt left)),
+      ),
+    )
 
 beside_down_meets : (s : Seg) (r : Coord) → s.lo.x ≤ℤ r.x → r.x ≤ℤ s.hi.x → IsBesideDown s r → MeetsPixel s r
 unfolding turn_of
@@ -116,10 +123,15 @@ beside_down_meets s r from to h =
     let t = turn_of s.lo s.hi r in
     let found = mean_of_ends s i j (omega (arith, lin)) (omega (arith, lin)) (omega (arith, lin, pos_times 2 t)) in
     let p = found.0 in
-    let total : pos p.d ≡ reach_down s = found.1.d ∙ omega (arith, lin) in
-    (p, (found.1.on, near-pixel p r
-    (gap_rounds_back r.x p.x (reach_down s) t ((i *ℤ s.lo.x) +ℤ (j *ℤ s.hi.x)) (pos p.d) found.1.x total (other_x s.lo.x s.lo.y s.hi.x s.hi.y r.x r.y) right left)
-    (gap_rounds_back r.y p.y (reach_down s) t ((i *ℤ s.lo.y) +ℤ (j *ℤ s.hi.y)) (pos p.d) found.1.y total (other_y s.lo.x s.lo.y s.hi.x s.hi.y r.x r.y) right left)))
+    let total : pos p.d ≡ reach_down s = found.1.d ∙ omega (arith, lin) in (
+      p,
+      (
+        found.1.on,
+        near-pixel p r
+            (gap_rounds_back r.x p.x (reach_down s) t ((i *ℤ s.lo.x) +ℤ (j *ℤ s.hi.x)) (pos p.d) found.1.x total (other_x s.lo.x s.lo.y s.hi.x s.hi.y r.x r.y) right left)
+            (gap_rounds_back r.y p.y (reach_down s) t ((i *ℤ s.lo.y) +ℤ (j *ℤ s.hi.y)) (pos p.d) found.1.y total (other_y s.lo.x s.lo.y s.hi.x s.hi.y r.x r.y) right left),
+      ),
+    )
 
 beside_meets : (s : Seg) (r : Coord) → IsBeside s r → MeetsPixel s r
 beside_meets s r h = elim h.within [ inl up ↦ beside_up_meets s r h.from h.to up | inr down ↦ beside_down_meets s r h.from h.to down ]

@@ -29,7 +29,7 @@ pub one_side_apart : (s t : Seg) → AreOnOneSide (turn_of s.lo s.hi t.lo) (turn
 one_side_apart s t (inl left) = left_apart s t left.0 left.1
 one_side_apart s t (inr right) = right_apart s t right.0 right.1
 
-opposite_from : (x y : ℤ) → ¬ AreOnOneSide x y → AreOpposite x y
+pub opposite_from : (x y : ℤ) → ¬ AreOnOneSide x y → AreOpposite x y
 opposite_from x y n =
     elim (lt_or_ge x (pos 0)) [
       | inl below ↦ elim (lt_or_ge y (pos 0)) [

@@ -3,3 +3,5 @@ mod Vectors
 mod Small
 mod Order
 mod BySides
+mod Weighted
+mod MeetingPoint

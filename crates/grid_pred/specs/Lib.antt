@@ -1,2 +1,3 @@
 pub mod Ray
 pub mod Sides
+pub mod Crossing

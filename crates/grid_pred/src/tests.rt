@@ -1,6 +1,6 @@
 ghost use Rattle.cov_types.specs.Range.{IsSegInRange};
 
-use crate::{Badness, Contact, over, over_mid, over_upper, relation, turn};
+use crate::{Badness, Contact, crossing, over, over_mid, over_upper, relation, turn};
 use cov_types::{Coord, Seg};
 use std::process::Abort;
 
@@ -34,6 +34,18 @@ fn tells_how_segments_meet(rt: HostRuntime) {
         assert_eq!(rt; relation(s, t), want);
         assert_eq!(rt; relation(t, s), want);
     }
+}
+
+#[test]
+fn segments_cross_in_one_point(rt: HostRuntime) {
+    let rising = segment(&rt, (0, 0, 1, 1));
+    let falling = segment(&rt, (0, 1, 1, 0));
+    for (s, t) in [(rising, falling), (falling, rising)] {
+        let point = crossing(s, t).expect(&rt, "they cross");
+        assert_eq!(rt; (point.num_x, point.num_y, point.den), (1, 1, 2));
+    }
+    assert!(rt; crossing(rising, segment(&rt, (1, 1, 2, 0))).is_none());
+    assert!(rt; crossing(rising, rising).is_none());
 }
 
 #[test]

@@ -59,14 +59,14 @@ side_cd = (Var 6 ⊖ Var 4) ⊗ (Var 9 ⊖ Var 5 ⊗ Var 10) ⊖ (Var 7 ⊖ Var 
 abbrev numbers : Seg → Seg → Point → List ℤ
 numbers s t r = s.lo.x ∷ s.lo.y ∷ s.hi.x ∷ s.hi.y ∷ t.lo.x ∷ t.lo.y ∷ t.hi.x ∷ t.hi.y ∷ r.x ∷ r.y ∷ pos r.d ∷ []
 
-only-x : (s t : Seg) (r : Point) → side s r ≡ pos 0 → side t r ≡ pos 0
+pub only-x : (s t : Seg) (r : Point) → side s r ≡ pos 0 → side t r ≡ pos 0
     → r.x *ℤ (turn_of t.lo t.hi s.hi -ℤ turn_of t.lo t.hi s.lo) ≡ ((turn_of t.lo t.hi s.hi *ℤ s.lo.x) -ℤ (turn_of t.lo t.hi s.lo *ℤ s.hi.x)) *ℤ pos r.d
 unfolding turn_of side
 only-x s t r h k =
     by_two (numbers s t r) (Var 8 ⊗ (cdb ⊖ cda)) ((cdb ⊗ Var 0 ⊖ cda ⊗ Var 2) ⊗ Var 10)
     (Neg (Var 6 ⊖ Var 4)) side_ab (Lit (pos 0)) (Var 2 ⊖ Var 0) side_cd (Lit (pos 0)) refl h k
 
-only-y : (s t : Seg) (r : Point) → side s r ≡ pos 0 → side t r ≡ pos 0
+pub only-y : (s t : Seg) (r : Point) → side s r ≡ pos 0 → side t r ≡ pos 0
     → r.y *ℤ (turn_of t.lo t.hi s.hi -ℤ turn_of t.lo t.hi s.lo) ≡ ((turn_of t.lo t.hi s.hi *ℤ s.lo.y) -ℤ (turn_of t.lo t.hi s.lo *ℤ s.hi.y)) *ℤ pos r.d
 unfolding turn_of side
 only-y s t r h k =

@@ -1,7 +1,7 @@
 ghost use Rattle.std.specs.Prelude.{◌≡◌, ◌<◌, ◌⊎◌, true, false, length, IsTrue, IsOk, IfOk, OnOk, OnErr, []};
 ghost use Rattle.cov_io.specs.State.{State, IsTelling};
 ghost use Rattle.cov_io.specs.Count.{HasCause};
-ghost use Rattle.cov_io.specs.Contents.{SameFiles, HoldsNow};
+ghost use Rattle.cov_io.specs.Contents.{SameFiles};
 ghost use Rattle.cov_io.specs.Frame.{KeepsOutput, KeepsInput};
 ghost use Rattle.cov_io.specs.Calls.{IsOpened, IsRead, IsCreated, IsWritten, SameOutput, IsPromised, HasSpace};
 
@@ -39,8 +39,7 @@ pub trait Files {
         ensures created { OnOk result (IsCreated name.now (state self.old) (state self.new)) }
         ensures refused { OnErr result ((state self.new).has_output ≡ false) }
         ensures left { OnErr result (IsTrue (state self.old).tells_files
-            → SameFiles (state self.old).files (state self.new).files
-            ⊎ HoldsNow name.now [] (state self.old).files (state self.new).files) }
+            → SameFiles (state self.old).files (state self.new).files) }
         ensures cause { HasCause (state self.old).write_faults (state self.new).write_faults result }
         ensures kept { KeepsInput (state self.old) (state self.new) }
         ensures promised { IsPromised name.now (state self.old) → IsOk result };

@@ -8,8 +8,8 @@ use Rattle.std.specs.Cmp.{IsTotalOrder, IsStrictWeakOrder}
 use Rattle.std.specs.Ordering.{ordering_then}
 use Rattle.cov_types.proofs.Equal.{same_segs}
 use Rattle.cov_types.proofs.Order.{same_from_neither}
-use Rattle.cov_types.specs.Coord.{is_before}
-use Rattle.cov_types.specs.Seg.{is_seg_before, coord_cmp, seg_cmp}
+use Rattle.cov_types.specs.Coord.{is_before, coord_cmp}
+use Rattle.cov_types.specs.Seg.{is_seg_before, seg_cmp}
 use Rattle.cov_types.specs.declared.coord.Coord.{Coord}
 use Rattle.cov_types.specs.declared.seg.Seg.{Seg}
 

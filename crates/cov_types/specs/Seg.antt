@@ -1,8 +1,8 @@
--- Segments between two points.
+-- Segments: their ends and their order.
 use Rattle.std.specs.Prelude.{◌≡◌, ◌⊎◌, Bool, ◌&&◌, ◌||◌, not}
-use Rattle.std.specs.Ordering.{int_cmp, ordering_then}
+use Rattle.std.specs.Ordering.{ordering_then}
 use Rattle.std.specs.declared.cmp.Ordering.{Ordering}
-use Rattle.cov_types.specs.Coord.{is_before}
+use Rattle.cov_types.specs.Coord.{is_before, coord_cmp}
 use Rattle.cov_types.specs.declared.coord.Coord.{Coord}
 use Rattle.cov_types.specs.declared.seg.Seg.{Seg}
 
@@ -13,10 +13,6 @@ IsSegBetween a b s = ((s.lo ≡ a) × (s.hi ≡ b)) ⊎ ((s.lo ≡ b) × (s.hi �
 -- s comes before t: by its lesser end, then by its greater
 abbrev pub is_seg_before : Seg → Seg → Bool
 is_seg_before s t = is_before s.lo t.lo || (not (is_before t.lo s.lo) && is_before s.hi t.hi)
-
--- what `cmp` answers of two coordinates
-abbrev pub coord_cmp : Coord → Coord → Ordering
-coord_cmp a b = ordering_then (int_cmp a.x b.x) (int_cmp a.y b.y)
 
 -- what `cmp` answers of two segments
 abbrev pub seg_cmp : Seg → Seg → Ordering

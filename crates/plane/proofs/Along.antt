@@ -14,7 +14,7 @@ use Rattle.plane.specs.Contact.{IsCommon, IsOnlyCommon, HaveTwoCommon, IsContact
 use Rattle.plane.proofs.Points.{d_positive, same_point-refl, first_between, second_between}
 use Rattle.plane.proofs.Sides.{side-at_coord, side_zero-on}
 use Rattle.plane.proofs.Sweeps.{sweep-same, sweep-on_from, sweep-on_to, on_from_sweep, same_as_hi}
-use Rattle.plane.proofs.Meeting.{turns-balance}
+use Rattle.plane.proofs.Meeting.{turns-balance, turn_term}
 
 -- ---- segments one after the other
 
@@ -52,9 +52,6 @@ pub common_end-exchange : (s t : Seg) → IsContact t s CommonEnd → IsContact 
 common_end-exchange s t c = (c.0, (only-exchange s t c.0 c.1.0, c.1.2, c.1.1))
 
 -- ---- segments on a common line
-
-abbrev turn_term : Term → Term → Term → Term → Term → Term → Term
-turn_term ax ay bx by cx cy = (bx ⊖ ax) ⊗ (cy ⊖ ay) ⊖ (by ⊖ ay) ⊗ (cx ⊖ ax)
 
 -- the rise of ab times the turn of a against cd, in the numbers k, a, b, c, d
 line_turn : (k ax ay bx by cx cy dx dy : ℤ)

@@ -17,7 +17,8 @@ use Rattle.plane.proofs.Sides.{side_a, side_b, side_c, side-form, side-at_coord,
 
 -- ---- over four points: the segment ab in variables 0 to 3, the segment cd in 4 to 7, a point in 8 to 10
 
-abbrev turn_term : Term → Term → Term → Term → Term → Term → Term
+-- the turn of three points whose coordinates are numbered
+abbrev pub turn_term : Term → Term → Term → Term → Term → Term → Term
 turn_term ax ay bx by cx cy = (bx ⊖ ax) ⊗ (cy ⊖ ay) ⊖ (by ⊖ ay) ⊗ (cx ⊖ ax)
 
 abbrev abc : Term
@@ -41,11 +42,11 @@ unfolding turn_of
 turns-balance a b c d = by_ring (coordinates a b c d) (abc ⊖ abd) (cdb ⊖ cda) refl
 
 -- the lines of ab and cd meet at the mean of a and b whose weights are the turns of the other, and likewise of c and d
-meeting-x : (a b c d : Coord) → (turn_of c d b *ℤ a.x) -ℤ (turn_of c d a *ℤ b.x) ≡ (turn_of a b c *ℤ d.x) -ℤ (turn_of a b d *ℤ c.x)
+pub meeting-x : (a b c d : Coord) → (turn_of c d b *ℤ a.x) -ℤ (turn_of c d a *ℤ b.x) ≡ (turn_of a b c *ℤ d.x) -ℤ (turn_of a b d *ℤ c.x)
 unfolding turn_of
 meeting-x a b c d = by_ring (coordinates a b c d) (cdb ⊗ Var 0 ⊖ cda ⊗ Var 2) (abc ⊗ Var 6 ⊖ abd ⊗ Var 4) refl
 
-meeting-y : (a b c d : Coord) → (turn_of c d b *ℤ a.y) -ℤ (turn_of c d a *ℤ b.y) ≡ (turn_of a b c *ℤ d.y) -ℤ (turn_of a b d *ℤ c.y)
+pub meeting-y : (a b c d : Coord) → (turn_of c d b *ℤ a.y) -ℤ (turn_of c d a *ℤ b.y) ≡ (turn_of a b c *ℤ d.y) -ℤ (turn_of a b d *ℤ c.y)
 unfolding turn_of
 meeting-y a b c d = by_ring (coordinates a b c d) (cdb ⊗ Var 1 ⊖ cda ⊗ Var 3) (abc ⊗ Var 7 ⊖ abd ⊗ Var 5) refl
 
@@ -90,8 +91,8 @@ pub record MeetOnce (s t : Seg) : Type 0 where
   pub is_end : (turn_of t.lo t.hi s.lo ≡ pos 0) ⊎ (turn_of t.lo t.hi s.hi ≡ pos 0) → IsEnd s at
   pub is_end_of_other : (turn_of s.lo s.hi t.lo ≡ pos 0) ⊎ (turn_of s.lo s.hi t.hi ≡ pos 0) → IsEnd t at
 
--- the mean of lo and hi of s with the turns against t as weights
-meeting : (s t : Seg) (w : ℕ) → 1 ≤ w → Point
+-- the common point: the mean of lo and hi of s with the turns against t as weights, whose sum is w
+unfoldable pub meeting : (s t : Seg) (w : ℕ) → 1 ≤ w → Point
 meeting s t w positive = record {
   x = (turn_of t.lo t.hi s.hi *ℤ s.lo.x) -ℤ (turn_of t.lo t.hi s.lo *ℤ s.hi.x);
   y = (turn_of t.lo t.hi s.hi *ℤ s.lo.y) -ℤ (turn_of t.lo t.hi s.lo *ℤ s.hi.y);
@@ -110,7 +111,7 @@ weight d c w e = combination d c (pos 1) (pos 1) w (e ∙ omega (arith, lin, mul
 add_comm : (x y : ℤ) → x +ℤ y ≡ y +ℤ x
 add_comm x y = omega (arith, lin)
 
-meeting_on : (s t : Seg) (w : ℕ) (positive : 1 ≤ w) → turn_of t.lo t.hi s.hi -ℤ turn_of t.lo t.hi s.lo ≡ pos w → Falls s t → IsOn s (meeting s t w positive)
+pub meeting_on : (s t : Seg) (w : ℕ) (positive : 1 ≤ w) → turn_of t.lo t.hi s.hi -ℤ turn_of t.lo t.hi s.lo ≡ pos w → Falls s t → IsOn s (meeting s t w positive)
 unfolding meeting
 meeting_on s t w positive e f =
     let d = turn_of t.lo t.hi s.hi in
@@ -121,7 +122,7 @@ meeting_on s t w positive e f =
     up (omega (arith, lin)) (omega (arith, lin))
     (combination d c s.lo.x s.hi.x _ refl) (combination d c s.lo.y s.hi.y _ refl) (weight d c (pos w) (sym e))
 
-meeting_on_other : (s t : Seg) (w : ℕ) (positive : 1 ≤ w) → turn_of t.lo t.hi s.hi -ℤ turn_of t.lo t.hi s.lo ≡ pos w → Falls s t → IsOn t (meeting s t w positive)
+pub meeting_on_other : (s t : Seg) (w : ℕ) (positive : 1 ≤ w) → turn_of t.lo t.hi s.hi -ℤ turn_of t.lo t.hi s.lo ≡ pos w → Falls s t → IsOn t (meeting s t w positive)
 unfolding meeting
 meeting_on_other s t w positive e f =
     let a = turn_of s.lo s.hi t.lo in
@@ -135,7 +136,7 @@ meeting_on_other s t w positive e f =
     (combination a b t.hi.y t.lo.y _ (meeting-y s.lo s.hi t.lo t.hi) ∙ add_comm (a *ℤ t.hi.y) (neg_ℤ b *ℤ t.lo.y))
     (weight a b (pos w) (sym e ∙ sym balance) ∙ add_comm (a *ℤ pos 1) (neg_ℤ b *ℤ pos 1))
 
-meeting_only : (s t : Seg) (w : ℕ) (positive : 1 ≤ w) → turn_of t.lo t.hi s.hi -ℤ turn_of t.lo t.hi s.lo ≡ pos w → (q : Point) → IsCommon s t q → SamePoint q (meeting s t w positive)
+pub meeting_only : (s t : Seg) (w : ℕ) (positive : 1 ≤ w) → turn_of t.lo t.hi s.hi -ℤ turn_of t.lo t.hi s.lo ≡ pos w → (q : Point) → IsCommon s t q → SamePoint q (meeting s t w positive)
 unfolding meeting
 meeting_only s t w positive e q common =
     let on_s = side_zero-on s q common.0 in
@@ -222,17 +223,26 @@ falls_if s t h k l =
     let f = falls_from (turn_of s.lo s.hi t.lo) (turn_of s.lo s.hi t.hi) (turn_of t.lo t.hi s.lo) (turn_of t.lo t.hi s.hi) h k (turns-balance s.lo s.hi t.lo t.hi) l in
     record { t_lo = f.0; t_hi = f.1; s_lo = f.2; s_hi = f.3; differ = l }
 
--- two segments of which neither lies strictly on one side of the other, not parallel, meet in one point
+-- of two segments of which neither lies strictly on one side of the other, not parallel, one falls against the other
+pub opposite_falls : (s t : Seg) → AreOpposite (turn_of s.lo s.hi t.lo) (turn_of s.lo s.hi t.hi) → AreOpposite (turn_of t.lo t.hi s.lo) (turn_of t.lo t.hi s.hi)
+    → ¬ (turn_of s.lo s.hi t.lo ≡ turn_of s.lo s.hi t.hi) → Falls s t ⊎ Falls t s
+opposite_falls s t h k n =
+    let balance = turns-balance s.lo s.hi t.lo t.hi in
+    elim (trichotomy (turn_of s.lo s.hi t.hi) (turn_of s.lo s.hi t.lo)) [
+      | inl l ↦ inl (falls_if s t h k l)
+      | inr rest ↦ elim rest [
+        | inl e ↦ absurd (n (sym e))
+        | inr g ↦ inr (falls_if t s k h (omega (arith, lin)))
+      ]
+    ]
+
+-- so they meet in one point
 pub opposite_meet : (s t : Seg) → AreOpposite (turn_of s.lo s.hi t.lo) (turn_of s.lo s.hi t.hi) → AreOpposite (turn_of t.lo t.hi s.lo) (turn_of t.lo t.hi s.hi)
     → ¬ (turn_of s.lo s.hi t.lo ≡ turn_of s.lo s.hi t.hi) → MeetOnce s t
 opposite_meet s t h k n =
-    let balance = turns-balance s.lo s.hi t.lo t.hi in
-    elim (trichotomy (turn_of s.lo s.hi t.hi) (turn_of s.lo s.hi t.lo)) [
-      | inl l ↦ falls_meet s t (falls_if s t h k l)
-      | inr rest ↦ elim rest [
-        | inl e ↦ absurd (n (sym e))
-        | inr g ↦ exchange s t (falls_meet t s (falls_if t s k h (omega (arith, lin))))
-      ]
+    elim (opposite_falls s t h k n) [
+      | inl f ↦ falls_meet s t f
+      | inr f ↦ exchange s t (falls_meet t s f)
     ]
 
 -- ---- a segment strictly on one side of the other

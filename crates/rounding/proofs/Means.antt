@@ -2,7 +2,7 @@
 use Rattle.std.proofs.Common.{ℕ, ◌+◌, ◌*◌, ◌≤◌, pos, ◌+ℤ◌, ◌*ℤ◌, arith}
 use Rattle.exact.proofs.Ring.{mul_comm}
 use Rattle.plane.specs.Point.{Point, IsBetween}
-use Rattle.plane.proofs.Forms.{weights_positive}
+use Rattle.plane.proofs.Points.{weights_positive}
 
 -- the mean of p and q with the weights m and n
 abbrev pub mean : (p q : Point) (m n : ℕ) → 1 ≤ m + n → Point

@@ -82,9 +82,19 @@ on_line s t r on lo hi =
     side-form s r ∙ form_zero-between (side_a s) (side_b s) (side_c s) r (at_coord t.lo) (at_coord t.hi) on
     (sym (side-form s (at_coord t.lo)) ∙ side-at_coord s t.lo ∙ lo) (sym (side-form s (at_coord t.hi)) ∙ side-at_coord s t.hi ∙ hi)
 
+equal_opposite : (x y : ℤ) → AreOpposite x y → x ≡ y → (x ≡ pos 0) × (y ≡ pos 0)
+equal_opposite x y (inl h) e = (omega (arith, lin), omega (arith, lin))
+equal_opposite x y (inr h) e = (omega (arith, lin), omega (arith, lin))
+
+-- where the ends of t are opposite against s, or on its line, and not both on it, t is not parallel to s
+pub not_parallel : (s t : Seg) → AreOpposite (turn_of s.lo s.hi t.lo) (turn_of s.lo s.hi t.hi) → ¬ ((turn_of s.lo s.hi t.lo ≡ pos 0) × (turn_of s.lo s.hi t.hi ≡ pos 0))
+    → ¬ (turn_of s.lo s.hi t.lo ≡ turn_of s.lo s.hi t.hi)
+not_parallel s t opposite differ e = differ (equal_opposite (turn_of s.lo s.hi t.lo) (turn_of s.lo s.hi t.hi) opposite e)
+
 only_common : (s t : Seg) (p : Point) → IsCommon s t p → ¬ ((turn_of s.lo s.hi t.lo ≡ pos 0) × (turn_of s.lo s.hi t.hi ≡ pos 0)) → IsOnlyCommon s t p
 only_common s t p common differ =
-    let once = opposite_meet s t (opposite_from_common s t p common) (opposite_from_common t s p (common.1, common.0)) differ in
+    let opposite = opposite_from_common s t p common in
+    let once = opposite_meet s t opposite (opposite_from_common t s p (common.1, common.0)) (not_parallel s t opposite differ) in
     record {
       common = common;
       only = λ q h. same_point-trans q once.at p (once.only.only q h) (same_point-sym p once.at (once.only.only p common));

@@ -1,19 +1,21 @@
 -- Snap rounding is fully noded: two chain edges are equal, or have at most common ends in common.
 use mathlib.Core.List.{[], ◌∷◌}
 use Rattle.std.proofs.Common.{◌≡◌, ◌⊎◌, inl, inr, refl, sym, ◌∙◌, ap, subst, ◌^◌, ℤ, pos, neg_ℤ, ◌-ℤ◌, ◌*ℤ◌, ◌<ℤ◌, ◌≤ℤ◌, List, arith}
-use Rattle.std.specs.Prelude.{Contains}
+use Rattle.std.specs.Prelude.{Contains, All}
+use Rattle.std.proofs.lemmas.List.Elements.{All-contains}
 use Rattle.exact.proofs.Ring.{lin, by_ring, Var, Lit, ◌⊖◌, ◌⊗◌, Neg, mul_zero}
 use Rattle.exact.proofs.Compare.{eq_or_not, trichotomy, le_cases, le_of_lt, lt_excludes_eq}
 use Rattle.exact.proofs.Order.{cancel_eq, cancel_lt_right}
 use Rattle.cov_types.specs.declared.coord.Coord.{Coord}
 use Rattle.cov_types.specs.declared.seg.Seg.{Seg}
 use Rattle.cov_types.specs.Range.{IsSegInRange}
-use Rattle.cov_types.proofs.Order.{same_coords, same_segs}
+use Rattle.cov_types.proofs.Order.{same_coords}
+use Rattle.cov_types.proofs.Equal.{same_segs}
 use Rattle.plane.specs.Point.{Point, SamePoint, at_coord}
 use Rattle.plane.specs.Segment.{IsOn, IsEnd, turn_of, side}
 use Rattle.plane.specs.Ray.{sweep, Rises}
 use Rattle.plane.specs.Contact.{IsCommon}
-use Rattle.plane.specs.Noded.{MeetInEnds}
+use Rattle.plane.specs.Noded.{MeetInEnds, IsNodedFully}
 use Rattle.plane.specs.Snapping.{IsHot, IsChain, chain_edges}
 use Rattle.plane.proofs.Points.{d_positive, same_point-refl, same_point-sym, between-moved}
 use Rattle.plane.proofs.Forms.{form}
@@ -22,8 +24,9 @@ use Rattle.plane.proofs.Sweeps.{sweep-one_to_one, rises-in_range, sweep-on_from,
 use Rattle.plane.proofs.Contacts.{end-same}
 use Rattle.plane.proofs.Meeting.{turns-balance, AreOpposite, MeetOnce, opposite_meet}
 use Rattle.plane.proofs.Along.{on_from_turn}
+use Rattle.rounding.specs.Laws.{IsNodedEdge}
 use Rattle.rounding.proofs.Pieces.{piece_turned}
-use Rattle.rounding.proofs.NoCrossing.{opposite_from_common, three_on_line, rise-line, is_end_or_not, no_crossing}
+use Rattle.rounding.proofs.NoCrossing.{opposite_from_common, not_parallel, three_on_line, rise-line, is_end_or_not, no_crossing}
 use Rattle.rounding.proofs.Crossing.{CentresCross}
 use Rattle.rounding.proofs.Shadow.{no_centre_inside}
 use Rattle.rounding.proofs.Edges.{IsChainEdge, chain_edge, edge_in_range}
@@ -182,7 +185,8 @@ module _ (segs : List Seg) (s t e f : Seg) (two : TwoEdges segs s t e f) (r : Po
   Differ = ¬ ((turn_of e.lo e.hi f.lo ≡ pos 0) × (turn_of e.lo e.hi f.hi ≡ pos 0))
 
   once : Differ → MeetOnce e f
-  once differ = opposite_meet e f (opposite_from_common e f r inside.common) (opposite_from_common f e r (inside.common.1, inside.common.0)) differ
+  once differ = opposite_meet e f (opposite_from_common e f r inside.common) (opposite_from_common f e r (inside.common.1, inside.common.0))
+      (not_parallel e f (opposite_from_common e f r inside.common) differ)
 
   -- no end is on the line of the other edge
   e_off : Differ → (turn_of f.lo f.hi e.lo ≡ pos 0) ⊎ (turn_of f.lo f.hi e.hi ≡ pos 0) → ⊥
@@ -267,3 +271,12 @@ module _ (segs : List Seg) (s t : Seg) (has_s : Contains segs s) (has_t : Contai
         first_range = edge_in_range segs s e range_s first;
         second_range = edge_in_range segs t f range_t second;
       })
+
+-- so a list of chain edges is fully noded
+pub list_fully_noded : (segs : List Seg) → All IsSegInRange segs → (edges : List Seg) → All (IsNodedEdge segs) edges → IsNodedFully edges
+list_fully_noded segs in_range edges noded e f has_e has_f =
+    let first = All-contains (IsNodedEdge segs) edges e noded has_e in
+    let second = All-contains (IsNodedEdge segs) edges f noded has_f in
+    fully_noded segs first.0 second.0 first.1.1.0 second.1.1.0
+    (All-contains IsSegInRange segs first.0 in_range first.1.1.0) (All-contains IsSegInRange segs second.0 in_range second.1.1.0)
+    first.1.0 second.1.0 first.1.1.1 second.1.1.1 e f first.1.1.2 second.1.1.2

@@ -10,8 +10,7 @@ use Rattle.plane.specs.Ray.{Rises}
 use Rattle.plane.specs.Noded.{IsWithinHalf}
 use Rattle.plane.specs.Snapping.{IsHot, IsChain, chain_edges}
 use Rattle.std.specs.Prelude.{Contains}
-use Rattle.plane.proofs.Points.{d_positive}
-use Rattle.plane.proofs.Forms.{weights_positive}
+use Rattle.plane.proofs.Points.{d_positive, weights_positive}
 use Rattle.rounding.proofs.Near.{Near, near_times, mean_near, pixel-near, near-pixel}
 use Rattle.rounding.proofs.Passing.{between_on}
 use Rattle.rounding.proofs.Pieces.{IsPiece}

@@ -8,7 +8,7 @@ use Rattle.plane.specs.Point.{Point, at_coord}
 use Rattle.plane.specs.Segment.{IsOn}
 use Rattle.plane.specs.Snapping.{IsInPixel, IsHot, MeetsPixel, PassesFirst, IsChain, chain_edges}
 use Rattle.rounding.specs.Formulas.{ComesFirst, IsBeside}
-use Rattle.plane.specs.Noded.{MeetInEnds, IsWithinHalf}
+use Rattle.plane.specs.Noded.{MeetInEnds, IsNodedFully, IsWithinHalf}
 
 -- c is the chain of s, a segment of a list of segments in range
 pub record IsChainInRange (segs : List Seg) (s : Seg) (c : List Coord) : Type 0 where
@@ -20,6 +20,14 @@ pub record IsChainInRange (segs : List Seg) (s : Seg) (c : List Coord) : Type 0 
 abbrev pub FullyNoded : Type 0
 FullyNoded = (segs : List Seg) (s t : Seg) (c d : List Coord) → IsChainInRange segs s c → IsChainInRange segs t d
     → (e f : Seg) → Contains (chain_edges c) e → Contains (chain_edges d) f → MeetInEnds e f
+
+-- e is a chain edge of a segment of the list
+abbrev pub IsNodedEdge : List Seg → Seg → Type 0
+IsNodedEdge segs e = (s : Seg) × ((c : List Coord) × (Contains segs s × IsChain segs s c × Contains (chain_edges c) e))
+
+-- so a list of chain edges is fully noded
+abbrev pub ListFullyNoded : Type 0
+ListFullyNoded = (segs : List Seg) → All IsSegInRange segs → (edges : List Seg) → All (IsNodedEdge segs) edges → IsNodedFully edges
 
 -- every point of a chain edge is within half a unit, in x and in y, of a point of its segment
 abbrev pub HalfUnit : Type 0

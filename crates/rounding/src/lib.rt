@@ -16,15 +16,17 @@
 //! - `Ends`: the chain goes from lo to hi, its centres and its edges are different, and of any set of points its edges have an even
 //!   number of ends in it just where its segment has (`even_ends`). `Unique`: a segment has one chain.
 //! - `First`: which of two points, and of two pixels, a segment passes first (`passes-is`). `Meets`: which pixels it meets
-//!   (`meets-is`). `Lone`: a chain from its hot centres in order (`chain_by_centres`), and the chain of a segment alone.
+//!   (`meets-is`). `Lone`: a chain from its hot centres in order (`chain_by_formulas`), and the chain of a segment alone.
+//! - `Odd`: a sum over the elements that a list has an odd number of times is that over the list, up to an even number (`odd_sum`).
 #![tactic(auto)]
 
-ghost use Rattle.rounding.specs.Laws.{FullyNoded, HalfUnit, NoHotInside, OnePixel, OneChain, FromLoToHi, CentresInRange, CentresDiffer, EdgesDiffer, EvenEnds};
+ghost use Rattle.rounding.specs.Laws.{FullyNoded, ListFullyNoded, HalfUnit, NoHotInside, OnePixel, OneChain, FromLoToHi, CentresInRange, CentresDiffer, EdgesDiffer, EvenEnds};
 ghost use Rattle.rounding.specs.Laws.{MeetsWhereBeside, PassingOrder, ChainByCentres, LoneChain};
 
 /// Any two chain edges of segments in range are equal or have at most common ends in common. A call does nothing.
 pub fn fully_noded_law()
-    ensures { FullyNoded }
+    ensures edges { FullyNoded }
+    ensures lists { ListFullyNoded }
 {}
 
 /// How near a chain edge is to its segment, and to hot centres. A call does nothing.

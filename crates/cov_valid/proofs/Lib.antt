@@ -1,0 +1,5 @@
+pub mod Holding
+pub mod MarksSoFar
+pub mod Repeats
+pub mod Searches
+pub mod Unique

@@ -1,0 +1,14 @@
+//! Validating a coverage: the segments that are at fault, each with the kind of its fault.
+//!
+//! Its promise: `marks` lists exactly the marks of a coverage, by ascending place.
+#![tactic(auto)]
+
+mod holders;
+mod kinds;
+mod mark;
+#[cfg(test)]
+mod tests;
+mod validator;
+
+pub use mark::{Kind, Mark};
+pub use validator::marks;

@@ -1,0 +1,22 @@
+/// Why a segment of a coverage is at fault. The first kind that applies, in this order, decides.
+#[derive(Clone, Copy, Debug, PartialEq, Eq)]
+pub enum Kind {
+    /// Another segment has a point in common with it that isn't an end of both.
+    Meets,
+    /// Its member has it more than once.
+    Repeated,
+    /// Another member has it too, and lies on the same side of it.
+    SameSide,
+    /// A member that doesn't have it holds its midpoint.
+    Inside,
+}
+
+/// A segment that is at fault.
+#[derive(Clone, Copy, Debug, PartialEq, Eq)]
+pub struct Mark {
+    /// The number of the segment's member.
+    pub member: u32,
+    /// The segment's place among the uses of the coverage, from 0.
+    pub place: u64,
+    pub kind: Kind,
+}

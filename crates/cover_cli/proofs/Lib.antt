@@ -1,0 +1,4 @@
+pub mod Marking
+pub mod Causes
+pub mod Listing
+pub mod Answering

@@ -1,0 +1,10 @@
+pub mod Words
+pub mod Named
+pub mod Lines
+pub mod Outcome
+pub mod Input
+pub mod Refusal
+pub mod Validate
+pub mod Made
+pub mod Answers
+pub mod Written

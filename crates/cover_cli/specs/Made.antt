@@ -1,0 +1,26 @@
+-- What validating a coverage makes, before it is written.
+use Rattle.std.specs.Prelude.{◌≡◌, ℕ, List, zero, suc}
+use Rattle.cov_io.specs.State.{State}
+use Rattle.cov_types.specs.declared.coord.Coord.{Coord}
+use Rattle.cover_cli.specs.declared.outcome.Outcome.{Outcome}
+use Rattle.cover_cli.specs.declared.outcome.Outcome.TheVariants.{Done, Marked}
+use Rattle.cover_cli.specs.declared.validate.Made.{Made}
+use Rattle.cover_cli.specs.Input.{HoldsCoverage}
+use Rattle.cover_cli.specs.Validate.{IsValidation}
+
+-- the outcome where so many segments are marked
+abbrev pub marking : ℕ → Outcome
+marking zero = Done
+marking (suc edges) = Marked (suc edges)
+
+-- it is the validation of the coverage
+pub record IsMadeOf (members : List (List (List (List Coord)))) (made : Made) : Type 0 where
+  pub edges : ℕ
+  pub outcome : made.outcome ≡ marking edges
+  pub validation : IsValidation members edges made.text.items
+
+-- it is the validation of the coverage that the file of this name holds
+pub record IsMadeFrom (from : List ℕ) (s : State) (made : Made) : Type 0 where
+  pub members : List (List (List (List Coord)))
+  pub input : HoldsCoverage from s members
+  pub made_of : IsMadeOf members made

@@ -1,0 +1,33 @@
+-- The exit status and the message of each outcome.
+use Rattle.std.specs.Prelude.{ℕ, List, ◌++◌, codes}
+use Rattle.std.specs.Fmt.{decimal}
+use Rattle.cover_cli.specs.declared.outcome.Outcome.{Outcome}
+use Rattle.cover_cli.specs.declared.outcome.Outcome.TheVariants.{Done, Marked, Usage, ReadFault, WriteFault, TooLong, BadText, NoMemory}
+use Rattle.geo_text.specs.declared.error.TextFault.{TextFault}
+use Rattle.geo_text.specs.declared.error.TextFault.TheVariants.{Unread}
+
+-- the exit status
+abbrev pub status_of : Outcome → ℕ
+status_of Done = 0
+status_of (Marked edges) = 1
+status_of Usage = 2
+status_of (BadText fault) = 4
+status_of TooLong = 6
+status_of ReadFault = 7
+status_of WriteFault = 8
+status_of NoMemory = 9
+
+-- the text of a fault of the input
+abbrev pub fault_text : TextFault → List ℕ
+fault_text Unread = codes "text: not read yet"
+
+-- the line that is printed
+abbrev pub message_of : Outcome → List ℕ
+message_of Done = codes "done"
+message_of (Marked edges) = codes "marked " ++ decimal edges
+message_of Usage = codes "usage: cover validate"
+message_of ReadFault = codes "cannot read"
+message_of WriteFault = codes "cannot write"
+message_of TooLong = codes "input is longer than 67108864 bytes"
+message_of (BadText fault) = fault_text fault
+message_of NoMemory = codes "no memory"

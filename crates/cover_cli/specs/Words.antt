@@ -1,0 +1,17 @@
+-- The words that the program takes.
+use Rattle.std.specs.Prelude.{ℕ, Bool, true, not, ◌&&◌, ◌==◌, List, [], ◌∷◌, Option, Some, None, if◌then◌else◌, codes}
+use Rattle.std.specs.Str.{bytes_eq}
+
+-- an operation, with the names of the files that it works on
+pub data Operation : Type 0 where
+  Validate : List ℕ → List ℕ → Operation
+
+-- a name is a word that doesn't begin with `-`
+abbrev pub is_name : List ℕ → Bool
+is_name [] = true
+is_name (c ∷ cs) = not (c == 45)
+
+-- the operation that the words name, where they are accepted
+abbrev pub operation_of : List (List ℕ) → Option Operation
+operation_of (word ∷ from ∷ to ∷ []) = if bytes_eq word (codes "validate") && is_name from && is_name to then Some (Validate from to) else None
+operation_of _ = None

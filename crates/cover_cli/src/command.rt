@@ -1,0 +1,28 @@
+ghost use Rattle.std.specs.Prelude.{◌≡◌, ◌↔◌, map, None, IfSome};
+ghost use Rattle.std.specs.String.{string_bytes};
+ghost use Rattle.cover_cli.specs.Answers.{IsAnswer};
+ghost use Rattle.cover_cli.specs.Words.{operation_of};
+
+use crate::outcome::Outcome;
+use crate::run::validate_file;
+use crate::words::{Operation, operation_named};
+use cov_io::Files;
+use std::alloc::Global;
+
+/// Does all that the program does. `words` are the words after the program's name.
+///
+/// What is said of contents holds over a files object that tells them. Want of memory may come at any
+/// point before the output is created.
+pub fn cover<F: Files>(alloc: Global, words: &[String], files: &mut F) -> Outcome
+    ensures usage { (result ≡ Outcome.Usage) ↔ (operation_of (map string_bytes words.now) ≡ None) }
+    ensures unaccepted { operation_of (map string_bytes words.now) ≡ None
+        → F.state files.new ≡ F.state files.old }
+    // Each other answer comes for its cause; `IsAnswer` says it answer by answer.
+    ensures answered { IfSome (operation_of (map string_bytes words.now)) (λ operation.
+        IsAnswer operation (F.state files.old) (F.state files.new) result) }
+{
+    match operation_named(words) {
+        None => Outcome::Usage,
+        Some(Operation::Validate { from, to }) => validate_file(alloc, files, from, to),
+    }
+}

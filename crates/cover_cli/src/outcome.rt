@@ -1,0 +1,61 @@
+ghost use Rattle.std.specs.Prelude.{◌≡◌, IfOk};
+ghost use Rattle.std.specs.String.{string_bytes};
+ghost use Rattle.cover_cli.specs.Outcome.{status_of, message_of};
+
+use cov_types::NoMemory;
+use geo_text::TextFault;
+use std::alloc::Global;
+
+/// What a call of `cover` came to.
+#[derive(Clone, Copy, Debug, PartialEq, Eq)]
+pub enum Outcome {
+    /// The output was written, and nothing is at fault.
+    Done,
+    /// The output was written, and it lists this many segments that are at fault.
+    Marked { edges: u64 },
+    /// The words name no operation, or not as it takes them.
+    Usage,
+    /// The input could not be read.
+    ReadFault,
+    /// The output could not be written whole.
+    WriteFault,
+    /// The input is longer than a file may be.
+    TooLong,
+    /// The input is no text that can be read.
+    BadText(TextFault),
+    /// There was no memory.
+    NoMemory,
+}
+
+/// The exit status of the program.
+pub fn status(o: &Outcome) -> u8
+    ensures { result ≡ status_of o.now }
+{
+    match o {
+        Outcome::Done => 0,
+        Outcome::Marked { edges: _ } => 1,
+        Outcome::Usage => 2,
+        Outcome::BadText(_) => 4,
+        Outcome::TooLong => 6,
+        Outcome::ReadFault => 7,
+        Outcome::WriteFault => 8,
+        Outcome::NoMemory => 9,
+    }
+}
+
+/// The line that the program prints, without its line end.
+pub fn message(alloc: Global, o: &Outcome) -> Result<String, NoMemory>
+    ensures { IfOk result (λ text. string_bytes text ≡ message_of o.now) }
+{
+    let text = match o {
+        Outcome::Marked { edges } => return Ok(format!(in alloc; "marked {edges}")?),
+        Outcome::Done => "done",
+        Outcome::Usage => "usage: cover validate",
+        Outcome::ReadFault => "cannot read",
+        Outcome::WriteFault => "cannot write",
+        Outcome::TooLong => "input is longer than 67108864 bytes",
+        Outcome::BadText(TextFault::Unread) => "text: not read yet",
+        Outcome::NoMemory => "no memory",
+    };
+    Ok(String::from_str(alloc, text)?)
+}

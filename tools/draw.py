@@ -1,0 +1,64 @@
+#!/usr/bin/env python3
+"""Draws a file of polygons, and over it the segments of a second file, as an SVG picture.
+
+Usage: tools/draw.py POLYGONS.wkt [SEGMENTS.wkt] >PICTURE.svg
+
+The polygons of each geometry have one colour; segments are drawn red. It reads plain well-known text with whole
+numbers and proves nothing.
+"""
+import re
+import sys
+
+COLOURS = ["#9ecae1", "#a1d99b", "#fdd0a2", "#bcbddc", "#fdae6b", "#c7e9c0"]
+SIZE = 480
+MARGIN = 24
+
+
+def geometries(text):
+    """Yield (word, list of rings or lines) of each geometry; each ring is a list of points."""
+    for found in re.finditer(r"(?i)(MULTIPOLYGON|POLYGON|MULTILINESTRING)\s*((?:EMPTY)|\()", text):
+        if found.group(2).upper() == "EMPTY":
+            yield found.group(1).upper(), []
+            continue
+        depth, end = 0, found.end() - 1
+        while True:
+            depth += {"(": 1, ")": -1}.get(text[end], 0)
+            end += 1
+            if depth == 0:
+                break
+        body = text[found.end() - 1:end]
+        rings = [[tuple(int(n) for n in pair.split()) for pair in ring.split(",")]
+                 for ring in re.findall(r"\(([^()]+)\)", body)]
+        yield found.group(1).upper(), rings
+
+
+def main():
+    if len(sys.argv) not in (2, 3):
+        sys.exit(__doc__)
+    members = [rings for _, rings in geometries(open(sys.argv[1]).read())]
+    marked = []
+    if len(sys.argv) == 3:
+        marked = [line for _, lines in geometries(open(sys.argv[2]).read()) for line in lines]
+    points = [p for rings in members for ring in rings for p in ring] + [p for line in marked for p in line]
+    left, bottom = min(x for x, _ in points), min(y for _, y in points)
+    width = max(x for x, _ in points) - left or 1
+    height = max(y for _, y in points) - bottom or 1
+    scale = (SIZE - 2 * MARGIN) / max(width, height)
+
+    def place(p):
+        return f"{MARGIN + (p[0] - left) * scale:.1f},{MARGIN + (bottom + height - p[1]) * scale:.1f}"
+
+    high = height * scale + 2 * MARGIN
+    wide = width * scale + 2 * MARGIN
+    print(f'<svg xmlns="http://www.w3.org/2000/svg" width="{wide:.0f}" height="{high:.0f}">')
+    for number, rings in enumerate(members):
+        path = " ".join("M" + " L".join(place(p) for p in ring) + " Z" for ring in rings)
+        colour = COLOURS[number % len(COLOURS)]
+        print(f'  <path d="{path}" fill="{colour}" fill-opacity="0.7" fill-rule="evenodd" stroke="#555" stroke-width="1"/>')
+    for line in marked:
+        print(f'  <polyline points="{" ".join(place(p) for p in line)}" fill="none" stroke="#d00" stroke-width="4"/>')
+    print("</svg>")
+
+
+if __name__ == "__main__":
+    main()

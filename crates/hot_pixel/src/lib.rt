@@ -4,8 +4,14 @@
 //! passes them, whatever segments in range the set was built of.
 #![tactic(auto)]
 
+mod centres;
+mod hot_set;
 mod passing;
 mod pixel;
 
+pub use hot_set::HotSet;
 pub use passing::{before, meets};
 pub use pixel::pixel_of;
+
+#[cfg(test)]
+mod tests;

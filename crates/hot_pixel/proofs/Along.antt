@@ -1,6 +1,6 @@
 -- The order in which a segment that goes down passes centres: by x, then by y downwards.
-use Rattle.std.proofs.Common.{◌≡◌, ◌⊎◌, inl, inr, refl, sym, ◌∙◌, ap, subst, true≢false, ℕ, ◌<◌, ◌↔◌, ℤ, ◌<ℤ◌, ◌≤ℤ◌, List, get_or, length, Bool, true, false, IsTrue, int_eq, ◌&&◌, Ordering, Less, Equal, Greater, int_cmp, is_lt, IsPermutation, IsSortedBy, arith}
-use Rattle.std.specs.Prelude.{All, AllPairs, Contains}
+use Rattle.std.proofs.Common.{◌≡◌, ◌⊎◌, inl, inr, sym, ◌∙◌, ap, true≢false, ◌↔◌, ◌<ℤ◌, List, get_or, false, IsTrue, int_eq, ◌&&◌, Ordering, int_cmp, is_lt, IsPermutation, IsSortedBy, arith}
+use Rattle.std.specs.Prelude.{AllPairs, Contains}
 use Rattle.std.specs.Ordering.{ordering_then, ordering_reverse}
 use Rattle.std.specs.Cmp.{IsTotalOrder, IsStrictWeakOrder}
 use Rattle.std.proofs.lemmas.Cmp.{int_cmp_total, then_total}

@@ -1,8 +1,8 @@
 -- Lists in order without repeats: by sorting and removing repeats.
 use mathlib.Core.List.{[], ◌∷◌}
-use Rattle.std.proofs.Common.{◌≡◌, refl, sym, ◌∙◌, ap, subst, true≢false, ℕ, zero, suc, ◌<◌, ◌↔◌, List, get_or, length, Bool, true, false, IsTrue, Decides, Ordering, Less, Equal, Greater, is_lt, IsPermutation, IsSorted, arith}
+use Rattle.std.proofs.Common.{◌≡◌, refl, sym, ◌∙◌, ap, subst, true≢false, zero, suc, ◌↔◌, List, get_or, Bool, true, false, IsTrue, Decides, Ordering, Less, Equal, Greater, is_lt, IsPermutation, IsSorted, arith}
 use Rattle.std.specs.Prelude.{All, AllPairs, Contains}
-use Rattle.std.specs.List.{dedup, IsDistinct, AllByRecursion}
+use Rattle.std.specs.List.{dedup, IsDistinct}
 use Rattle.std.specs.List.Sorted.{IsStrictlySortedBy}
 use Rattle.std.specs.Ordering.{eq_by_cmp, is_eq, ordering_reverse}
 use Rattle.std.specs.Cmp.{IsTotalOrder, IsEquivalence, both_ways}

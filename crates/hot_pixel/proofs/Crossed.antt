@@ -4,16 +4,15 @@ use Rattle.std.proofs.Common.{◌≡◌, ◌⊎◌, inl, inr, refl, sym, ◌∙�
 use Rattle.std.specs.Prelude.{Contains, Any}
 use Rattle.std.proofs.lemmas.Bool.{cases_order, false≢true}
 use Rattle.std.proofs.lemmas.List.{take_more, take_all, take_at, take-append-le, get_or_append_left, get_or-take, get_or_default, length-take-le, length-append, length-take}
-use Rattle.std.proofs.lemmas.List.Elements.{Contains-append_left}
 use Rattle.std.proofs.Math.Seq.{get_or-append_seam}
 use Rattle.cov_types.specs.declared.coord.Coord.{Coord}
 use Rattle.cov_types.specs.declared.seg.Seg.{Seg}
 use Rattle.plane.specs.declared.contact.Contact.TheVariants.{Bad}
 use Rattle.plane.specs.declared.contact.Badness.TheVariants.{Cross}
-use Rattle.plane.specs.Point.{Point, SamePoint, at_coord}
+use Rattle.plane.specs.Point.{Point, at_coord}
 use Rattle.plane.specs.Segment.{IsEnd}
 use Rattle.plane.specs.Contact.{IsContact}
-use Rattle.plane.specs.Snapping.{IsInPixel, IsHot, IsEndOf, IsCrossingOf}
+use Rattle.plane.specs.Snapping.{IsInPixel, IsHot, IsCrossingOf}
 use Rattle.plane.proofs.Points.{same_point-refl}
 use Rattle.plane.proofs.Contacts.{two_with_itself, one_is_not_two}
 use Rattle.grid_pred.specs.Crossing.{IsCrossing}

@@ -1,6 +1,5 @@
-use Rattle.std.proofs.Common.{FitsSigned, ◌^◌, sym, subst, arith, rules}
-use Rattle.std.proofs.lemmas.Int.{ints, to_z-of_z}
-use mir.Syntax.{w32, w128}
+use Rattle.std.proofs.Common.{◌^◌, sym, subst, arith, rules}
+use Rattle.std.proofs.lemmas.Int.{ints}
 use Rattle.exact.proofs.Bound.{IsWithin}
 use Rattle.hot_pixel.proofs.Beside.{turn_small}
 use Rattle.hot_pixel.proofs.passing.twice_turn.Goals as goal

@@ -1,4 +1,4 @@
-use Rattle.std.proofs.Common.{pos, FitsSigned, subst, rules}
+use Rattle.std.proofs.Common.{FitsSigned, subst, rules}
 use Rattle.std.proofs.lemmas.Int.{to_z-of_z}
 use mir.Syntax.{w32, w128}
 use Rattle.exact.proofs.Cast.{positive_natural}

@@ -1,0 +1,3 @@
+pub mod Pixel
+pub mod Centres
+pub mod HotSet

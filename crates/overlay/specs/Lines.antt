@@ -21,7 +21,7 @@ use Rattle.overlay.specs.Noding.{AreEdges}
 abbrev pub is_same_coord : Coord → Coord → Bool
 is_same_coord p q = int_eq p.x q.x && int_eq p.y q.y
 
--- how many of the edges end at the point
+-- how many of the edges, which are distinct, end at the point
 abbrev pub degree : List Seg → Coord → ℕ
 degree edges p = count_by (λ e. is_same_coord e.lo p || is_same_coord e.hi p) edges
 
@@ -46,7 +46,7 @@ pub record IsNode (edges : List Seg) (p : Coord) : Type 0 where
   pub vertex : 1 ≤ degree edges p
   pub node : (degree edges p ≢ 2) ⊎ IsLeastOfLoop edges p
 
--- the first list of points is before the second, lexicographically
+-- the lexicographic order of lists of points
 abbrev pub points_cmp : List Coord → List Coord → Ordering
 points_cmp xs ys = slice_cmp coord_cmp xs ys
 

@@ -1,10 +1,9 @@
 ghost use Rattle.std.specs.Prelude.{◌≡◌, ℕ, ◌<◌, IfOk, All, [], length};
 ghost use Rattle.cover_cli.specs.Lines.{AreMemberLists, marked_uses};
 
-use std::alloc::Global;
-
 use cov_types::{EdgeUse, NoMemory, Seg};
 use cov_valid::Mark;
+use std::alloc::Global;
 
 // A list of segments for each member, all of them empty.
 fn empty_lists(alloc: Global, members: usize) -> Result<Vec<Vec<Seg>>, NoMemory>

@@ -22,6 +22,6 @@ returns-clause-made c =
         marks = c.in_ok-marks.marks.items;
         marked = c.in_ok-marks.ensures.exact;
         counted = omega arith;
-        lines = c.in_ok-text.ensures ∙ ap lines_text (member_lists_are (marked_uses (uses_of c.args.c.now) c.in_ok-marks.marks.items) c.args.c.now c.deref-4.result.now lists)
-      }
+        lines = c.in_ok-text.ensures ∙ ap lines_text (member_lists_are (marked_uses (uses_of c.args.c.now) c.in_ok-marks.marks.items) c.args.c.now c.deref-4.result.now lists);
+      };
     }

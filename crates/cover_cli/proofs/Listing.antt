@@ -3,13 +3,9 @@ use Rattle.std.proofs.Common.{◌≡◌, ℕ, suc, ◌+◌, ◌<◌, List, [], �
 use Rattle.std.specs.Prelude.{option_map, slice_get}
 use Rattle.std.specs.List.{enumerate_from}
 use Rattle.std.specs.declared.alloc.Global.{Global}
-use Rattle.cov_types.specs.Uses.{uses_of}
-use Rattle.cov_types.specs.declared.coord.Coord.{Coord}
 use Rattle.cov_types.specs.declared.edge_use.EdgeUse.{EdgeUse}
 use Rattle.cov_types.specs.declared.seg.Seg.{Seg}
-use Rattle.cov_valid.specs.declared.mark.Mark.{Mark}
-use Rattle.cover_cli.specs.Lines.{marked_segments, AreMarkedLists}
-use Rattle.cover_cli.specs.Validate.{marked_lists}
+use Rattle.cover_cli.specs.Lines.{member_segments, member_lists, AreMemberLists}
 
 -- lists that hold f of each number from n on are f of the numbers that the members have
 lists_from : {X : Type 0} (f : ℕ → List Seg) (lists : List (Vec Seg Global)) (members : List X) (n : ℕ) → length lists ≡ length members
@@ -26,16 +22,15 @@ lists_from f (l ∷ ls) (m ∷ ms) n long each =
     (λ j. here j ∷ lists_from f ls ms (n + 1) (omega arith) later j)
 
 -- the lists are those that the definition gives
-pub marked_lists_are : (members : List (List (List (List Coord)))) (marks : List Mark) (lists : List (Vec Seg Global))
-    → AreMarkedLists (uses_of members) marks (length members) lists → map (λ (l : Vec Seg Global). l.items) lists ≡ marked_lists members marks
-marked_lists_are members marks lists are =
-    lists_from (marked_segments (uses_of members) marks) lists members 0 are.count (λ i h. are.each i h ∙ ap (λ (k : ℕ). Some (marked_segments (uses_of members) marks k)) {x = i} {y = 0 + i} (omega arith))
+pub member_lists_are : {X : Type 0} (uses : List EdgeUse) (members : List X) (lists : List (Vec Seg Global))
+    → AreMemberLists uses (length members) lists → map (λ (l : Vec Seg Global). l.items) lists ≡ member_lists uses members
+member_lists_are uses members lists are =
+    lists_from (member_segments uses) lists members 0 are.count (λ i h. are.each i h ∙ ap (λ (k : ℕ). Some (member_segments uses k)) {x = i} {y = 0 + i} (omega arith))
 
--- the same lists, marks and uses under other names
-pub lists_moved : (u v : List EdgeUse) (m n : List Mark) (j k : ℕ) (l o : List (Vec Seg Global)) → u ≡ v → m ≡ n → j ≡ k → l ≡ o → AreMarkedLists u m j l → AreMarkedLists v n k o
-lists_moved u v m n j k l o p q r s are =
-    let A : List EdgeUse → Type 0 = λ w. AreMarkedLists w m j l in
-    let B : List Mark → Type 0 = λ w. AreMarkedLists v w j l in
-    let C : ℕ → Type 0 = λ w. AreMarkedLists v n w l in
-    let D : List (Vec Seg Global) → Type 0 = λ w. AreMarkedLists v n k w in
-    subst D s (subst C r (subst B q (subst A p are)))
+-- the same lists and uses under other names
+pub lists_moved : (u v : List EdgeUse) (j k : ℕ) (l o : List (Vec Seg Global)) → u ≡ v → j ≡ k → l ≡ o → AreMemberLists u j l → AreMemberLists v k o
+lists_moved u v j k l o p r s are =
+    let A : List EdgeUse → Type 0 = λ w. AreMemberLists w j l in
+    let C : ℕ → Type 0 = λ w. AreMemberLists v w l in
+    let D : List (Vec Seg Global) → Type 0 = λ w. AreMemberLists v k w in
+    subst D s (subst C r (subst A p are))

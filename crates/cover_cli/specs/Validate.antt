@@ -9,18 +9,14 @@ use Rattle.cov_valid.specs.declared.mark.Mark.{Mark}
 use Rattle.cov_valid.specs.Marks.{AreMarks}
 use Rattle.cov_write.specs.Written.{lines_text}
 use Rattle.cover_cli.specs.Input.{HoldsCoverage}
-use Rattle.cover_cli.specs.Lines.{marked_segments}
-
--- for each member, its marked segments in the order of the uses
-abbrev pub marked_lists : List (List (List (List Coord))) → List Mark → List (List Seg)
-marked_lists members marks = map (λ numbered. marked_segments (uses_of members) marks numbered.0) (enumerate_from 0 members)
+use Rattle.cover_cli.specs.Lines.{member_lists, marked_uses}
 
 -- so many segments of the coverage are marked, and the text lists them
 pub record IsValidation (members : List (List (List (List Coord)))) (edges : ℕ) (text : List ℕ) : Type 0 where
   pub marks : List Mark
   pub marked : AreMarks (uses_of members) marks
   pub counted : edges ≡ length marks
-  pub lines : text ≡ lines_text (marked_lists members marks)
+  pub lines : text ≡ lines_text (member_lists (marked_uses (uses_of members) marks) members)
 
 -- the file of this name is read as a coverage in which so many segments are marked, and the text lists them
 pub record Validates (from : List ℕ) (s : State) (edges : ℕ) (text : List ℕ) : Type 0 where

@@ -1,5 +1,5 @@
-ghost use Rattle.std.specs.Prelude.{◌≡◌, ℕ, ◌<◌, ◌^◌, IfOk, All, Some, [], length, vec_len, slice_get, replicate};
-ghost use Rattle.cover_cli.specs.Lines.{AreMarkedLists};
+ghost use Rattle.std.specs.Prelude.{◌≡◌, ℕ, ◌<◌, IfOk, All, [], length};
+ghost use Rattle.cover_cli.specs.Lines.{AreMemberLists, marked_uses};
 
 use cov_types::{EdgeUse, NoMemory, Seg};
 use cov_valid::Mark;
@@ -7,7 +7,7 @@ use std::alloc::Global;
 
 // A list of segments for each member, all of them empty.
 fn empty_lists(alloc: Global, members: usize) -> Result<Vec<Vec<Seg>>, NoMemory>
-    ensures { IfOk result (λ v. AreMarkedLists [] [] members v.items) }
+    ensures { IfOk result (λ v. AreMemberLists [] members v.items) }
 {
     let mut lists = Vec::new(alloc);
     for _ in 0..members {
@@ -16,21 +16,37 @@ fn empty_lists(alloc: Global, members: usize) -> Result<Vec<Vec<Seg>>, NoMemory>
     Ok(lists)
 }
 
-/// For each member its marked segments, in the order of the marks.
-pub fn marked_lists_of(
+/// For each member the segments of its uses in the list, in their order.
+pub fn lists_by_member(
+    alloc: Global,
+    uses: &[EdgeUse],
+    members: usize,
+) -> Result<Vec<Vec<Seg>>, NoMemory>
+    requires { All (λ u. u.member < members) uses.now }
+    ensures { IfOk result (λ v. AreMemberLists uses.now members v.items) }
+{
+    let mut lists = empty_lists(alloc, members)?;
+    for edge in uses {
+        let list = &mut lists[edge.member as usize];
+        list.push(edge.seg)?;
+    }
+    Ok(lists)
+}
+
+/// The uses at the places of the marks.
+pub fn uses_at_marks(
     alloc: Global,
     uses: &[EdgeUse],
     marks: &[Mark],
-    members: usize,
-) -> Result<Vec<Vec<Seg>>, NoMemory>
-    requires places { All (λ m. m.place < length uses.now) marks.now }
-    requires members { All (λ m. m.member < members) marks.now }
-    ensures { IfOk result (λ v. AreMarkedLists uses.now marks.now members v.items) }
+) -> Result<Vec<EdgeUse>, NoMemory>
+    requires { All (λ m. m.place < length uses.now) marks.now }
+    ensures exact { IfOk result (λ v. v.items ≡ marked_uses uses.now marks.now) }
+    ensures members { IfOk result (λ v. (members : ℕ)
+        → All (λ u. u.member < members) uses.now → All (λ u. u.member < members) v.items) }
 {
-    let mut lists = empty_lists(alloc, members)?;
+    let mut marked = Vec::new(alloc);
     for mark in marks {
-        let list = &mut lists[mark.member as usize];
-        list.push(uses[mark.place as usize].seg)?;
+        marked.push(uses[mark.place as usize])?;
     }
-    Ok(lists)
+    Ok(marked)
 }

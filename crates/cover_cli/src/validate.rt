@@ -7,7 +7,7 @@ ghost use Rattle.cover_cli.specs.Made.{marking, IsMadeOf, IsMadeFrom};
 ghost use Rattle.cover_cli.specs.Refusal.{IsCause};
 
 use crate::input::read_coverage;
-use crate::lines::marked_lists_of;
+use crate::lines::{lists_by_member, uses_at_marks};
 use crate::outcome::Outcome;
 use cov_io::Files;
 use cov_types::{Coverage, NoMemory, uses};
@@ -42,7 +42,8 @@ pub fn validation(alloc: Global, c: &Coverage) -> Result<Made, NoMemory>
 {
     let uses = uses(alloc, c)?;
     let marks = marks(alloc, c, 0)?;
-    let lists = marked_lists_of(alloc, &uses, &marks, c.members.len())?;
+    let marked = uses_at_marks(alloc, &uses, &marks)?;
+    let lists = lists_by_member(alloc, &marked, c.members.len())?;
     let text = lines_of(alloc, &lists)?;
     let outcome = outcome_of(marks.len() as u64);
     Ok(Made { outcome, text })

@@ -1,17 +1,20 @@
--- The text has the lists of the marks.
-use Rattle.std.proofs.Common.{◌≡◌, ◌∙◌, ap, sym, length, arith}
+-- The text has the lists of the marked uses.
+use Rattle.std.proofs.Common.{◌≡◌, ◌∙◌, List, ap, sym, length, arith}
 use Rattle.cov_types.specs.Uses.{uses_of}
+use Rattle.cov_types.specs.declared.edge_use.EdgeUse.{EdgeUse}
 use Rattle.cov_write.specs.Written.{lines_text}
-use Rattle.cover_cli.proofs.Listing.{marked_lists_are, lists_moved}
-use Rattle.cover_cli.specs.Lines.{AreMarkedLists}
+use Rattle.cover_cli.proofs.Listing.{member_lists_are, lists_moved}
+use Rattle.cover_cli.specs.Lines.{marked_uses, AreMemberLists}
 use Rattle.cover_cli.proofs.validate.validation.Goals as goal
 
 pub returns-clause-made : goal.returns-clause-made
 returns-clause-made c =
     let uses : c.deref.result.now ≡ uses_of c.args.c.now = c.deref.ensures.value ∙ c.in_ok-uses.ensures.exact in
-    let lists : AreMarkedLists (uses_of c.args.c.now) c.in_ok-marks.marks.items (length c.args.c.now) c.deref-3.result.now =
+    let marked : c.deref-3.result.now ≡ marked_uses (uses_of c.args.c.now) c.in_ok-marks.marks.items =
+    c.deref-3.ensures.value ∙ c.in_ok-marked.ensures.exact ∙ (λ i. marked_uses (uses i) (c.deref-2.ensures.value i)) in
     let count : c.len.result ≡ length c.args.c.now = omega (arith, ap length c.c.view_is) in
-    lists_moved _ _ _ _ _ _ _ _ uses c.deref-2.ensures.value count (sym c.deref-3.ensures.value) c.in_ok-lists.ensures in
+    let lists : AreMemberLists (marked_uses (uses_of c.args.c.now) c.in_ok-marks.marks.items) (length c.args.c.now) c.deref-4.result.now =
+    lists_moved _ _ _ _ _ _ marked count (sym c.deref-4.ensures.value) c.in_ok-lists.ensures in
     record {
       edges = c.len-2.result;
       outcome = c.outcome_of-outcome.ensures.marking;
@@ -19,6 +22,6 @@ returns-clause-made c =
         marks = c.in_ok-marks.marks.items;
         marked = c.in_ok-marks.ensures.exact;
         counted = omega arith;
-        lines = c.in_ok-text.ensures ∙ ap lines_text (marked_lists_are c.args.c.now c.in_ok-marks.marks.items c.deref-3.result.now lists);
+        lines = c.in_ok-text.ensures ∙ ap lines_text (member_lists_are (marked_uses (uses_of c.args.c.now) c.in_ok-marks.marks.items) c.args.c.now c.deref-4.result.now lists);
       };
     }

@@ -298,35 +298,6 @@ fn each_outcome_has_its_status_and_its_message(rt: HostRuntime) -> Result<(), te
         ),
         (Outcome::Usage, 2, "usage: cover validate"),
         (NO_TEXT, 4, "text: syntax at 0"),
-        (
-            Outcome::BadText(TextFault::NotPlanar { at: 14 }),
-            4,
-            "text: not planar at 14",
-        ),
-        (
-            Outcome::BadText(TextFault::NotWhole { at: 15 }),
-            4,
-            "text: not whole at 15",
-        ),
-        (
-            Outcome::BadText(TextFault::OutOfRange {
-                at: 18_446_744_073_709_551_615,
-            }),
-            4,
-            "text: out of range at 18446744073709551615",
-        ),
-        (
-            Outcome::BadText(TextFault::RingShort { ring: 0 }),
-            4,
-            "text: ring 0 is short",
-        ),
-        (
-            Outcome::BadText(TextFault::RingOpen {
-                ring: 4_294_967_295,
-            }),
-            4,
-            "text: ring 4294967295 is open",
-        ),
         (Outcome::TooLong, 6, "input is longer than 67108864 bytes"),
         (Outcome::ReadFault, 7, "cannot read"),
         (Outcome::WriteFault, 8, "cannot write"),
@@ -334,6 +305,32 @@ fn each_outcome_has_its_status_and_its_message(rt: HostRuntime) -> Result<(), te
     ] {
         assert_eq!(rt; status(&outcome), number, "{text}");
         let line = message(rt.alloc(), &outcome)?;
+        assert!(rt; line.as_str() == text, "{text}");
+    }
+    Ok(())
+}
+
+#[test]
+fn each_fault_has_its_message(rt: HostRuntime) -> Result<(), test::Fail> {
+    for (fault, text) in [
+        (TextFault::Syntax { at: 16 }, "text: syntax at 16"),
+        (TextFault::NotPlanar { at: 14 }, "text: not planar at 14"),
+        (TextFault::NotWhole { at: 15 }, "text: not whole at 15"),
+        (
+            TextFault::OutOfRange {
+                at: 18_446_744_073_709_551_615,
+            },
+            "text: out of range at 18446744073709551615",
+        ),
+        (TextFault::RingShort { ring: 0 }, "text: ring 0 is short"),
+        (
+            TextFault::RingOpen {
+                ring: 4_294_967_295,
+            },
+            "text: ring 4294967295 is open",
+        ),
+    ] {
+        let line = message(rt.alloc(), &Outcome::BadText(fault))?;
         assert!(rt; line.as_str() == text, "{text}");
     }
     Ok(())

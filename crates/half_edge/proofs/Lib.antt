@@ -1,0 +1,6 @@
+pub mod Counts
+pub mod Tables
+pub mod Sectors
+pub mod Choosing
+pub mod Reading
+pub mod Following

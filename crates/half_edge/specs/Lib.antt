@@ -1,0 +1,4 @@
+pub mod Directed
+pub mod Departures
+pub mod Nearest
+pub mod Arena

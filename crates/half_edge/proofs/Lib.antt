@@ -4,3 +4,5 @@ pub mod Sectors
 pub mod Choosing
 pub mod Reading
 pub mod Following
+pub mod Meeting
+pub mod Places

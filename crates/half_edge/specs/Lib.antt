@@ -2,3 +2,4 @@ pub mod Directed
 pub mod Departures
 pub mod Nearest
 pub mod Arena
+pub mod Arranged

@@ -31,7 +31,8 @@ impl Model for Arena {
 }
 
 impl Arena {
-    /// The arena of the edges. An error says that there was no memory.
+    /// The arena of the edges, in linear memory. For each half-edge it looks at all half-edges for the ones that leave where it
+    /// ends, so its time grows with the square of their number.
     pub fn build(alloc: Global, edges: Vec<Seg>) -> Result<Arena, NoMemory>
         requires planar { IsPlanar edges.items }
         requires distinct { AreDistinct edges.items }

@@ -5,6 +5,8 @@
 #![tactic(auto)]
 
 mod arena;
+#[cfg(test)]
+mod arranged;
 mod departure;
 mod directed;
 mod nearest;

@@ -1,0 +1,5 @@
+pub mod Directed
+pub mod Departures
+pub mod Nearest
+pub mod Arena
+pub mod Arranged

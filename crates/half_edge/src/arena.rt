@@ -1,0 +1,129 @@
+ghost use Rattle.std.specs.Prelude.{◌≡◌, ℕ, ◌*◌, ◌+◌, ◌/◌, ◌<◌, ◌^◌, length, List, Some, slice_get, IfOk};
+ghost use Rattle.cov_types.specs.declared.seg.Seg.{Seg};
+ghost use Rattle.plane.specs.Joined.{Joined};
+ghost use Rattle.plane.specs.Point.{Point};
+ghost use Rattle.plane.specs.Region.{IsSide};
+ghost use Rattle.sectors.specs.Sector.{HalfEdge, origin, target, twin, IsHalfEdge, IsNextNumber, IsPlanar, AreDistinct};
+ghost use Rattle.half_edge.specs.Arena.{IsArena, IsNextTable};
+ghost use Rattle.half_edge.specs.Departures.{AreDepartures};
+
+use crate::departure::{Departure, departures};
+use crate::directed::{HalfEdgeId, directed};
+use crate::nearest::nearest_clockwise;
+use cov_types::{Coord, NoMemory, Seg};
+use std::alloc::Global;
+use std::marker::Model;
+
+/// The half-edges of a list of edges. Half-edge 2k runs along edge k from lo to hi and has side 2k on its left; half-edge 2k + 1 runs
+/// back and has side 2k + 1 on its left. A contract sees an arena as the list of its edges.
+#[derive(Drop)]
+pub struct Arena {
+    edges: Vec<Seg>,
+    next: Vec<HalfEdgeId>,
+}
+
+impl Model for Arena {
+    ghost Value = { List Seg };
+
+    ghost view = { λ a. a.edges.items };
+
+    ghost invariant = { λ a. IsArena a.edges.items a.next.items };
+}
+
+impl Arena {
+    /// The arena of the edges, in linear memory. For each half-edge it looks at all half-edges for the ones that leave where it
+    /// ends, so its time grows with the square of their number.
+    pub fn build(alloc: Global, edges: Vec<Seg>) -> Result<Arena, NoMemory>
+        requires planar { IsPlanar edges.items }
+        requires distinct { AreDistinct edges.items }
+        ensures { IfOk result (λ a. a ≡ edges.items) }
+    {
+        let departures = departures(alloc, &edges)?;
+        let next = next_table(alloc, &edges, &departures)?;
+        Ok(Arena { edges, next })
+    }
+
+    /// How many half-edges there are.
+    pub fn len(&self) -> usize
+        ensures { result ≡ 2 * length self.now }
+    {
+        self.next.len()
+    }
+
+    /// The half-edge of the same edge in the other direction.
+    pub fn twin(&self, h: usize) -> usize
+        requires within { h < 2 * length self.now }
+        ensures within { result < 2 * length self.now }
+        ensures opposite { (g : HalfEdge) → IsHalfEdge self.now h g → IsHalfEdge self.now result (twin g) }
+    {
+        let _count = self.next.len();
+        twin_id(HalfEdgeId { number: h }).number
+    }
+
+    /// The vertex where the half-edge begins.
+    pub fn origin(&self, h: usize) -> Coord
+        requires within { h < 2 * length self.now }
+        ensures { (g : HalfEdge) → IsHalfEdge self.now h g → result ≡ origin g }
+    {
+        directed(&self.edges, HalfEdgeId { number: h }).origin()
+    }
+
+    /// The half-edge that follows it round the region on its left. At a dead end it is the twin.
+    pub fn next(&self, h: usize) -> usize
+        requires within { h < 2 * length self.now }
+        ensures within { result < 2 * length self.now }
+        ensures next { IsNextNumber self.now h result }
+
+        // The only one that follows it, and it follows no other.
+        ensures only { (m : ℕ) → IsNextNumber self.now h m → m ≡ result }
+        ensures one_to_one { (k : ℕ) → IsNextNumber self.now k result → k ≡ h }
+
+        // It begins where the half-edge ends, and goes on round the same region.
+        ensures begins { (f g : HalfEdge) → IsHalfEdge self.now h f → IsHalfEdge self.now result g → origin g ≡ target f }
+        ensures joined { (p q : Point) → IsSide self.now h p → IsSide self.now result q → Joined self.now p q }
+    {
+        self.next[h].number
+    }
+
+    /// The edge of the half-edge.
+    pub fn edge(&self, h: usize) -> Seg
+        requires within { h < 2 * length self.now }
+        ensures { slice_get self.now (h / 2) ≡ Some result }
+    {
+        self.edges[h / 2]
+    }
+}
+
+fn twin_id(h: HalfEdgeId) -> HalfEdgeId
+    requires small { h.number < 2 ^ 63 }
+    ensures opposite { (edges : List Seg) (g : HalfEdge) → IsHalfEdge edges h.number g → IsHalfEdge edges result.number (twin g) }
+    ensures within { (n : ℕ) → h.number < 2 * n → result.number < 2 * n }
+{
+    if h.number % 2 == 0 {
+        HalfEdgeId {
+            number: h.number + 1,
+        }
+    } else {
+        HalfEdgeId {
+            number: h.number - 1,
+        }
+    }
+}
+
+// For each half-edge the one that follows it.
+fn next_table(
+    alloc: Global,
+    edges: &[Seg],
+    departures: &[Departure],
+) -> Result<Vec<HalfEdgeId>, NoMemory>
+    requires planar { IsPlanar edges.now }
+    requires departures { AreDepartures edges.now departures.now }
+    ensures { IfOk result (λ v. IsNextTable edges.now v.items) }
+{
+    let mut table = Vec::new(alloc);
+    for number in 0..2 * edges.len() {
+        let last = twin_id(HalfEdgeId { number });
+        table.push(nearest_clockwise(edges, departures, last))?;
+    }
+    Ok(table)
+}

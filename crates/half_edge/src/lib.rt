@@ -1,0 +1,16 @@
+//! The half-edge arena: a table that says of each half-edge of a list of edges which one follows it.
+//!
+//! Its promise: `next` goes round the region on the left. The half-edge that it answers begins where the given one ends, none that
+//! begins there lies strictly inside the sector on the left between the two, and the side points on the left of both are joined.
+#![tactic(auto)]
+
+mod arena;
+#[cfg(test)]
+mod arranged;
+mod departure;
+mod directed;
+mod nearest;
+#[cfg(test)]
+mod tests;
+
+pub use arena::Arena;

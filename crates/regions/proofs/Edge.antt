@@ -224,6 +224,9 @@ above_as_far gap x f h hx hf = omega (arith, lin, pos_times (2 ^ 100) gap, pos_t
 own_side : (m k g s : ℤ) → k ≡ g *ℤ m → (k *ℤ s) -ℤ (((s *ℤ m) -ℤ pos 1) *ℤ g) ≡ g
 own_side m k g s h = by_one (m ∷ k ∷ g ∷ s ∷ []) (Var 1 ⊗ Var 3 ⊖ (Var 3 ⊗ Var 0 ⊖ Lit (pos 1)) ⊗ Var 2) (Var 2) (Var 3) (Var 1) (Var 2 ⊗ Var 0) refl h
 
+own_side_down : (e : Seg) (p : Point) (k : ℕ) (h : 1 ≤ k) → pos k ≡ sweep_rise e *ℤ parts → side e (down (past p) k h ((side e (past p) *ℤ parts) -ℤ pos 1)) ≡ sweep_rise e
+own_side_down e p k h size = side-down e (past p) k h ((side e (past p) *ℤ parts) -ℤ pos 1) ∙ own_side parts (pos k) (sweep_rise e) (side e (past p)) size
+
 -- in the flat triangle: g is the side, k (n t + 1) the sweep value, k n d the denominator
 flat_there : (k g t d l h : ℤ) → pos 0 <ℤ g → k ≡ g *ℤ parts → (l *ℤ d) ≤ℤ t → t <ℤ (h *ℤ d) → IsFlat g (k *ℤ ((tiny *ℤ t) +ℤ pos 1)) (k *ℤ (tiny *ℤ d)) l h
 flat_there k g t d l h hg hk from to =
@@ -301,7 +304,7 @@ below_joined edges planar p off e nearest =
     let steps = (s *ℤ parts) -ℤ pos 1 in
     let q = down (past p) k h steps in
     let forth : pos 0 ≤ℤ steps = omega (arith, lin, positive_times_positive {x = s} {y = parts} hs (omega (arith, lin))) in
-    let own : side e q ≡ g = side-down e (past p) k h steps ∙ own_side parts (pos k) g s (sym size) in
+    let own : side e q ≡ g = own_side_down e p k h (sym size) in
     let below = λ (f : Seg) (i : Contains edges f) (u : IsUnder f p). elim (nearest.nearest f (record { among = i; under = (under-is f p).1 u })) as (λ _. pos 0 <ℤ side f q) [
       | inl same ↦ subst (λ x. pos 0 <ℤ side x q) same (rw own hg)
       | inr nearer ↦ farther_below e f p k h (sym size) he (in_range f i) under nearer

@@ -1,12 +1,14 @@
 -- The laws that a walk round regions stands on.
-use Rattle.std.specs.Prelude.{List}
+use Rattle.std.specs.Prelude.{ℕ, List}
+use Rattle.cov_types.specs.declared.coord.Coord.{Coord}
 use Rattle.cov_types.specs.declared.seg.Seg.{Seg}
-use Rattle.plane.specs.Point.{Point}
+use Rattle.plane.specs.Point.{Point, at_coord}
 use Rattle.plane.specs.Segment.{upper}
 use Rattle.plane.specs.Joined.{IsOff, Joined}
-use Rattle.plane.specs.Region.{IsOuter}
-use Rattle.sectors.specs.Sector.{IsPlanar}
+use Rattle.plane.specs.Region.{IsSide, IsOuter}
+use Rattle.sectors.specs.Sector.{HalfEdge, left, IsPlanar}
 use Rattle.regions.specs.Below.{IsNearestBelow, HasNoneBelow}
+use Rattle.regions.specs.Linked.{LeavesOverRay, IsLinkOut, IsLinked}
 
 -- ---- the edge below
 
@@ -17,3 +19,21 @@ BelowLaw = (edges : List Seg) → IsPlanar edges → (p : Point) → IsOff edges
 -- and is outer where no edge is below it
 abbrev pub NoneBelowLaw : Type 0
 NoneBelowLaw = (edges : List Seg) → IsPlanar edges → (p : Point) → IsOff edges p → HasNoneBelow edges p → IsOuter edges p
+
+-- ---- links
+
+-- the side on the left of a half-edge that leaves v over the ray is joined with the upper side of the nearest edge below v
+abbrev pub LinkDownLaw : Type 0
+LinkDownLaw = (edges : List Seg) → IsPlanar edges → (v : Coord) (g : HalfEdge) → LeavesOverRay edges v g → (e : Seg) → IsNearestBelow edges (at_coord v) e → Joined edges (left g) (upper e)
+
+-- and is outer where no edge is below v
+abbrev pub LinkOutLaw : Type 0
+LinkOutLaw = (edges : List Seg) → IsPlanar edges → (v : Coord) (g : HalfEdge) → LeavesOverRay edges v g → HasNoneBelow edges (at_coord v) → IsOuter edges (left g)
+
+-- so linked sides have joined side points
+abbrev pub LinkedJoinedLaw : Type 0
+LinkedJoinedLaw = (edges : List Seg) → IsPlanar edges → (n m : ℕ) → IsLinked edges n m → (p q : Point) → IsSide edges n p → IsSide edges m q → Joined edges p q
+
+-- and a side from which a link leads past the range is outer
+abbrev pub OutSideLaw : Type 0
+OutSideLaw = (edges : List Seg) → IsPlanar edges → (n : ℕ) → IsLinkOut edges n → (p : Point) → IsSide edges n p → IsOuter edges p

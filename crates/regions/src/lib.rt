@@ -5,5 +5,7 @@
 #![tactic(auto)]
 
 mod below;
+mod link;
 
 pub use below::below_law;
+pub use link::link_law;

@@ -1,13 +1,15 @@
 -- The laws that a walk round regions stands on.
-use Rattle.std.specs.Prelude.{ℕ, List}
+use Rattle.std.specs.Prelude.{◌≡◌, ◌⊎◌, ℕ, Bool, List}
 use Rattle.cov_types.specs.declared.coord.Coord.{Coord}
 use Rattle.cov_types.specs.declared.seg.Seg.{Seg}
 use Rattle.plane.specs.Point.{Point, at_coord}
 use Rattle.plane.specs.Segment.{upper}
 use Rattle.plane.specs.Joined.{IsOff, Joined}
 use Rattle.plane.specs.Region.{IsSide, IsOuter}
-use Rattle.sectors.specs.Sector.{HalfEdge, left, IsPlanar}
+use Rattle.sectors.specs.Sector.{HalfEdge, left, IsNext, AreDistinct, IsPlanar}
 use Rattle.regions.specs.Below.{IsNearestBelow, HasNoneBelow}
+use Rattle.crossings.specs.Crossing.{IsBalanced}
+use Rattle.regions.specs.Weights.{weigh_sides}
 use Rattle.regions.specs.Linked.{LeavesOverRay, IsLinkOut, IsLinked}
 
 -- ---- the edge below
@@ -19,6 +21,10 @@ BelowLaw = (edges : List Seg) → IsPlanar edges → (p : Point) → IsOff edges
 -- and is outer where no edge is below it
 abbrev pub NoneBelowLaw : Type 0
 NoneBelowLaw = (edges : List Seg) → IsPlanar edges → (p : Point) → IsOff edges p → HasNoneBelow edges p → IsOuter edges p
+
+-- each point has a nearest edge below it, or none below it
+abbrev pub NearestOrNoneLaw : Type 0
+NearestOrNoneLaw = (edges : List Seg) → IsPlanar edges → (p : Point) → ((e : Seg) × IsNearestBelow edges p e) ⊎ HasNoneBelow edges p
 
 -- ---- links
 
@@ -37,3 +43,10 @@ LinkedJoinedLaw = (edges : List Seg) → IsPlanar edges → (n m : ℕ) → IsLi
 -- and a side from which a link leads past the range is outer
 abbrev pub OutSideLaw : Type 0
 OutSideLaw = (edges : List Seg) → IsPlanar edges → (n : ℕ) → IsLinkOut edges n → (p : Point) → IsSide edges n p → IsOuter edges p
+
+-- ---- tests that the next half-edge keeps
+
+-- what the lower sides weigh more than the upper ones is balanced, for any test on sides that next keeps
+abbrev pub BalancedSidesLaw : Type 0
+BalancedSidesLaw = (edges : List Seg) → IsPlanar edges → AreDistinct edges → (passes : HalfEdge → Bool) → ((h g : HalfEdge) → IsNext edges h g → passes h ≡ passes g)
+    → IsBalanced (weigh_sides passes edges)

@@ -6,6 +6,8 @@
 
 mod below;
 mod link;
+mod side;
 
 pub use below::below_law;
 pub use link::link_law;
+pub use side::side_law;

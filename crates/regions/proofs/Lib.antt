@@ -1,0 +1,5 @@
+pub mod Down
+pub mod Edge
+pub mod Links
+pub mod Balance
+pub mod Nearest

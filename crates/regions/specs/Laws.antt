@@ -1,0 +1,52 @@
+-- The laws that a walk round regions stands on.
+use Rattle.std.specs.Prelude.{◌≡◌, ◌⊎◌, ℕ, Bool, List}
+use Rattle.cov_types.specs.declared.coord.Coord.{Coord}
+use Rattle.cov_types.specs.declared.seg.Seg.{Seg}
+use Rattle.plane.specs.Point.{Point, at_coord}
+use Rattle.plane.specs.Segment.{upper}
+use Rattle.plane.specs.Joined.{IsOff, Joined}
+use Rattle.plane.specs.Region.{IsSide, IsOuter}
+use Rattle.sectors.specs.Sector.{HalfEdge, left, IsNext, AreDistinct, IsPlanar}
+use Rattle.regions.specs.Below.{IsNearestBelow, HasNoneBelow}
+use Rattle.crossings.specs.Crossing.{IsBalanced}
+use Rattle.regions.specs.Weights.{weigh_sides}
+use Rattle.regions.specs.Linked.{LeavesOverRay, IsLinkOut, IsLinked}
+
+-- ---- the edge below
+
+-- a point off the edges is joined with the upper side point of the nearest edge below it
+abbrev pub BelowLaw : Type 0
+BelowLaw = (edges : List Seg) → IsPlanar edges → (p : Point) → IsOff edges p → (e : Seg) → IsNearestBelow edges p e → Joined edges p (upper e)
+
+-- and is outer where no edge is below it
+abbrev pub NoneBelowLaw : Type 0
+NoneBelowLaw = (edges : List Seg) → IsPlanar edges → (p : Point) → IsOff edges p → HasNoneBelow edges p → IsOuter edges p
+
+-- each point has a nearest edge below it, or none below it
+abbrev pub NearestOrNoneLaw : Type 0
+NearestOrNoneLaw = (edges : List Seg) → IsPlanar edges → (p : Point) → ((e : Seg) × IsNearestBelow edges p e) ⊎ HasNoneBelow edges p
+
+-- ---- links
+
+-- the side on the left of a half-edge that leaves v over the ray is joined with the upper side of the nearest edge below v
+abbrev pub LinkDownLaw : Type 0
+LinkDownLaw = (edges : List Seg) → IsPlanar edges → (v : Coord) (g : HalfEdge) → LeavesOverRay edges v g → (e : Seg) → IsNearestBelow edges (at_coord v) e → Joined edges (left g) (upper e)
+
+-- and is outer where no edge is below v
+abbrev pub LinkOutLaw : Type 0
+LinkOutLaw = (edges : List Seg) → IsPlanar edges → (v : Coord) (g : HalfEdge) → LeavesOverRay edges v g → HasNoneBelow edges (at_coord v) → IsOuter edges (left g)
+
+-- so linked sides have joined side points
+abbrev pub LinkedJoinedLaw : Type 0
+LinkedJoinedLaw = (edges : List Seg) → IsPlanar edges → (n m : ℕ) → IsLinked edges n m → (p q : Point) → IsSide edges n p → IsSide edges m q → Joined edges p q
+
+-- and a side from which a link leads past the range is outer
+abbrev pub OutSideLaw : Type 0
+OutSideLaw = (edges : List Seg) → IsPlanar edges → (n : ℕ) → IsLinkOut edges n → (p : Point) → IsSide edges n p → IsOuter edges p
+
+-- ---- tests that the next half-edge keeps
+
+-- what the lower sides weigh more than the upper ones is balanced, for any test on sides that next keeps
+abbrev pub BalancedSidesLaw : Type 0
+BalancedSidesLaw = (edges : List Seg) → IsPlanar edges → AreDistinct edges → (passes : HalfEdge → Bool) → ((h g : HalfEdge) → IsNext edges h g → passes h ≡ passes g)
+    → IsBalanced (weigh_sides passes edges)

@@ -1,0 +1,4 @@
+pub mod Below
+pub mod Linked
+pub mod Weights
+pub mod Laws

@@ -28,12 +28,12 @@ without g y [] (k, below, is) = absurd (omega arith)
 without {X} g y (x ∷ xs) c =
     elim (first_or_later x xs y c) [
       | inl here ↦ (
-          xs,
-          record {
-            sum = sum_by-cons g x xs ∙ ap (λ z. g z + sum_by g xs) here;
-            others = λ z i. elim (first_or_later x xs z i) [ inl first ↦ inl (sym here ∙ first) | inr later ↦ inr later ];
-          },
-        )
+        xs,
+        record {
+          sum = sum_by-cons g x xs ∙ ap (λ z. g z + sum_by g xs) here;
+          others = λ z i. elim (first_or_later x xs z i) [ inl first ↦ inl (sym here ∙ first) | inr later ↦ inr later ];
+        },
+      )
       | inr there ↦ (
           let (less, rest) = without g y xs there in (
             x ∷ less,
@@ -62,12 +62,12 @@ one_to_one_sum {X} {Y} R f g one same (x ∷ xs) ys distinct goes =
     let (less, w) = without g y ys c in
     let rest = one_to_one_sum R f g one same xs less distinct.1
     (λ z i. (
-        let (u, (d, s)) = goes z (contains_there x z xs i) in
-        elim (w.others u d) as (λ _. (v : Y) × (Contains less v × R z v)) [
-          | inl taken ↦ absurd (distinct.0 (subst (λ t. Contains xs t) (one z x u s (subst (λ t. R x t) taken r)) i))
-          | inr left ↦ (u, (left, s))
-        ]
-        )) in
+    let (u, (d, s)) = goes z (contains_there x z xs i) in
+    elim (w.others u d) as (λ _. (v : Y) × (Contains less v × R z v)) [
+      | inl taken ↦ absurd (distinct.0 (subst (λ t. Contains xs t) (one z x u s (subst (λ t. R x t) taken r)) i))
+      | inr left ↦ (u, (left, s))
+    ]
+    )) in
     omega (arith, sum_by-cons f x xs, w.sum, same x y r)
 
 -- ---- half-edges

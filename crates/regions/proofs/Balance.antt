@@ -14,7 +14,7 @@ use Rattle.regions.specs.Weights.{side_weight, weigh_sides}
 
 -- ---- lists without an element
 
-first_or_later : {X : Type 0} (x : X) (xs : List X) (y : X) → Contains (x ∷ xs) y → (x ≡ y) ⊎ Contains xs y
+pub first_or_later : {X : Type 0} (x : X) (xs : List X) (y : X) → Contains (x ∷ xs) y → (x ≡ y) ⊎ Contains xs y
 first_or_later x xs y (zero, below, is) = inl is
 first_or_later x xs y (suc i, below, is) = inr (i, omega arith, is)
 
@@ -72,7 +72,7 @@ one_to_one_sum {X} {Y} R f g one same (x ∷ xs) ys distinct goes =
 
 -- ---- half-edges
 
-half_edges_contain : (edges : List Seg) (h : HalfEdge) → Contains edges h.edge → Contains (half_edges edges) h
+pub half_edges_contain : (edges : List Seg) (h : HalfEdge) → Contains edges h.edge → Contains (half_edges edges) h
 half_edges_contain [] h (k, below, is) = absurd (omega arith)
 half_edges_contain (e ∷ es) h c =
     elim (first_or_later e es h.edge c) [
@@ -88,7 +88,7 @@ half_edges_contain (e ∷ es) h c =
         contains_there (record { edge = e; forwards = true }) (record { edge = e; forwards = false }) (record { edge = e; forwards = false } ∷ half_edges es)
         (contains_here (record { edge = e; forwards = false }) (half_edges es))
 
-half_edge_edge : (edges : List Seg) (h : HalfEdge) → Contains (half_edges edges) h → Contains edges h.edge
+pub half_edge_edge : (edges : List Seg) (h : HalfEdge) → Contains (half_edges edges) h → Contains edges h.edge
 half_edge_edge [] h (k, below, is) = absurd (omega arith)
 half_edge_edge (e ∷ es) h c =
     elim (first_or_later (record { edge = e; forwards = true }) (record { edge = e; forwards = false } ∷ half_edges es) h c) [
@@ -99,10 +99,10 @@ half_edge_edge (e ∷ es) h c =
       ]
     ]
 
-distinct_first : (e : Seg) (es : List Seg) → AreDistinct (e ∷ es) → Contains es e → ⊥
+pub distinct_first : (e : Seg) (es : List Seg) → AreDistinct (e ∷ es) → Contains es e → ⊥
 distinct_first e es h (k, below, is) = h zero (suc k) e (omega arith) (omega arith) (sym is)
 
-distinct_rest : (e : Seg) (es : List Seg) → AreDistinct (e ∷ es) → AreDistinct es
+pub distinct_rest : (e : Seg) (es : List Seg) → AreDistinct (e ∷ es) → AreDistinct es
 distinct_rest e es h = λ i j d below within. h (suc i) (suc j) d (omega arith) (omega arith)
 
 distinct_half_edges : (edges : List Seg) → AreDistinct edges → IsDistinct (half_edges edges)

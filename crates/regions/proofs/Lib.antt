@@ -3,3 +3,4 @@ pub mod Edge
 pub mod Links
 pub mod Balance
 pub mod Nearest
+pub mod Kept

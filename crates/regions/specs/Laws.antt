@@ -1,5 +1,5 @@
 -- The laws that a walk round regions stands on.
-use Rattle.std.specs.Prelude.{◌≡◌, ◌⊎◌, ℕ, Bool, List}
+use Rattle.std.specs.Prelude.{◌≡◌, ◌⊎◌, ℕ, Bool, List, Contains}
 use Rattle.cov_types.specs.declared.coord.Coord.{Coord}
 use Rattle.cov_types.specs.declared.seg.Seg.{Seg}
 use Rattle.plane.specs.Point.{Point, at_coord}
@@ -10,7 +10,7 @@ use Rattle.sectors.specs.Sector.{HalfEdge, left, IsNext, AreDistinct, IsPlanar}
 use Rattle.regions.specs.Below.{IsNearestBelow, HasNoneBelow}
 use Rattle.crossings.specs.Crossing.{IsBalanced}
 use Rattle.regions.specs.Weights.{weigh_sides}
-use Rattle.regions.specs.Linked.{LeavesOverRay, IsLinkOut, IsLinked}
+use Rattle.regions.specs.Linked.{LeavesOverRay, IsLinkOut, IsLinked, IsKept}
 
 -- ---- the edge below
 
@@ -50,3 +50,8 @@ OutSideLaw = (edges : List Seg) → IsPlanar edges → (n : ℕ) → IsLinkOut e
 abbrev pub BalancedSidesLaw : Type 0
 BalancedSidesLaw = (edges : List Seg) → IsPlanar edges → AreDistinct edges → (passes : HalfEdge → Bool) → ((h g : HalfEdge) → IsNext edges h g → passes h ≡ passes g)
     → IsBalanced (weigh_sides passes edges)
+
+-- a test that next and the links keep is the same on half-edges with joined points on their left
+abbrev pub KeptLaw : Type 0
+KeptLaw = (edges : List Seg) → IsPlanar edges → AreDistinct edges → (passes : HalfEdge → Bool) → IsKept edges passes
+    → (h g : HalfEdge) → Contains edges h.edge → Contains edges g.edge → Joined edges (left h) (left g) → passes h ≡ passes g

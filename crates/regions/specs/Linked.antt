@@ -1,5 +1,5 @@
 -- How sides of edges are linked: to the side that follows, and down the ray to the edge below.
-use Rattle.std.specs.Prelude.{◌≡◌, ◌⊎◌, ℕ, true, false, List}
+use Rattle.std.specs.Prelude.{◌≡◌, ◌⊎◌, ℕ, Bool, true, false, List}
 use Rattle.cov_types.specs.declared.coord.Coord.{Coord}
 use Rattle.cov_types.specs.declared.seg.Seg.{Seg}
 use Rattle.plane.specs.Point.{at_coord}
@@ -40,3 +40,9 @@ pub record IsLinkOut (edges : List Seg) (n : ℕ) : Type 0 where
 -- the sides follow one another, or a link leads from the first down to the second, or from both past the range
 abbrev pub IsLinked : List Seg → ℕ → ℕ → Type 0
 IsLinked edges n m = IsNextNumber edges n m ⊎ (IsLinkDown edges n m ⊎ (IsLinkOut edges n × IsLinkOut edges m))
+
+-- the test is the same on the left of half-edges that follow one another, along each link down, and at all links past the range
+pub record IsKept (edges : List Seg) (passes : HalfEdge → Bool) : Type 0 where
+  pub next : (h g : HalfEdge) → IsNext edges h g → passes h ≡ passes g
+  pub down : (v : Coord) (g : HalfEdge) → LeavesOverRay edges v g → (e : Seg) → IsNearestBelow edges (at_coord v) e → passes g ≡ passes (record { edge = e; forwards = true })
+  pub out : (v w : Coord) (g h : HalfEdge) → LeavesOverRay edges v g → HasNoneBelow edges (at_coord v) → LeavesOverRay edges w h → HasNoneBelow edges (at_coord w) → passes g ≡ passes h

@@ -1,6 +1,7 @@
-ghost use Rattle.regions.specs.Laws.{BalancedSidesLaw};
+ghost use Rattle.regions.specs.Laws.{BalancedSidesLaw, KeptLaw};
 
-/// What lower sides weigh more than upper ones is balanced, for a test that the next half-edge keeps. A call does nothing.
+/// A test on sides that next and the links keep is the same on joined sides. A call does nothing.
 pub fn side_law()
     ensures balanced { BalancedSidesLaw }
+    ensures kept { KeptLaw }
 {}

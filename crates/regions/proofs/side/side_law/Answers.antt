@@ -1,5 +1,9 @@
 use Rattle.regions.proofs.Balance.{balanced_sides}
+use Rattle.regions.proofs.Kept.{kept_joined}
 use Rattle.regions.proofs.side.side_law.Goals as goal
 
-pub returns : goal.returns
-returns c = record { balanced = balanced_sides }
+pub returns-clause-balanced : goal.returns-clause-balanced
+returns-clause-balanced c = balanced_sides
+
+pub returns-clause-kept : goal.returns-clause-kept
+returns-clause-kept c = kept_joined

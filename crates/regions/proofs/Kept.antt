@@ -175,10 +175,10 @@ module _ (edges : List Seg) (planar : IsPlanar edges) (distinct : AreDistinct ed
   rank_less v g h at_g at_h before =
       count_less (leaves_before v g) (leaves_before v h) (half_edges edges)
       (λ k i t. (
-          let parts = and_parts _ _ t in
-          let at_k : Leaves edges v k = record { among = half_edge_edge edges k i; from = (Decides-same_coords (origin k) v).0 parts.0 } in
-          and_from _ _ parts.0 (before-trans edges planar v k g h at_k at_g at_h parts.1 before)
-          ))
+      let parts = and_parts _ _ t in
+      let at_k : Leaves edges v k = record { among = half_edge_edge edges k i; from = (Decides-same_coords (origin k) v).0 parts.0 } in
+      and_from _ _ parts.0 (before-trans edges planar v k g h at_k at_g at_h parts.1 before)
+      ))
       g (half_edges_contain edges g at_g.among)
       (λ i. second_false (int_eq (origin g).x v.x && int_eq (origin g).y v.y) (is_before_by_angle g g) (before-irrefl edges planar v g at_g) i)
       (and_from _ _ ((Decides-same_coords (origin g) v).1 at_g.from) before)

@@ -4,3 +4,4 @@ pub mod Links
 pub mod Balance
 pub mod Nearest
 pub mod Kept
+pub mod Numbered

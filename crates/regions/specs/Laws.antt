@@ -55,3 +55,8 @@ BalancedSidesLaw = (edges : List Seg) → IsPlanar edges → AreDistinct edges �
 abbrev pub KeptLaw : Type 0
 KeptLaw = (edges : List Seg) → IsPlanar edges → AreDistinct edges → (passes : HalfEdge → Bool) → IsKept edges passes
     → (h g : HalfEdge) → Contains edges h.edge → Contains edges g.edge → Joined edges (left h) (left g) → passes h ≡ passes g
+
+-- so sides with joined side points have one number, for any numbers that links keep
+abbrev pub JoinedNumberLaw : Type 0
+JoinedNumberLaw = (edges : List Seg) → IsPlanar edges → AreDistinct edges → (number : ℕ → ℕ) → ((n m : ℕ) → IsLinked edges n m → number n ≡ number m)
+    → (n m : ℕ) (p q : Point) → IsSide edges n p → IsSide edges m q → Joined edges p q → number n ≡ number m

@@ -1,6 +1,6 @@
 -- What the lower sides of edges weigh more than the upper ones is balanced, for a test on sides that the next half-edge keeps.
 use mathlib.Core.List.{List, [], ◌∷◌}
-use Rattle.std.proofs.Common.{◌≡◌, refl, sym, ◌∙◌, ap, subst, ℕ, zero, suc, ◌+◌, ◌≤◌, Bool, true, false, not, ◌&&◌, cond, true≢false, map, sum_by, Contains, ℤ, pos, ◌+ℤ◌, ◌-ℤ◌, ◌⊎◌, inl, inr, arith}
+use Rattle.std.proofs.Common.{◌≡◌, refl, sym, ◌∙◌, ap, subst, ℕ, zero, suc, ◌+◌, ◌≤◌, Bool, true, false, not, ◌&&◌, cond, true≢false, sum_by, Contains, pos, ◌+ℤ◌, ◌-ℤ◌, ◌⊎◌, inl, inr, arith}
 use Rattle.std.proofs.lemmas.List.Sums.{sum_by-cons}
 use Rattle.cov_types.specs.declared.coord.Coord.{Coord}
 use Rattle.cov_types.specs.declared.seg.Seg.{Seg}
@@ -10,7 +10,7 @@ use Rattle.crossings.proofs.Lists.{contains_here, contains_there}
 use Rattle.sectors.specs.Sector.{HalfEdge, origin, target, half_edges, IsNext, AreDistinct, IsPlanar}
 use Rattle.sectors.proofs.Next.{next_of_one}
 use Rattle.sectors.proofs.Exists.{some_next}
-use Rattle.regions.specs.Weights.{side_weight, weigh_sides}
+use Rattle.regions.specs.Weights.{weigh_sides}
 
 -- ---- lists without an element
 
@@ -28,12 +28,12 @@ without g y [] (k, below, is) = absurd (omega arith)
 without {X} g y (x ∷ xs) c =
     elim (first_or_later x xs y c) [
       | inl here ↦ (
-          xs,
-          record {
-            sum = sum_by-cons g x xs ∙ ap (λ z. g z + sum_by g xs) here;
-            others = λ z i. elim (first_or_later x xs z i) [ inl first ↦ inl (sym here ∙ first) | inr later ↦ inr later ];
-          },
-        )
+        xs,
+        record {
+          sum = sum_by-cons g x xs ∙ ap (λ z. g z + sum_by g xs) here;
+          others = λ z i. elim (first_or_later x xs z i) [ inl first ↦ inl (sym here ∙ first) | inr later ↦ inr later ];
+        },
+      )
       | inr there ↦ (
           let (less, rest) = without g y xs there in (
             x ∷ less,
@@ -62,12 +62,12 @@ one_to_one_sum {X} {Y} R f g one same (x ∷ xs) ys distinct goes =
     let (less, w) = without g y ys c in
     let rest = one_to_one_sum R f g one same xs less distinct.1
     (λ z i. (
-        let (u, (d, s)) = goes z (contains_there x z xs i) in
-        elim (w.others u d) as (λ _. (v : Y) × (Contains less v × R z v)) [
-          | inl taken ↦ absurd (distinct.0 (subst (λ t. Contains xs t) (one z x u s (subst (λ t. R x t) taken r)) i))
-          | inr left ↦ (u, (left, s))
-        ]
-        )) in
+    let (u, (d, s)) = goes z (contains_there x z xs i) in
+    elim (w.others u d) as (λ _. (v : Y) × (Contains less v × R z v)) [
+      | inl taken ↦ absurd (distinct.0 (subst (λ t. Contains xs t) (one z x u s (subst (λ t. R x t) taken r)) i))
+      | inr left ↦ (u, (left, s))
+    ]
+    )) in
     omega (arith, sum_by-cons f x xs, w.sum, same x y r)
 
 -- ---- half-edges

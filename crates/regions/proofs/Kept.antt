@@ -1,6 +1,6 @@
 -- A test on sides that next and the links keep is the same on joined sides.
 use mathlib.Core.List.{List, [], ◌∷◌}
-use Rattle.std.proofs.Common.{◌≡◌, refl, sym, ◌∙◌, ap, subst, ℕ, zero, suc, ◌+◌, ◌≤◌, ◌<◌, ◌^◌, Bool, true, false, not, ◌&&◌, cond, true≢false, int_eq, map, count_by, Contains, IsTrue, ℤ, pos, ◌+ℤ◌, ◌-ℤ◌, ◌*ℤ◌, ◌≤ℤ◌, ◌<ℤ◌, ◌⊎◌, inl, inr, arith}
+use Rattle.std.proofs.Common.{◌≡◌, refl, sym, ◌∙◌, ap, subst, ℕ, zero, suc, ◌≤◌, ◌<◌, ◌^◌, Bool, true, false, not, ◌&&◌, cond, true≢false, int_eq, count_by, Contains, ℤ, pos, ◌+ℤ◌, ◌-ℤ◌, ◌<ℤ◌, inl, inr, arith}
 use Rattle.std.proofs.lemmas.List.Elements.{All-contains}
 use Rattle.std.proofs.lemmas.List.Sums.{sum_by-cons}
 use Rattle.std.proofs.lemmas.Bool.{and_parts, and_from}
@@ -22,7 +22,7 @@ use Rattle.crossings.specs.Crossing.{edges_of, crossing_sum, IsSwept}
 use Rattle.crossings.proofs.Sums.{crossing_sum-joined}
 use Rattle.crossings.proofs.Changes.{crossing_sum-across}
 use Rattle.crossings.proofs.Lists.{contains_here, contains_there}
-use Rattle.sectors.specs.Sector.{HalfEdge, origin, target, left, twin, half_edges, is_before_by_angle, Leaves, IsNext, AreDistinct, IsPlanar}
+use Rattle.sectors.specs.Sector.{HalfEdge, origin, target, left, twin, half_edges, is_before_by_angle, Leaves, AreDistinct, IsPlanar}
 use Rattle.sectors.proofs.Sectors.{next_joined}
 use Rattle.sectors.proofs.Order.{before-trans}
 use Rattle.sectors.proofs.Exists.{some_next, before-irrefl}
@@ -175,10 +175,10 @@ module _ (edges : List Seg) (planar : IsPlanar edges) (distinct : AreDistinct ed
   rank_less v g h at_g at_h before =
       count_less (leaves_before v g) (leaves_before v h) (half_edges edges)
       (λ k i t. (
-          let parts = and_parts _ _ t in
-          let at_k : Leaves edges v k = record { among = half_edge_edge edges k i; from = (Decides-same_coords (origin k) v).0 parts.0 } in
-          and_from _ _ parts.0 (before-trans edges planar v k g h at_k at_g at_h parts.1 before)
-          ))
+      let parts = and_parts _ _ t in
+      let at_k : Leaves edges v k = record { among = half_edge_edge edges k i; from = (Decides-same_coords (origin k) v).0 parts.0 } in
+      and_from _ _ parts.0 (before-trans edges planar v k g h at_k at_g at_h parts.1 before)
+      ))
       g (half_edges_contain edges g at_g.among)
       (λ i. second_false (int_eq (origin g).x v.x && int_eq (origin g).y v.y) (is_before_by_angle g g) (before-irrefl edges planar v g at_g) i)
       (and_from _ _ ((Decides-same_coords (origin g) v).1 at_g.from) before)

@@ -1,6 +1,6 @@
 -- Each point has a nearest edge below it, or none below it.
 use mathlib.Core.List.{List, [], ◌∷◌}
-use Rattle.std.proofs.Common.{◌≡◌, refl, sym, ◌∙◌, ap, subst, ℕ, zero, suc, ◌+◌, ◌*◌, ◌≤◌, ◌^◌, Bool, true, false, true≢false, Contains, IsTrue, ℤ, pos, neg_ℤ, ◌+ℤ◌, ◌-ℤ◌, ◌*ℤ◌, ◌≤ℤ◌, ◌<ℤ◌, ◌⊎◌, inl, inr, ⊎_elim, arith}
+use Rattle.std.proofs.Common.{◌≡◌, refl, sym, ◌∙◌, ap, subst, zero, suc, ◌+◌, ◌*◌, ◌^◌, Bool, true, false, true≢false, Contains, ℤ, pos, ◌+ℤ◌, ◌-ℤ◌, ◌*ℤ◌, ◌<ℤ◌, ◌⊎◌, inl, inr, ⊎_elim, arith}
 use Rattle.std.proofs.lemmas.List.Elements.{All-contains}
 use Rattle.cov_types.specs.declared.seg.Seg.{Seg}
 use Rattle.cov_types.specs.Range.{IsSegInRange}
@@ -8,7 +8,7 @@ use Rattle.exact.proofs.Bound.{IsWithin, within_product, within_difference}
 use Rattle.exact.proofs.Cast.{positive_natural}
 use Rattle.exact.proofs.Compare.{le_of_lt, trichotomy}
 use Rattle.exact.proofs.Order.{cancel_lt, mul_lt}
-use Rattle.exact.proofs.Ring.{lin, by_ring, by_one, Var, ◌⊕◌, ◌⊖◌, ◌⊗◌, mul_one, mul_comm, pos_times}
+use Rattle.exact.proofs.Ring.{lin, by_ring, Var, ◌⊕◌, ◌⊖◌, ◌⊗◌, mul_one, mul_comm, pos_times}
 use Rattle.exact.proofs.Sign.{positive_times_positive, positive_factor}
 use Rattle.plane.specs.Point.{Point, at_coord}
 use Rattle.plane.specs.Segment.{side}
@@ -139,9 +139,10 @@ module _ (edges : List Seg) (planar : IsPlanar edges) (p : Point) where
           let low_scaled = mul_lt k hk low in
           let high_scaled = mul_lt k hk high in
           let depth_lo = ap (λ z. lo *ℤ z) depth ∙ scaled k tiny lo (pos p.d) in
-          let depth_hi = ap (λ z. hi *ℤ z) depth ∙ scaled k tiny hi (pos p.d) in
-          (subst (λ z. z <ℤ sweep r) (sym depth_lo) (subst (λ z. (k *ℤ (tiny *ℤ (lo *ℤ pos p.d))) <ℤ z) (sym at) low_scaled),
-          subst (λ z. sweep r <ℤ z) (sym depth_hi) (subst (λ z. z <ℤ (k *ℤ (tiny *ℤ (hi *ℤ pos p.d)))) (sym at) high_scaled))
+          let depth_hi = ap (λ z. hi *ℤ z) depth ∙ scaled k tiny hi (pos p.d) in (
+            subst (λ z. z <ℤ sweep r) (sym depth_lo) (subst (λ z. (k *ℤ (tiny *ℤ (lo *ℤ pos p.d))) <ℤ z) (sym at) low_scaled),
+            subst (λ z. sweep r <ℤ z) (sym depth_hi) (subst (λ z. z <ℤ (k *ℤ (tiny *ℤ (hi *ℤ pos p.d)))) (sym at) high_scaled),
+          )
 
   -- ---- the choice, edge by edge
 
@@ -164,7 +165,9 @@ module _ (edges : List Seg) (planar : IsPlanar edges) (p : Point) where
   one_more : (e : Seg) (es : List Seg) → IsBelow edges p e → (g : Seg) → IsBest es g → (h : Seg) × IsBest (e ∷ es) h
   one_more e es b g best =
       elim (trichotomy (side e (past p) *ℤ sweep_rise g) (side g (past p) *ℤ sweep_rise e)) [
-        | inl nearer ↦ (e, record {
+        | inl nearer ↦ (
+          e,
+          record {
             below = b;
             best = λ f i c. elim (first_or_later e es f i) [
               | inl same ↦ inl same
@@ -173,8 +176,11 @@ module _ (edges : List Seg) (planar : IsPlanar edges) (p : Point) where
                 | inr on ↦ past-trans e g f b best.below c nearer on
               ])
             ];
-          })
-        | inr rest ↦ (g, record {
+          },
+        )
+        | inr rest ↦ (
+          g,
+          record {
             below = best.below;
             best = λ f i c. elim (first_or_later e es f i) [
               | inl same ↦ elim rest as (λ _. (g ≡ f) ⊎ IsNearerPast p g f) [
@@ -183,7 +189,8 @@ module _ (edges : List Seg) (planar : IsPlanar edges) (p : Point) where
               ]
               | inr later ↦ best.best f later c
             ];
-          })
+          },
+        )
       ]
 
   best_or_none : (some : List Seg) → ((e : Seg) → Contains some e → Contains edges e) → ((e : Seg) × IsBest some e) ⊎ ((e : Seg) → Contains some e → IsBelow edges p e → ⊥)
@@ -194,19 +201,25 @@ module _ (edges : List Seg) (planar : IsPlanar edges) (p : Point) where
       elim (below_or_not e c) [
         | inl b ↦ inl (elim rest as (λ _. (h : Seg) × IsBest (e ∷ es) h) [
           | inl found ↦ one_more e es b found.0 found.1
-          | inr none ↦ (e, record {
+          | inr none ↦ (
+            e,
+            record {
               below = b;
               best = λ f i d. elim (first_or_later e es f i) [ inl same ↦ inl same | inr later ↦ absurd (none f later d) ];
-            })
+            },
+          )
         ])
         | inr not_below ↦ elim rest [
-          | inl found ↦ inl (found.0, record {
+          | inl found ↦ inl (
+            found.0,
+            record {
               below = found.1.below;
               best = λ f i d. elim (first_or_later e es f i) [
                 | inl same ↦ absurd (not_below (subst (λ x. IsBelow edges p x) (sym same) d))
                 | inr later ↦ found.1.best f later d
               ];
-            })
+            },
+          )
           | inr none ↦ inr (λ f i d. elim (first_or_later e es f i) [
             | inl same ↦ not_below (subst (λ x. IsBelow edges p x) (sym same) d)
             | inr later ↦ none f later d
@@ -217,9 +230,12 @@ module _ (edges : List Seg) (planar : IsPlanar edges) (p : Point) where
   pub nearest_or_none : ((e : Seg) × IsNearestBelow edges p e) ⊎ HasNoneBelow edges p
   nearest_or_none =
       elim (best_or_none edges (λ e i. i)) [
-        | inl found ↦ inl (found.0, record {
+        | inl found ↦ inl (
+          found.0,
+          record {
             below = found.1.below;
             nearest = λ f b. elim (found.1.best f b.among b) [ inl same ↦ inl same | inr nearer ↦ inr (nearer_from_past found.0 f found.1.below b nearer) ];
-          })
+          },
+        )
         | inr none ↦ inr (λ e b. none e b.among b)
       ]

@@ -1,6 +1,6 @@
 -- Joined sides have one number, for any numbers that links keep.
 use mathlib.Core.List.{List, [], ◌∷◌}
-use Rattle.std.proofs.Common.{◌≡◌, refl, sym, ◌∙◌, ap, subst, ℕ, zero, suc, ◌==◌, Bool, true, false, true≢false, cond, Some, Contains, IsTrue, ◌⊎◌, inl, inr, arith}
+use Rattle.std.proofs.Common.{◌≡◌, refl, sym, ◌∙◌, ap, subst, ℕ, zero, suc, ◌==◌, Bool, true, false, true≢false, cond, Contains, inl, inr, arith}
 use Rattle.std.proofs.lemmas.Option.{none-some, same_Some}
 use Rattle.std.proofs.lemmas.Bool.Decides.{nat_tests}
 use Rattle.cov_types.specs.declared.seg.Seg.{Seg}
@@ -10,7 +10,7 @@ use Rattle.plane.specs.Joined.{Joined}
 use Rattle.plane.specs.Region.{IsSide}
 use Rattle.crossings.specs.Across.{is_same_seg}
 use Rattle.crossings.proofs.Lists.{contains_here, contains_there}
-use Rattle.sectors.specs.Sector.{HalfEdge, left, IsHalfEdge, IsNext, AreDistinct, IsPlanar}
+use Rattle.sectors.specs.Sector.{HalfEdge, left, IsHalfEdge, AreDistinct, IsPlanar}
 use Rattle.sectors.proofs.Numbers.{one_number}
 use Rattle.sectors.proofs.Angles.{true_or_false}
 use Rattle.regions.specs.Linked.{IsLinked, IsKept}

@@ -5,3 +5,4 @@ pub mod Balance
 pub mod Nearest
 pub mod Kept
 pub mod Numbered
+pub mod Exists

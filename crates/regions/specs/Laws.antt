@@ -5,7 +5,7 @@ use Rattle.cov_types.specs.declared.seg.Seg.{Seg}
 use Rattle.plane.specs.Point.{Point, at_coord}
 use Rattle.plane.specs.Segment.{upper}
 use Rattle.plane.specs.Joined.{IsOff, Joined}
-use Rattle.plane.specs.Region.{IsSide, IsOuter}
+use Rattle.plane.specs.Region.{IsSide, IsOuter, AreRegions}
 use Rattle.sectors.specs.Sector.{HalfEdge, left, IsNext, AreDistinct, IsPlanar}
 use Rattle.regions.specs.Below.{IsNearestBelow, HasNoneBelow}
 use Rattle.crossings.specs.Crossing.{IsBalanced}
@@ -60,3 +60,9 @@ KeptLaw = (edges : List Seg) → IsPlanar edges → AreDistinct edges → (passe
 abbrev pub JoinedNumberLaw : Type 0
 JoinedNumberLaw = (edges : List Seg) → IsPlanar edges → AreDistinct edges → (number : ℕ → ℕ) → ((n m : ℕ) → IsLinked edges n m → number n ≡ number m)
     → (n m : ℕ) (p q : Point) → IsSide edges n p → IsSide edges m q → Joined edges p q → number n ≡ number m
+
+-- ---- the numbers of the regions
+
+-- there are numbers that give each side its region, the least side that it is joined with
+abbrev pub RegionsExistLaw : Type 0
+RegionsExistLaw = (edges : List Seg) → IsPlanar edges → AreDistinct edges → (number : ℕ → ℕ) × AreRegions edges number

@@ -6,8 +6,10 @@
 
 mod below;
 mod link;
+mod number;
 mod side;
 
 pub use below::below_law;
 pub use link::link_law;
+pub use number::number_law;
 pub use side::side_law;

@@ -1,17 +1,16 @@
 -- The regions have numbers by least sides.
 use mathlib.Core.List.{List, [], ◌∷◌}
-use Rattle.std.proofs.Common.{◌≡◌, refl, sym, ◌∙◌, ap, subst, ℕ, zero, suc, ◌+◌, ◌≤◌, ◌<◌, ◌==◌, Bool, true, false, true≢false, cond, ◌++◌, Contains, IsTrue, ◌⊎◌, inl, inr, ◌*◌, ℤ, pos, ◌-ℤ◌, ◌*ℤ◌, ◌<ℤ◌, arith}
+use Rattle.std.proofs.Common.{◌≡◌, refl, sym, ◌∙◌, ap, subst, ℕ, zero, suc, ◌≤◌, ◌==◌, Bool, true, false, cond, Contains, ◌⊎◌, inl, inr, pos, ◌-ℤ◌, ◌*ℤ◌, ◌<ℤ◌, arith}
 use Rattle.std.proofs.lemmas.Bool.Decides.{nat_tests}
 use Rattle.cov_types.specs.declared.coord.Coord.{Coord}
 use Rattle.cov_types.specs.declared.seg.Seg.{Seg}
-use Rattle.exact.proofs.Compare.{le_of_lt}
 use Rattle.exact.proofs.Ring.{lin}
 use Rattle.exact.proofs.Sign.{positive_times_positive, positive_factor}
 use Rattle.plane.specs.Point.{Point, at_coord}
-use Rattle.plane.specs.Segment.{side, upper}
+use Rattle.plane.specs.Segment.{side}
 use Rattle.plane.specs.Ray.{sweep}
 use Rattle.plane.specs.Joined.{Joined}
-use Rattle.plane.specs.Region.{far_point, IsSide, IsJoinedSide, IsRegionOf, AreRegions}
+use Rattle.plane.specs.Region.{far_point, IsSide, IsRegionOf, AreRegions}
 use Rattle.plane.proofs.Points.{d_positive}
 use Rattle.plane.proofs.Sweeps.{rises-in_range}
 use Rattle.crossings.proofs.Ways.{joined-trans, joined-sym, joined-refl, joined_off}
@@ -31,7 +30,7 @@ use Rattle.regions.proofs.Links.{link_down, link_out}
 use Rattle.regions.proofs.Nearest.{nearest_or_none}
 use Rattle.regions.proofs.Balance.{first_or_later, half_edges_contain, half_edge_edge}
 use Rattle.regions.proofs.Kept.{kept_joined}
-use Rattle.regions.proofs.Numbered.{index, index_is, IsOfSide, side_half_edge}
+use Rattle.regions.proofs.Numbered.{index, index_is, side_half_edge}
 
 -- ---- classes from pairs
 
@@ -67,8 +66,7 @@ module _ (R : ℕ → ℕ → Type 0) (turn : (x y : ℕ) → R x y → R y x) (
       let r = all pair (contains_here pair pairs) in
       let merge = merged c (c a) (c b) in
       let taken = λ (x : ℕ) (h : c x ≡ c a). ap (λ n. cond (n == c a) (c b) n) h ∙ ap (λ t. cond t (c b) (c a)) (equal_itself (c a)) in
-      let left_alone = λ (x : ℕ) (h : (c x == c a) ≡ false). ap (λ t. cond t (c b) (c x)) h in
-      (
+      let left_alone = λ (x : ℕ) (h : (c x == c a) ≡ false). ap (λ t. cond t (c b) (c x)) h in (
         merge,
         record {
           tied = λ x y e. elim (same_or_not (c x) (c a)) [
@@ -184,39 +182,50 @@ module _ (edges : List Seg) (planar : IsPlanar edges) (distinct : AreDistinct ed
   link_pair : (h g : HalfEdge) → IsNext edges h g → (pair : ℕ × ℕ) × IsLinkPair h g pair
   link_pair h g next =
       elim (true_or_false (is_before_by_angle g (twin h))) [
-        | inl before ↦ ((node h, node g), record {
+        | inl before ↦ (
+          (node h, node g),
+          record {
             tied = tied_by h g next.among next.leaves.among (next_joined edges planar h g next);
             down = λ last. absurd (not_both before last);
             out = λ last. absurd (not_both before last);
-          })
+          },
+        )
         | inr last ↦ (
             let over : LeavesOverRay edges (origin g) g = record { before = h; over = record { follows = next; past_down = last }; from = refl } in
             elim (nearest_or_none edges planar (at_coord (origin g))) [
               | inl found ↦ (
                   let e = found.0 in
-                  let below : HalfEdge = record { edge = e; forwards = true } in
-                  ((node g, node below), record {
-                    tied = tied_by g below next.leaves.among found.1.below.among (link_down edges planar (origin g) g over e found.1);
-                    down = λ _ f nearest. ap (λ x. (node g, node (record { edge = x; forwards = true }))) (one_nearest edges planar (at_coord (origin g)) e f found.1 nearest);
-                    out = λ _ none. absurd (none e found.1.below);
-                  })
+                  let below : HalfEdge = record { edge = e; forwards = true } in (
+                    (node g, node below),
+                    record {
+                      tied = tied_by g below next.leaves.among found.1.below.among (link_down edges planar (origin g) g over e found.1);
+                      down = λ _ f nearest. ap (λ x. (node g, node (record { edge = x; forwards = true }))) (one_nearest edges planar (at_coord (origin g)) e f found.1 nearest);
+                      out = λ _ none. absurd (none e found.1.below);
+                    },
                   )
-              | inr none ↦ ((node g, 0), record {
+                  )
+              | inr none ↦ (
+                (node g, 0),
+                record {
                   tied = record { first = left g; second = far_point; is_first = at_node g next.leaves.among; is_second = refl; joined = link_out edges planar (origin g) g over none };
                   down = λ _ e nearest. absurd (none e nearest.below);
                   out = λ _ _. refl;
-                })
+                },
+              )
             ]
             )
       ]
 
   all_pairs : (some : List HalfEdge) → ((h : HalfEdge) → Contains some h → Contains edges h.edge) → (pairs : List (ℕ × ℕ)) × ArePairs some pairs
-  all_pairs [] among = ([], record {
-    tied = λ p i. absurd (omega (arith, i.1));
-    next = λ h g i. absurd (omega (arith, i.1));
-    down = λ h g i. absurd (omega (arith, i.1));
-    out = λ h g i. absurd (omega (arith, i.1));
-  })
+  all_pairs [] among = (
+    [],
+    record {
+      tied = λ p i. absurd (omega (arith, i.1));
+      next = λ h g i. absurd (omega (arith, i.1));
+      down = λ h g i. absurd (omega (arith, i.1));
+      out = λ h g i. absurd (omega (arith, i.1));
+    },
+  )
   all_pairs (h ∷ hs) among =
       let (pairs, rest) = all_pairs hs (λ k i. among k (contains_there h k hs i)) in
       let (g, next) = some_next edges planar h (among h (contains_here h hs)) in
@@ -224,36 +233,38 @@ module _ (edges : List Seg) (planar : IsPlanar edges) (distinct : AreDistinct ed
       let first : ℕ × ℕ = (node h, node g) in
       let in_rest = λ (p : ℕ × ℕ) (i : Contains pairs p). contains_there first p (link ∷ pairs) (contains_there link p pairs i) in
       let in_link = contains_there first link (link ∷ pairs) (contains_here link pairs) in
-      let one = λ (k : HalfEdge) (m : HalfEdge) (same : h ≡ k) (n : IsNext edges k m). one_next edges planar h g m next (subst (λ x. IsNext edges x m) (sym same) n) in
-      (first ∷ link ∷ pairs, record {
-        tied = λ p i. elim (first_or_later first (link ∷ pairs) p i) [
-          | inl here ↦ subst (λ (q : ℕ × ℕ). AreTied edges q.0 q.1) here (tied_by h g next.among next.leaves.among (next_joined edges planar h g next))
-          | inr later ↦ elim (first_or_later link pairs p later) [
-            | inl here ↦ subst (λ (q : ℕ × ℕ). AreTied edges q.0 q.1) here second.tied
-            | inr more ↦ rest.tied p more
-          ]
-        ];
-        next = λ k m i n. elim (first_or_later h hs k i) [
-          | inl same ↦ subst (λ (q : ℕ × ℕ). Contains (first ∷ link ∷ pairs) q) (λ t. (node (same t), node (one k m same n t))) (contains_here first (link ∷ pairs))
-          | inr later ↦ in_rest (node k, node m) (rest.next k m later n)
-        ];
-        down = λ k m i n last e nearest. elim (first_or_later h hs k i) [
-          | inl same ↦ (
-              let moved = one k m same n in
-              let pair = second.down ((λ t. is_before_by_angle (moved t) (twin (same t))) ∙ last) e (subst (λ x. IsNearestBelow edges (at_coord (origin x)) e) (sym moved) nearest) in
-              subst (λ (q : ℕ × ℕ). Contains (first ∷ link ∷ pairs) q) (pair ∙ ap (λ x. (node x, node (record { edge = e; forwards = true }))) moved) in_link
-              )
-          | inr later ↦ in_rest (node m, node (record { edge = e; forwards = true })) (rest.down k m later n last e nearest)
-        ];
-        out = λ k m i n last none. elim (first_or_later h hs k i) [
-          | inl same ↦ (
-              let moved = one k m same n in
-              let pair = second.out ((λ t. is_before_by_angle (moved t) (twin (same t))) ∙ last) (subst (λ x. HasNoneBelow edges (at_coord (origin x))) (sym moved) none) in
-              subst (λ (q : ℕ × ℕ). Contains (first ∷ link ∷ pairs) q) (pair ∙ ap (λ x. (node x, 0)) moved) in_link
-              )
-          | inr later ↦ in_rest (node m, 0) (rest.out k m later n last none)
-        ];
-      })
+      let one = λ (k : HalfEdge) (m : HalfEdge) (same : h ≡ k) (n : IsNext edges k m). one_next edges planar h g m next (subst (λ x. IsNext edges x m) (sym same) n) in (
+        first ∷ link ∷ pairs,
+        record {
+          tied = λ p i. elim (first_or_later first (link ∷ pairs) p i) [
+            | inl here ↦ subst (λ (q : ℕ × ℕ). AreTied edges q.0 q.1) here (tied_by h g next.among next.leaves.among (next_joined edges planar h g next))
+            | inr later ↦ elim (first_or_later link pairs p later) [
+              | inl here ↦ subst (λ (q : ℕ × ℕ). AreTied edges q.0 q.1) here second.tied
+              | inr more ↦ rest.tied p more
+            ]
+          ];
+          next = λ k m i n. elim (first_or_later h hs k i) [
+            | inl same ↦ subst (λ (q : ℕ × ℕ). Contains (first ∷ link ∷ pairs) q) (λ t. (node (same t), node (one k m same n t))) (contains_here first (link ∷ pairs))
+            | inr later ↦ in_rest (node k, node m) (rest.next k m later n)
+          ];
+          down = λ k m i n last e nearest. elim (first_or_later h hs k i) [
+            | inl same ↦ (
+                let moved = one k m same n in
+                let pair = second.down ((λ t. is_before_by_angle (moved t) (twin (same t))) ∙ last) e (subst (λ x. IsNearestBelow edges (at_coord (origin x)) e) (sym moved) nearest) in
+                subst (λ (q : ℕ × ℕ). Contains (first ∷ link ∷ pairs) q) (pair ∙ ap (λ x. (node x, node (record { edge = e; forwards = true }))) moved) in_link
+                )
+            | inr later ↦ in_rest (node m, node (record { edge = e; forwards = true })) (rest.down k m later n last e nearest)
+          ];
+          out = λ k m i n last none. elim (first_or_later h hs k i) [
+            | inl same ↦ (
+                let moved = one k m same n in
+                let pair = second.out ((λ t. is_before_by_angle (moved t) (twin (same t))) ∙ last) (subst (λ x. HasNoneBelow edges (at_coord (origin x))) (sym moved) none) in
+                subst (λ (q : ℕ × ℕ). Contains (first ∷ link ∷ pairs) q) (pair ∙ ap (λ x. (node x, 0)) moved) in_link
+                )
+            | inr later ↦ in_rest (node m, 0) (rest.out k m later n last none)
+          ];
+        },
+      )
 
 -- ---- the least number that passes a test
 
@@ -333,10 +344,10 @@ module _ (edges : List Seg) (planar : IsPlanar edges) (distinct : AreDistinct ed
         joined = elim (cls.tied (suc m) (suc n) (nat_same (c (suc m)) (c (suc n)) l.holds)) [
           | inl same ↦ record { at = p; side = subst (λ k. IsNode edges k p) (sym same) at; joined = joined_itself n p at }
           | inr t ↦ record {
-              at = t.first;
-              side = t.is_first;
-              joined = joined-sym edges t.first p (subst (λ x. Joined edges t.first x) (one_node edges (suc n) t.second p t.is_second at) t.joined);
-            }
+            at = t.first;
+            side = t.is_first;
+            joined = joined-sym edges t.first p (subst (λ x. Joined edges t.first x) (one_node edges (suc n) t.second p t.is_second at) t.joined);
+          }
         ];
         least = λ k j. l.least k (same_true (c (suc k)) (c (suc n)) (sym (joined_class n k p j.at at j.side j.joined)));
       }

@@ -1,13 +1,14 @@
 -- Joined sides have one number, for any numbers that links keep.
 use mathlib.Core.List.{List, [], ◌∷◌}
-use Rattle.std.proofs.Common.{◌≡◌, refl, sym, ◌∙◌, ap, subst, ℕ, zero, suc, ◌==◌, Bool, true, false, true≢false, cond, Contains, inl, inr, arith}
+use Rattle.std.proofs.Common.{◌≡◌, refl, sym, ◌∙◌, ap, subst, ℕ, zero, suc, ◌==◌, Bool, true, false, true≢false, cond, Contains, inl, inr, arith, ◌≤◌}
 use Rattle.std.proofs.lemmas.Option.{none-some, same_Some}
 use Rattle.std.proofs.lemmas.Bool.Decides.{nat_tests}
 use Rattle.cov_types.specs.declared.seg.Seg.{Seg}
 use Rattle.cov_types.proofs.Equal.{Decides-same_segs}
 use Rattle.plane.specs.Point.{Point}
 use Rattle.plane.specs.Joined.{Joined}
-use Rattle.plane.specs.Region.{IsSide}
+use Rattle.plane.specs.Region.{IsSide, IsJoinedSide, AreRegions}
+use Rattle.crossings.proofs.Located.{one_region}
 use Rattle.crossings.specs.Across.{is_same_seg}
 use Rattle.crossings.proofs.Lists.{contains_here, contains_there}
 use Rattle.sectors.specs.Sector.{HalfEdge, left, IsHalfEdge, AreDistinct, IsPlanar}
@@ -93,3 +94,17 @@ module _ (edges : List Seg) (planar : IsPlanar edges) (distinct : AreDistinct ed
       let way : Joined edges (left h) (left g) = subst (λ x. Joined edges x (left g)) (sym of_n.point) (subst (λ y. Joined edges p y) (sym of_m.point) j) in
       let tests = kept_joined edges planar distinct (number_is (number n)) (kept (number n)) h g of_n.among of_m.among way in
       sym (ap number (sym second) ∙ same_test (number (index edges h)) (number (index edges g)) (number n) tests (ap number first))
+
+  -- numbers of sides that are no later, and joined
+  pub walk_regions : ((n : ℕ) (p : Point) → IsSide edges n p → (number n ≤ n) × IsJoinedSide edges p (number n)) → AreRegions edges number
+  walk_regions low n p at = record {
+    joined = (low n p at).1;
+    least = λ k j. (
+        let same = joined_number n k p j.at at j.side j.joined in
+        let le = (low k j.at j.side).0 in
+        omega arith
+        );
+  }
+
+pub one_numbering : (edges : List Seg) (number other : ℕ → ℕ) → AreRegions edges number → AreRegions edges other → (n : ℕ) (p : Point) → IsSide edges n p → number n ≡ other n
+one_numbering edges number other h k n p at = one_region edges p (number n) (other n) (h n p at) (k n p at)

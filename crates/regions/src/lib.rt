@@ -23,11 +23,13 @@
 #![tactic(auto)]
 
 mod below;
+mod examples;
 mod link;
 mod number;
 mod side;
 
 pub use below::below_law;
+pub use examples::below_examples;
 pub use link::link_law;
 pub use number::number_law;
 pub use side::side_law;

@@ -1,6 +1,6 @@
 -- What the lower sides of edges weigh more than the upper ones is balanced, for a test on sides that the next half-edge keeps.
 use mathlib.Core.List.{List, [], ◌∷◌}
-use Rattle.std.proofs.Common.{◌≡◌, refl, sym, ◌∙◌, ap, subst, ℕ, zero, suc, ◌+◌, ◌≤◌, Bool, true, false, not, ◌&&◌, cond, true≢false, map, sum_by, Contains, ℤ, pos, ◌+ℤ◌, ◌-ℤ◌, ◌⊎◌, inl, inr, arith}
+use Rattle.std.proofs.Common.{◌≡◌, refl, sym, ◌∙◌, ap, subst, ℕ, zero, suc, ◌+◌, ◌≤◌, Bool, true, false, not, ◌&&◌, cond, true≢false, sum_by, Contains, pos, ◌+ℤ◌, ◌-ℤ◌, ◌⊎◌, inl, inr, arith}
 use Rattle.std.proofs.lemmas.List.Sums.{sum_by-cons}
 use Rattle.cov_types.specs.declared.coord.Coord.{Coord}
 use Rattle.cov_types.specs.declared.seg.Seg.{Seg}
@@ -10,7 +10,7 @@ use Rattle.crossings.proofs.Lists.{contains_here, contains_there}
 use Rattle.sectors.specs.Sector.{HalfEdge, origin, target, half_edges, IsNext, AreDistinct, IsPlanar}
 use Rattle.sectors.proofs.Next.{next_of_one}
 use Rattle.sectors.proofs.Exists.{some_next}
-use Rattle.regions.specs.Weights.{side_weight, weigh_sides}
+use Rattle.regions.specs.Weights.{weigh_sides}
 
 -- ---- lists without an element
 

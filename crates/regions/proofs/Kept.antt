@@ -1,6 +1,6 @@
 -- A test on sides that next and the links keep is the same on joined sides.
 use mathlib.Core.List.{List, [], ◌∷◌}
-use Rattle.std.proofs.Common.{◌≡◌, refl, sym, ◌∙◌, ap, subst, ℕ, zero, suc, ◌+◌, ◌≤◌, ◌<◌, ◌^◌, Bool, true, false, not, ◌&&◌, cond, true≢false, int_eq, map, count_by, Contains, IsTrue, ℤ, pos, ◌+ℤ◌, ◌-ℤ◌, ◌*ℤ◌, ◌≤ℤ◌, ◌<ℤ◌, ◌⊎◌, inl, inr, arith}
+use Rattle.std.proofs.Common.{◌≡◌, refl, sym, ◌∙◌, ap, subst, ℕ, zero, suc, ◌≤◌, ◌<◌, ◌^◌, Bool, true, false, not, ◌&&◌, cond, true≢false, int_eq, count_by, Contains, ℤ, pos, ◌+ℤ◌, ◌-ℤ◌, ◌<ℤ◌, inl, inr, arith}
 use Rattle.std.proofs.lemmas.List.Elements.{All-contains}
 use Rattle.std.proofs.lemmas.List.Sums.{sum_by-cons}
 use Rattle.std.proofs.lemmas.Bool.{and_parts, and_from}
@@ -22,7 +22,7 @@ use Rattle.crossings.specs.Crossing.{edges_of, crossing_sum, IsSwept}
 use Rattle.crossings.proofs.Sums.{crossing_sum-joined}
 use Rattle.crossings.proofs.Changes.{crossing_sum-across}
 use Rattle.crossings.proofs.Lists.{contains_here, contains_there}
-use Rattle.sectors.specs.Sector.{HalfEdge, origin, target, left, twin, half_edges, is_before_by_angle, Leaves, IsNext, AreDistinct, IsPlanar}
+use Rattle.sectors.specs.Sector.{HalfEdge, origin, target, left, twin, half_edges, is_before_by_angle, Leaves, AreDistinct, IsPlanar}
 use Rattle.sectors.proofs.Sectors.{next_joined}
 use Rattle.sectors.proofs.Order.{before-trans}
 use Rattle.sectors.proofs.Exists.{some_next, before-irrefl}

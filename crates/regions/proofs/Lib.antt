@@ -4,3 +4,5 @@ pub mod Links
 pub mod Balance
 pub mod Nearest
 pub mod Kept
+pub mod Numbered
+pub mod Exists

@@ -1,6 +1,6 @@
 -- Each point has a nearest edge below it, or none below it.
 use mathlib.Core.List.{List, [], ◌∷◌}
-use Rattle.std.proofs.Common.{◌≡◌, refl, sym, ◌∙◌, ap, subst, ℕ, zero, suc, ◌+◌, ◌*◌, ◌≤◌, ◌^◌, Bool, true, false, true≢false, Contains, IsTrue, ℤ, pos, neg_ℤ, ◌+ℤ◌, ◌-ℤ◌, ◌*ℤ◌, ◌≤ℤ◌, ◌<ℤ◌, ◌⊎◌, inl, inr, ⊎_elim, arith}
+use Rattle.std.proofs.Common.{◌≡◌, refl, sym, ◌∙◌, ap, subst, zero, suc, ◌+◌, ◌*◌, ◌^◌, Bool, true, false, true≢false, Contains, ℤ, pos, ◌+ℤ◌, ◌-ℤ◌, ◌*ℤ◌, ◌<ℤ◌, ◌⊎◌, inl, inr, ⊎_elim, arith}
 use Rattle.std.proofs.lemmas.List.Elements.{All-contains}
 use Rattle.cov_types.specs.declared.seg.Seg.{Seg}
 use Rattle.cov_types.specs.Range.{IsSegInRange}
@@ -8,7 +8,7 @@ use Rattle.exact.proofs.Bound.{IsWithin, within_product, within_difference}
 use Rattle.exact.proofs.Cast.{positive_natural}
 use Rattle.exact.proofs.Compare.{le_of_lt, trichotomy}
 use Rattle.exact.proofs.Order.{cancel_lt, mul_lt}
-use Rattle.exact.proofs.Ring.{lin, by_ring, by_one, Var, ◌⊕◌, ◌⊖◌, ◌⊗◌, mul_one, mul_comm, pos_times}
+use Rattle.exact.proofs.Ring.{lin, by_ring, Var, ◌⊕◌, ◌⊖◌, ◌⊗◌, mul_one, mul_comm, pos_times}
 use Rattle.exact.proofs.Sign.{positive_times_positive, positive_factor}
 use Rattle.plane.specs.Point.{Point, at_coord}
 use Rattle.plane.specs.Segment.{side}

@@ -1,11 +1,11 @@
 -- The laws that a walk round regions stands on.
-use Rattle.std.specs.Prelude.{◌≡◌, ◌⊎◌, ℕ, Bool, List, Contains}
+use Rattle.std.specs.Prelude.{◌≡◌, ◌⊎◌, ℕ, ◌≤◌, Bool, List, Contains}
 use Rattle.cov_types.specs.declared.coord.Coord.{Coord}
 use Rattle.cov_types.specs.declared.seg.Seg.{Seg}
 use Rattle.plane.specs.Point.{Point, at_coord}
 use Rattle.plane.specs.Segment.{upper}
 use Rattle.plane.specs.Joined.{IsOff, Joined}
-use Rattle.plane.specs.Region.{IsSide, IsOuter}
+use Rattle.plane.specs.Region.{IsSide, IsJoinedSide, IsOuter, AreRegions}
 use Rattle.sectors.specs.Sector.{HalfEdge, left, IsNext, AreDistinct, IsPlanar}
 use Rattle.regions.specs.Below.{IsNearestBelow, HasNoneBelow}
 use Rattle.crossings.specs.Crossing.{IsBalanced}
@@ -55,3 +55,23 @@ BalancedSidesLaw = (edges : List Seg) → IsPlanar edges → AreDistinct edges �
 abbrev pub KeptLaw : Type 0
 KeptLaw = (edges : List Seg) → IsPlanar edges → AreDistinct edges → (passes : HalfEdge → Bool) → IsKept edges passes
     → (h g : HalfEdge) → Contains edges h.edge → Contains edges g.edge → Joined edges (left h) (left g) → passes h ≡ passes g
+
+-- so sides with joined side points have one number, for any numbers that links keep
+abbrev pub JoinedNumberLaw : Type 0
+JoinedNumberLaw = (edges : List Seg) → IsPlanar edges → AreDistinct edges → (number : ℕ → ℕ) → ((n m : ℕ) → IsLinked edges n m → number n ≡ number m)
+    → (n m : ℕ) (p q : Point) → IsSide edges n p → IsSide edges m q → Joined edges p q → number n ≡ number m
+
+-- ---- the numbers of the regions
+
+-- there are numbers that give each side its region, the least side that it is joined with
+abbrev pub RegionsExistLaw : Type 0
+RegionsExistLaw = (edges : List Seg) → IsPlanar edges → AreDistinct edges → (number : ℕ → ℕ) × AreRegions edges number
+
+-- and any two such numbers are one at each side
+abbrev pub OneNumberingLaw : Type 0
+OneNumberingLaw = (edges : List Seg) (number other : ℕ → ℕ) → AreRegions edges number → AreRegions edges other → (n : ℕ) (p : Point) → IsSide edges n p → number n ≡ other n
+
+-- numbers that links keep are such numbers, where each is the number of a side that is no later and is joined with its own
+abbrev pub WalkLaw : Type 0
+WalkLaw = (edges : List Seg) → IsPlanar edges → AreDistinct edges → (number : ℕ → ℕ) → ((n m : ℕ) → IsLinked edges n m → number n ≡ number m)
+    → ((n : ℕ) (p : Point) → IsSide edges n p → (number n ≤ n) × IsJoinedSide edges p (number n)) → AreRegions edges number

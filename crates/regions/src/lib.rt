@@ -1,13 +1,35 @@
-//! Regions of the plane between edges: what is joined with what, by the edge below a point and by half-edges that follow one another.
+//! Regions of the plane between edges: what is joined with what, by the edge below a point and by links between sides.
 //!
-//! Its promise: a point off the edges is joined with the upper side point of the nearest edge below it, and is outer where there is
-//! none, for any list of edges in range that meet in ends alone. It has laws and no code: each is what a call that does nothing ensures.
+//! Its promise, for any list of edges in range that meet in ends alone: a point off the edges is joined with the upper side point of the
+//! nearest edge below it, and is outer where there is none; and, where no edge stands twice, two sides have joined side points exactly
+//! where links tie them. It has laws and no code: each is what a call that does nothing ensures.
+//!
+//! A side is linked to the side that follows it round the region, and, where the sector at its vertex has the way straight down the ray
+//! in it, to the upper side of the nearest edge below the vertex, or past the range.
+//!
+//! A crate above takes a lemma by `use Rattle.regions.proofs.FILE.{NAME}` in its `proofs/`. The files, lowest first:
+//!
+//! - `Down`: a point a little past another one by the sweep (`past`), and points down the ray (`down`).
+//! - `Edge`: down the ray from just past the point to just above the edge, and through the flat triangle to its upper side point
+//!   (`below_joined`); with no edge below, to below the range and round it (`none_below_outer`). What the test says (`under-is`).
+//! - `Links`: the point near a vertex, straight down the ray, has the edges below it that the vertex has (`link_down`, `link_out`).
+//! - `Nearest`: edges below a point are ordered, so there is a nearest one or none (`nearest_or_none`).
+//! - `Balance`: for a test on sides that next keeps, what lower sides weigh more than upper ones is balanced, by renumbering along next
+//!   (`balanced_sides`).
+//! - `Kept`: so the crossing sum less a side's own weight is one number on all sides, down to a link past the range, and a test that links
+//!   keep is the same on joined sides (`kept_joined`).
+//! - `Numbered`: the same for numbers (`joined_number`), and when they are the numbers of the regions (`walk_regions`, `one_numbering`).
+//! - `Exists`: merging the two sides of each link gives such numbers (`regions_exist`).
 #![tactic(auto)]
 
 mod below;
+mod examples;
 mod link;
+mod number;
 mod side;
 
 pub use below::below_law;
+pub use examples::below_examples;
 pub use link::link_law;
+pub use number::number_law;
 pub use side::side_law;

@@ -1,7 +1,8 @@
-ghost use Rattle.regions.specs.Laws.{BalancedSidesLaw, KeptLaw};
+ghost use Rattle.regions.specs.Laws.{BalancedSidesLaw, KeptLaw, JoinedNumberLaw};
 
 /// A test on sides that next and the links keep is the same on joined sides. A call does nothing.
 pub fn side_law()
     ensures balanced { BalancedSidesLaw }
     ensures kept { KeptLaw }
+    ensures number { JoinedNumberLaw }
 {}

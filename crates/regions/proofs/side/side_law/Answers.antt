@@ -1,5 +1,6 @@
 use Rattle.regions.proofs.Balance.{balanced_sides}
 use Rattle.regions.proofs.Kept.{kept_joined}
+use Rattle.regions.proofs.Numbered.{joined_number}
 use Rattle.regions.proofs.side.side_law.Goals as goal
 
 pub returns-clause-balanced : goal.returns-clause-balanced
@@ -7,3 +8,6 @@ returns-clause-balanced c = balanced_sides
 
 pub returns-clause-kept : goal.returns-clause-kept
 returns-clause-kept c = kept_joined
+
+pub returns-clause-number : goal.returns-clause-number
+returns-clause-number c = joined_number

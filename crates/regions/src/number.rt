@@ -1,0 +1,8 @@
+ghost use Rattle.regions.specs.Laws.{RegionsExistLaw, OneNumberingLaw, WalkLaw};
+
+/// The regions of distinct planar edges have numbers by least sides, and only ones. A call does nothing.
+pub fn number_law()
+    ensures some { RegionsExistLaw }
+    ensures one { OneNumberingLaw }
+    ensures walk { WalkLaw }
+{}

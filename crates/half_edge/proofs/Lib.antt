@@ -6,3 +6,4 @@ pub mod Reading
 pub mod Following
 pub mod Meeting
 pub mod Places
+pub mod Groups

@@ -1,3 +1,4 @@
+pub mod Keys
 pub mod Directed
 pub mod Departures
 pub mod Nearest

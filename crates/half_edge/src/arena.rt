@@ -6,8 +6,10 @@ ghost use Rattle.plane.specs.Region.{IsSide};
 ghost use Rattle.sectors.specs.Sector.{HalfEdge, origin, target, twin, IsHalfEdge, IsNextNumber, IsPlanar, AreDistinct};
 ghost use Rattle.half_edge.specs.Arena.{IsArena, IsNextTable};
 ghost use Rattle.half_edge.specs.Departures.{AreDepartures};
+ghost use Rattle.half_edge.specs.declared.departure.Departure.{Departure};
+ghost use Rattle.std.specs.List.Sorted.{IsNonDecreasingBy};
 
-use crate::departure::{Departure, departures};
+use crate::departure::{Departure, departures_by_vertex, vertex_key, with_key};
 use crate::directed::{HalfEdgeId, directed};
 use crate::nearest::nearest_clockwise;
 use cov_types::{Coord, NoMemory, Seg};
@@ -31,14 +33,14 @@ impl Model for Arena {
 }
 
 impl Arena {
-    /// The arena of the edges, in linear memory. For each half-edge it looks at all half-edges for the ones that leave where it
-    /// ends, so its time grows with the square of their number.
+    /// The arena of the edges, in linear memory. It sorts the half-edges by vertex, and looks for the next of each among those that
+    /// leave one vertex: its time grows as n log n, and with the square of how many edges meet in one vertex.
     pub fn build(alloc: Global, edges: Vec<Seg>) -> Result<Arena, NoMemory>
         requires planar { IsPlanar edges.items }
         requires distinct { AreDistinct edges.items }
         ensures { IfOk result (λ a. a ≡ edges.items) }
     {
-        let departures = departures(alloc, &edges)?;
+        let departures = departures_by_vertex(alloc, &edges)?;
         let next = next_table(alloc, &edges, &departures)?;
         Ok(Arena { edges, next })
     }
@@ -118,12 +120,15 @@ fn next_table(
 ) -> Result<Vec<HalfEdgeId>, NoMemory>
     requires planar { IsPlanar edges.now }
     requires departures { AreDepartures edges.now departures.now }
+    requires sorted { IsNonDecreasingBy (λ (d : Departure). d.key) departures.now }
     ensures { IfOk result (λ v. IsNextTable edges.now v.items) }
 {
     let mut table = Vec::new(alloc);
     for number in 0..2 * edges.len() {
         let last = twin_id(HalfEdgeId { number });
-        table.push(nearest_clockwise(edges, departures, last))?;
+        let vertex = directed(edges, last).origin();
+        let group = with_key(departures, vertex_key(vertex));
+        table.push(nearest_clockwise(edges, group, last))?;
     }
     Ok(table)
 }

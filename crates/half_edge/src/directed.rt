@@ -6,7 +6,7 @@ use cov_types::{Coord, Seg};
 use grid_pred::turn;
 
 /// The number of a half-edge: 2k runs along edge k from lo to hi, 2k + 1 back.
-#[derive(Clone, Copy, Debug, PartialEq, Eq, PartialOrd, Ord)]
+#[derive(Clone, Copy)]
 pub struct HalfEdgeId {
     pub number: usize,
 }

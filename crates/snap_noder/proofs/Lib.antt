@@ -1,0 +1,6 @@
+mod OddOrder
+mod Times
+mod Cancel
+mod Zip
+mod Places
+mod ParityLemmas

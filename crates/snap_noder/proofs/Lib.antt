@@ -4,3 +4,4 @@ mod Cancel
 mod Zip
 mod Places
 mod ParityLemmas
+mod Snapping

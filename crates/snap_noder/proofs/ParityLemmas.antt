@@ -7,25 +7,31 @@ use Rattle.std.specs.List.{AllZip, list_any}
 use Rattle.std.specs.Option.{option_map}
 use Rattle.std.specs.Cmp.{both_ways}
 use Rattle.std.proofs.lemmas.Bool.{false_from_ne_true}
-use Rattle.std.proofs.lemmas.List.Elements.{All-contains, Contains-get_or}
+use Rattle.std.proofs.lemmas.List.Elements.{All-contains, Contains-get_or, filter_map-append}
+use Rattle.std.proofs.lemmas.List.{take_more, take_all}
+use Rattle.std.proofs.lemmas.List.Folds.{list_any-from_Any}
+use Rattle.std.proofs.lemmas.Bool.Decides.{Decides-eqb}
+use Rattle.std.proofs.lemmas.Option.{slice_get-get_or}
 use Rattle.std.proofs.lemmas.List.Kept.{AllPairs-cons}
 use Rattle.std.proofs.lemmas.List.Sorted.{sum_by-IsPermutation, IsPermutation-sym, Contains-permutation}
 use Rattle.std.proofs.lemmas.List.Sums.{sum_by-cons}
+use Rattle.cov_types.specs.Range.{IsSegInRange}
 use Rattle.cov_types.specs.Uses.{ends_inside, ends_in, HasEvenEnds}
 use Rattle.cov_types.specs.declared.coord.Coord.{Coord}
 use Rattle.cov_types.specs.declared.edge_use.EdgeUse.{EdgeUse}
 use Rattle.cov_types.specs.declared.seg.Seg.{Seg}
 use Rattle.cov_types.proofs.Equal.{same_uses, Decides-same_uses}
+use Rattle.plane.specs.Noded.{IsNodedFully}
 use Rattle.rounding.proofs.Odd.{odd_sum}
 use Rattle.hot_pixel.specs.HotSet.{segs_of}
 use Rattle.hot_pixel.proofs.Ascending.{all_pairs_head, all_pairs_tail}
 use Rattle.snap_noder.specs.declared.odd_use.OddUse.{OddUse}
-use Rattle.snap_noder.specs.Order.{is_odd_before, AreAscending, AreOddAscending, HavePlaces}
+use Rattle.snap_noder.specs.Order.{is_odd_before, AreAscending, AreOddAscending, HavePlaces, AreAllUsed}
 use Rattle.snap_noder.specs.Edges.{is_same_use, times, odd_uses, AreEdgesOf, odd_times, IsPlaced, ArePlacesOf}
 use Rattle.snap_noder.proofs.OddOrder.{is_same_odd, Decides-same_odds, same_odds, is_odd_before-irrefl}
 use Rattle.snap_noder.proofs.Times.{contains_front, contains_behind, contains_cases, odd_has, times_has}
 use Rattle.snap_noder.proofs.Zip.{zip_more, zip_all}
-use Rattle.snap_noder.proofs.Places.{one_place, at_contained, contained_at, slice_get_within}
+use Rattle.snap_noder.proofs.Places.{one_place, at_contained, contained_at, get_or_at, slice_get_within}
 
 -- ---- what a list maps to
 
@@ -253,3 +259,66 @@ module _ (edges shown : List Seg) (uses : List EdgeUse) (pairs read odd : List O
 
   pub found_edges : ((e : Seg) → Contains edges e ↔ Contains (segs_of uses) e) → AreEdgesOf uses edges odd
   found_edges = edges_are edges up uses pairs odd at_edges at_pairs
+
+-- ---- what holds of the segments holds of the edges
+
+pub edges_within : (uses : List EdgeUse) (edges : List Seg) → ((e : Seg) → Contains edges e ↔ Contains (segs_of uses) e) → All (λ u. IsSegInRange u.seg) uses → All IsSegInRange edges
+edges_within uses edges listed in_range k d within =
+    let u = contains_mapped (λ (v : EdgeUse). v.seg) uses (get_or edges k d) ((listed (get_or edges k d)).0 (Contains-get_or edges k d within)) in
+    subst IsSegInRange u.1.1 (All-contains (λ (v : EdgeUse). IsSegInRange v.seg) uses u.0 in_range u.1.0)
+
+pub edges_noded : (uses : List EdgeUse) (edges : List Seg) → ((e : Seg) → Contains edges e ↔ Contains (segs_of uses) e) → IsNodedFully (segs_of uses) → IsNodedFully edges
+edges_noded uses edges listed noded e f has_e has_f = noded e f ((listed e).0 has_e) ((listed f).0 has_f)
+
+-- ---- live edges: those of the odd uses
+
+-- the pair at i, read through a slice, and its edge
+pub odd_uses_more : (edges : List Seg) (odd shown : List OddUse) (before after : List EdgeUse) (i : ℕ) (d : OddUse) (e : Seg) → HavePlaces edges odd → shown ≡ odd → i < length shown
+    → e ≡ get_or edges (get_or shown i d).edge e
+    → before ≡ odd_uses edges (take i odd) → after ≡ before ++ record { member = (get_or shown i d).member; seg = e } ∷ [] → after ≡ odd_uses edges (take (i + 1) odd)
+odd_uses_more edges odd shown before after i d e places same within is so_far pushed =
+    let o = get_or shown i d in
+    let read : o ≡ get_or odd i d = ap (λ (ps : List OddUse). get_or ps i d) same in
+    let place : o.edge < length edges = subst (λ (p : OddUse). p.edge < length edges) (sym read) (places i d (omega (arith, ap length same))) in
+    let at : slice_get edges o.edge ≡ Some e = slice_get-get_or edges o.edge e place ∙ ap Some (sym is) in
+    pushed
+    ∙ (λ j. so_far j ++ record { member = o.member; seg = e } ∷ [])
+    ∙ ap (λ (found : Option EdgeUse). odd_uses edges (take i odd) ++ cons_option found []) (sym ((placed_is edges o (record { member = o.member; seg = e })).1 (refl, at)))
+    ∙ sym (filter_map-append (use_of edges) (take i odd) (o ∷ []))
+    ∙ ap (odd_uses edges) (ap (λ (p : OddUse). take i odd ++ p ∷ []) read ∙ sym (take_more odd i d (omega (arith, ap length same))))
+
+pub odd_uses_all : (edges : List Seg) (odd shown : List OddUse) (out : List EdgeUse) (i : ℕ) → shown ≡ odd → length shown ≤ i → out ≡ odd_uses edges (take i odd) → out ≡ odd_uses edges odd
+odd_uses_all edges odd shown out i same past so_far = so_far ∙ ap (odd_uses edges) (take_all i odd (omega (arith, ap length same)))
+
+-- the edges n of a list of odd pairs, and those l of its odd uses
+module _ (edges : List Seg) (odd : List OddUse) (up : AreAscending edges) (odd_up : AreOddAscending odd) (live_edges : List Seg) (live_odd : List OddUse) (live_up : AreAscending live_edges) (live_odd_up : AreOddAscending live_odd)
+    (uses read : List EdgeUse) (same : read ≡ uses) (made : uses ≡ odd_uses edges odd) (are : AreEdgesOf read live_edges live_odd) where
+  are_live : AreEdgesOf (odd_uses edges odd) live_edges live_odd
+  are_live = subst (λ (us : List EdgeUse). AreEdgesOf us live_edges live_odd) (same ∙ made) are
+
+  -- the odd uses stay
+  pub live_odd_are : (u : EdgeUse) → Contains (odd_uses live_edges live_odd) u ↔ Contains (odd_uses edges odd) u
+  live_odd_are u =
+      let listed = odd_in_distinct u (odd_uses edges odd) (odd_uses_differ edges up odd odd_up) in
+      (λ h. listed.0 ((are_live.parity u).0 h), λ h. (are_live.parity u).1 (listed.1 h))
+
+  pub live_edges_are : (e : Seg) → Contains live_edges e ↔ Any (λ u. u.seg ≡ e) (odd_uses edges odd)
+  live_edges_are e = (there, back)
+    where
+      there : Contains live_edges e → Any (λ u. u.seg ≡ e) (odd_uses edges odd)
+      there h = let u = contains_mapped (λ (v : EdgeUse). v.seg) (odd_uses edges odd) e ((are_live.listed e).0 h) in (u.1.0.0, u.0, u.1.0.1, u.1.0.2, u.1.1)
+
+      back : Any (λ u. u.seg ≡ e) (odd_uses edges odd) → Contains live_edges e
+      back (k, u, within, is, seg) = (are_live.listed e).1 (subst (λ (f : Seg). Contains (segs_of (odd_uses edges odd)) f) seg (mapped_contains (λ (v : EdgeUse). v.seg) (odd_uses edges odd) u (k, within, is)))
+
+  pub live_even : HasEvenEnds (odd_uses edges odd) → HasEvenEnds (odd_uses live_edges live_odd)
+  live_even even = even_odd live_edges live_up (odd_uses edges odd) live_odd live_odd_up are_live even
+
+  -- each live edge is that of some pair
+  pub live_used : AreAllUsed live_edges live_odd
+  live_used k within =
+      let e = get_or_at live_edges k within in
+      let u = (live_edges_are e.0).0 (contained_at live_edges k e.0 e.1) in
+      let pair = odd_uses_from live_edges live_odd u.1 ((live_odd_are u.1).1 (u.0, u.2, u.3)) in
+      let same_place : pair.0.edge ≡ k = one_place live_edges live_up pair.0.edge k e.0 (pair.1.1.1 ∙ ap Some u.4) e.1 in
+      list_any-from_Any (λ o. o.edge == k) live_odd (pair.1.0.0, pair.0, pair.1.0.1, pair.1.0.2, (Decides-eqb pair.0.edge k).1 same_place)

@@ -25,6 +25,12 @@ contained_at xs k x at = (k, slice_get_within xs k x at, get_or_from_slice_get x
 pub at_contained : {X : Type 0} (xs : List X) (x : X) → Contains xs x → (k : ℕ) × (slice_get xs k ≡ Some x)
 at_contained xs x (k, within, is) = (k, slice_get-get_or xs k x within ∙ ap Some is)
 
+-- below the length there is an element
+pub get_or_at : {X : Type 0} (xs : List X) (k : ℕ) → k < length xs → (x : X) × (slice_get xs k ≡ Some x)
+get_or_at [] k within = absurd (omega arith)
+get_or_at (x ∷ xs) zero within = (x, refl)
+get_or_at (x ∷ xs) (suc k) within = get_or_at xs k (omega arith)
+
 -- in ascending edges an edge has one place
 not_before_itself : (s t : Seg) → s ≡ t → ¬ IsTrue (is_seg_before s t)
 not_before_itself s t same h = true≢false (sym h ∙ ap (λ (u : Seg). is_seg_before u t) same ∙ is_seg_before-irrefl t)

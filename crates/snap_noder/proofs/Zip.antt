@@ -23,4 +23,4 @@ pub zipped_push : {A B : Type 0} (R : A → B → Type 0) (xs : List A) (ys : Li
 zipped_push R [] [] x y each = refl
 zipped_push R [] (b ∷ ys) x y each = absurd each
 zipped_push R (a ∷ xs) [] x y each = absurd each
-zipped_push R (a ∷ xs) (b ∷ ys) x y each = ap (λ zs. (a, b) ∷ zs) (zipped_push R xs ys x y each)
+zipped_push R (a ∷ xs) (b ∷ ys) x y each = ap (λ zs. (a, b) ∷ zs) (zipped_push R xs ys x y each.1)

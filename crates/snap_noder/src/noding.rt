@@ -59,8 +59,8 @@ fn snapped_uses(alloc: Global, hot: &HotSet, list: &[EdgeUse]) -> Result<Vec<Edg
 fn add_chain(uses: &mut Vec<EdgeUse>, u: EdgeUse, chain: &[Coord]) -> Result<(), NoMemory>
     ensures { OnOk result (uses.new.items ≡ uses.old.items ++ chain_uses (u, chain.now)) }
 {
-    for (a, b) in chain.iter().zip(chain.iter().skip(1)) {
-        if let Some(seg) = Seg::between(*a, *b) {
+    for i in 1..chain.len() {
+        if let Some(seg) = Seg::between(chain[i - 1], chain[i]) {
             uses.push(EdgeUse {
                 member: u.member,
                 seg,

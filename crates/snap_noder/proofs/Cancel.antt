@@ -106,8 +106,7 @@ module _ (sorted odd : List OddUse) (i : ℕ) (x : OddUse) (within : i < length 
               subst (λ (u : OddUse). odd_times u (take i sorted ++ x ∷ []) ≡ odd_times u (take i sorted) + 1) same (times_push_same is_same_odd Decides-same_odds x (take i sorted)) in
               (λ kept. absurd (once (subst (λ (u : OddUse). Contains front u) (sym same) kept)), λ odd_now. absurd (omega arith)))
           | inr other ↦ (
-              let more = times_push_other is_same_odd Decides-same_odds o x (take i sorted) other in
-              (
+              let more = times_push_other is_same_odd Decides-same_odds o x (take i sorted) other in (
                 λ kept. ap (λ n. n % 2) more ∙ (whole o).0 (Contains-append_left front (x ∷ []) o kept),
                 λ odd_now. elim (Contains-push_cases front x o ((whole o).1 (ap (λ n. n % 2) (sym more) ∙ odd_now))) [ inl kept ↦ kept | inr same ↦ absurd (other same) ],
               ))
@@ -160,8 +159,7 @@ module _ (sorted odd : List OddUse) (i : ℕ) (x : OddUse) (within : i < length 
           | inl same ↦ subst (λ (u : OddUse). Contains (odd ++ x ∷ []) u ↔ (odd_times u (take i sorted ++ x ∷ []) % 2 ≡ 1)) same
               (let more = times_push_same is_same_odd Decides-same_odds x (take i sorted) in let none = even in (λ _. omega arith, λ _. Contains-push odd x))
           | inr other ↦ (
-              let more = times_push_other is_same_odd Decides-same_odds o x (take i sorted) other in
-              (
+              let more = times_push_other is_same_odd Decides-same_odds o x (take i sorted) other in (
                 λ kept. ap (λ n. n % 2) more ∙ (h.exact o).0 (elim (Contains-push_cases odd x o kept) [ inl there ↦ there | inr same ↦ absurd (other same) ]),
                 λ odd_now. Contains-append_left odd (x ∷ []) o ((h.exact o).1 (ap (λ n. n % 2) (sym more) ∙ odd_now)),
               ))

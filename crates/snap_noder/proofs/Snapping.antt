@@ -53,9 +53,9 @@ snapped_more segs list before after i u chain read within is (chains, (each, so_
   (
     zip_more (λ v c. IsChain segs v.seg c) list chains i u chain within is each along,
     pushed
-    ∙ (λ j. so_far j ++ chain_uses (u, same j))
-    ∙ sym (snapped_push segs (take i list) chains u chain each)
-    ∙ ap (λ us. snapped us (chains ++ chain ∷ [])) (ap (λ v. take i list ++ v ∷ []) is ∙ sym (take_more list i u within)),
+        ∙ (λ j. so_far j ++ chain_uses (u, same j))
+        ∙ sym (snapped_push segs (take i list) chains u chain each)
+        ∙ ap (λ us. snapped us (chains ++ chain ∷ [])) (ap (λ v. take i list ++ v ∷ []) is ∙ sym (take_more list i u within)),
   ),
 )
 
@@ -144,7 +144,7 @@ snapped_along segs (u ∷ uses) (c ∷ chains) each v h =
     elim (Contains-append_cases (chain_uses (u, c)) (snapped uses chains) v h) [
       | inl here ↦ of_chain segs (u ∷ uses) u v c (contains_front u uses) each.0 here
       | inr later ↦ (let rest = snapped_along segs uses chains each.1 v later in
-        record { of = rest.of; chain = rest.chain; used = contains_behind u rest.of uses rest.used; is_chain = rest.is_chain; edge = rest.edge })
+          record { of = rest.of; chain = rest.chain; used = contains_behind u rest.of uses rest.used; is_chain = rest.is_chain; edge = rest.edge })
     ]
 
 module _ (list : List EdgeUse) (in_range : All (λ u. IsSegInRange u.seg) list) (chains : List (List Coord)) (are : AreChains list chains) where

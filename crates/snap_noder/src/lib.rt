@@ -16,3 +16,6 @@ pub use liveness::live;
 pub use noded::Noded;
 pub use noding::{node, plain};
 pub use odd_use::OddUse;
+
+#[cfg(test)]
+mod tests;

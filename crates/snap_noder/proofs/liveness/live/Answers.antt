@@ -7,8 +7,8 @@ invariant_of-result c = record {
   odd_ascending = c.in_ok-edges.field-0.odd_ascending;
   places = c.in_ok-edges.field-0.places;
   used =
-    live_used c.args.n.now.edges.items c.args.n.now.odd.items c.args.n.now.ascending c.args.n.now.odd_ascending c.in_ok-edges.field-0.edges.items c.in_ok-edges.field-0.odd.items
-    c.in_ok-edges.field-0.ascending c.in_ok-edges.field-0.odd_ascending c.in_ok-uses.uses.items c.as_slice.result.now c.as_slice.ensures.value c.in_ok-uses.ensures c.in_ok-edges.ensures;
+      live_used c.args.n.now.edges.items c.args.n.now.odd.items c.args.n.now.ascending c.args.n.now.odd_ascending c.in_ok-edges.field-0.edges.items c.in_ok-edges.field-0.odd.items
+      c.in_ok-edges.field-0.ascending c.in_ok-edges.field-0.odd_ascending c.in_ok-uses.uses.items c.as_slice.result.now c.as_slice.ensures.value c.in_ok-uses.ensures c.in_ok-edges.ensures;
 }
 
 pub returns-clause-edges : goal.returns-clause-edges

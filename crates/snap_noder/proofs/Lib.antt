@@ -1,0 +1,7 @@
+mod OddOrder
+mod Times
+mod Cancel
+mod Zip
+mod Places
+mod ParityLemmas
+mod Snapping

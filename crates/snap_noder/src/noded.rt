@@ -1,0 +1,14 @@
+ghost use Rattle.snap_noder.specs.Order.{AreAscending, AreOddAscending, HavePlaces};
+
+use crate::odd_use::OddUse;
+use cov_types::Seg;
+
+/// Edges, and for each member those that it has an odd number of times.
+#[derive(Drop)]
+pub struct Noded {
+    pub edges: Vec<Seg>,
+    pub odd: Vec<OddUse>,
+    pub ghost ascending: { AreAscending edges.items },
+    pub ghost odd_ascending: { AreOddAscending odd.items },
+    pub ghost places: { HavePlaces edges.items odd.items },
+}

@@ -33,25 +33,25 @@ member_lists-push uses members lists u before after here list_at pushed are =
     let long_before : length lists ≡ members = are.count in
     let each : (i : ℕ) → i < members → option_map (λ (l : Vec Seg Global). l.items) (slice_get (set lists u.member after) i) ≡ Some (member_segments (uses ++ u ∷ []) i) =
     λ i h. elim (eqb_tells u.member i) [
-      inl same ↦
-        let inside : u.member < members = omega arith in
-        let i_here : i < length (set lists u.member after) = omega arith in
-        let value : get_or (set lists u.member after) u.member after ≡ after = get_or-set_same lists u.member after after here in
-        let value_i : get_or (set lists u.member after) i after ≡ after = ap (λ (j : ℕ). get_or (set lists u.member after) j after) (sym same.1) ∙ value in
-        let old : option_map (λ (l : Vec Seg Global). l.items) (slice_get lists u.member) ≡ Some (member_segments uses u.member) = are.each u.member inside in
-        let old_value : option_map (λ (l : Vec Seg Global). l.items) (slice_get lists u.member) ≡ Some before.items = ap (λ (o : Option (Vec Seg Global)). option_map (λ (l : Vec Seg Global). l.items) o) (slice_get-get_or lists u.member before here) ∙ ap (λ (l : Vec Seg Global). Some l.items) list_at in
-        let items : member_segments uses i ≡ before.items = ap (λ (j : ℕ). member_segments uses j) (sym same.1) ∙ cc in
-        let last : member_segments (u ∷ []) i ≡ u.seg ∷ [] = one_use u i true same.0 in
-        ap (λ (o : Option (Vec Seg Global)). option_map (λ (l : Vec Seg Global). l.items) o) (slice_get-get_or (set lists u.member after) i after i_here)
-        ∙ ap (λ (l : Vec Seg Global). Some l.items) value_i
-        ∙ ap (λ (xs : List Seg). Some xs) (pushed ∙ (λ j. sym items j ++ sym last j) ∙ sym (member_segments-push uses u i))
-    | inr other ↦
-        let i_here : i < length (set lists u.member after) = omega arith in
-        let i_before : i < length lists = omega arith in
-        let value : get_or (set lists u.member after) i after ≡ get_or lists i after = get_or-set_other lists u.member i after after (λ e. other.1 (sym e)) in
-        ap (λ (o : Option (Vec Seg Global)). option_map (λ (l : Vec Seg Global). l.items) o) (slice_get-get_or (set lists u.member after) i after i_here ∙ ap (λ (l : Vec Seg Global). Some l) value ∙ sym (slice_get-get_or lists i after i_before))
-        ∙ are.each i h
-        ∙ ap (λ (xs : List Seg). Some xs) (sym (kept uses u i other.0))
+      | inl same ↦
+          let inside : u.member < members = omega arith in
+          let i_here : i < length (set lists u.member after) = omega arith in
+          let value : get_or (set lists u.member after) u.member after ≡ after = get_or-set_same lists u.member after after here in
+          let value_i : get_or (set lists u.member after) i after ≡ after = ap (λ (j : ℕ). get_or (set lists u.member after) j after) (sym same.1) ∙ value in
+          let old : option_map (λ (l : Vec Seg Global). l.items) (slice_get lists u.member) ≡ Some (member_segments uses u.member) = are.each u.member inside in
+          let old_value : option_map (λ (l : Vec Seg Global). l.items) (slice_get lists u.member) ≡ Some before.items = ap (λ (o : Option (Vec Seg Global)). option_map (λ (l : Vec Seg Global). l.items) o) (slice_get-get_or lists u.member before here) ∙ ap (λ (l : Vec Seg Global). Some l.items) list_at in
+          let items : member_segments uses i ≡ before.items = ap (λ (j : ℕ). member_segments uses j) (sym same.1) ∙ cc in
+          let last : member_segments (u ∷ []) i ≡ u.seg ∷ [] = one_use u i true same.0 in
+          ap (λ (o : Option (Vec Seg Global)). option_map (λ (l : Vec Seg Global). l.items) o) (slice_get-get_or (set lists u.member after) i after i_here)
+          ∙ ap (λ (l : Vec Seg Global). Some l.items) value_i
+          ∙ ap (λ (xs : List Seg). Some xs) (pushed ∙ (λ j. sym items j ++ sym last j) ∙ sym (member_segments-push uses u i))
+      | inr other ↦
+          let i_here : i < length (set lists u.member after) = omega arith in
+          let i_before : i < length lists = omega arith in
+          let value : get_or (set lists u.member after) i after ≡ get_or lists i after = get_or-set_other lists u.member i after after (λ e. other.1 (sym e)) in
+          ap (λ (o : Option (Vec Seg Global)). option_map (λ (l : Vec Seg Global). l.items) o) (slice_get-get_or (set lists u.member after) i after i_here ∙ ap (λ (l : Vec Seg Global). Some l) value ∙ sym (slice_get-get_or lists i after i_before))
+          ∙ are.each i h
+          ∙ ap (λ (xs : List Seg). Some xs) (sym (kept uses u i other.0))
     ] in
     record { count = long; each = each }
   where
@@ -66,8 +66,8 @@ member_lists-past uses members lists u past are = record { count = are.count; ea
     each : (i : ℕ) → i < members → option_map (λ (l : Vec Seg Global). l.items) (slice_get lists i) ≡ Some (member_segments (uses ++ u ∷ []) i)
     each i h =
         elim (eqb_tells u.member i) [
-          inl same ↦ (let count : length lists ≡ members = are.count in absurd (omega (arith, same.1)))
-        | inr other ↦ are.each i h ∙ ap (λ (xs : List Seg). Some xs) (sym (member_segments-push uses u i ∙ ap (λ (xs : List Seg). member_segments uses i ++ xs) (one_use u i false other.0) ∙ append-nil (member_segments uses i)))
+          | inl same ↦ (let count : length lists ≡ members = are.count in absurd (omega (arith, same.1)))
+          | inr other ↦ are.each i h ∙ ap (λ (xs : List Seg). Some xs) (sym (member_segments-push uses u i ∙ ap (λ (xs : List Seg). member_segments uses i ++ xs) (one_use u i false other.0) ∙ append-nil (member_segments uses i)))
         ]
 
 -- the uses at the marks so far, and at one more

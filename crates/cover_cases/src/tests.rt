@@ -157,6 +157,45 @@ fn validate_lists_the_segments_at_fault(rt: HostRuntime) -> Result<(), test::Fai
 }
 
 #[test]
+fn node_lists_the_noded_edges_and_the_odd_ones_of_each_member(
+    rt: HostRuntime,
+) -> Result<(), test::Fail> {
+    for (case, input, output) in [
+        (
+            "of no members there are no edges",
+            "",
+            "MULTILINESTRING EMPTY\n",
+        ),
+        (
+            "a segment bends through the pixel of a crossing at its corner",
+            "POLYGON ((0 0, 1 1, 0 1, 1 0, 0 0))",
+            "MULTILINESTRING ((0 0, 1 0), (0 0, 1 1), (0 1, 1 1), (1 0, 1 1))\nMULTILINESTRING ((0 0, 1 0), (0 0, 1 1), (1 0, 1 1))\n",
+        ),
+        (
+            "a segment bends through the pixel of a vertex that it doesn't touch",
+            "POLYGON ((0 0, 10 1, 0 10, 0 0))\nPOLYGON ((5 0, 10 -10, 0 -10, 5 0))\n",
+            "MULTILINESTRING ((0 -10, 5 0), (0 -10, 10 -10), (0 0, 0 10), (0 0, 5 0), (0 10, 10 1), (5 0, 10 -10), (5 0, 10 1))\nMULTILINESTRING ((0 0, 0 10), (0 0, 5 0), (0 10, 10 1), (5 0, 10 1))\nMULTILINESTRING ((0 -10, 5 0), (0 -10, 10 -10), (5 0, 10 -10))\n",
+        ),
+        (
+            "a thin triangle snaps to a line, and has no odd edge",
+            "POLYGON ((0 0, 5 0, 10 1, 0 0))",
+            "MULTILINESTRING ((0 0, 5 0), (5 0, 10 1))\nMULTILINESTRING EMPTY\n",
+        ),
+        (
+            "a segment through the common side of two pixels meets both",
+            "POLYGON ((0 0, 2 1, 0 2, 0 0))\nPOLYGON ((1 0, 5 0, 1 1, 1 0))\n",
+            "MULTILINESTRING ((0 0, 0 2), (0 0, 1 0), (0 2, 1 1), (1 0, 1 1), (1 0, 5 0), (1 1, 2 1), (2 1, 5 0))\nMULTILINESTRING ((0 0, 0 2), (0 0, 1 0), (0 2, 1 1), (1 0, 1 1))\nMULTILINESTRING ((1 0, 1 1), (1 0, 5 0), (1 1, 2 1), (2 1, 5 0))\n",
+        ),
+    ] {
+        let mut files = shelf_of(rt.alloc(), input.as_bytes(), &[], ROOM, ROOM)?;
+        let came = answer(rt.alloc(), "node in out", &mut files)?;
+        assert_eq!(rt; came, Outcome::Done, "{case}");
+        expect_files(&rt, &files, input, output, case);
+    }
+    Ok(())
+}
+
+#[test]
 fn each_fault_of_a_text_is_answered_at_its_place(rt: HostRuntime) -> Result<(), test::Fail> {
     for (input, fault) in [
         ("POLYGON ((0 0, 1", TextFault::Syntax { at: 16 }),
@@ -202,6 +241,7 @@ fn words_name_the_operation_and_its_files(rt: HostRuntime) -> Result<(), test::F
         ("validate in", Outcome::Usage, TOUCH, BEFORE),
         ("clean in out", Outcome::Usage, TOUCH, BEFORE),
         ("Validate in out", Outcome::Usage, TOUCH, BEFORE),
+        ("node in", Outcome::Usage, TOUCH, BEFORE),
         ("validate -in out", Outcome::Usage, TOUCH, BEFORE),
         ("validate in -out", Outcome::Usage, TOUCH, BEFORE),
         ("validate in out more", Outcome::Usage, TOUCH, BEFORE),
@@ -296,7 +336,7 @@ fn each_outcome_has_its_status_and_its_message(rt: HostRuntime) -> Result<(), te
             1,
             "marked 18446744073709551615",
         ),
-        (Outcome::Usage, 2, "usage: cover validate"),
+        (Outcome::Usage, 2, "usage: cover validate|node"),
         (NO_TEXT, 4, "text: syntax at 0"),
         (Outcome::TooLong, 6, "input is longer than 67108864 bytes"),
         (Outcome::ReadFault, 7, "cannot read"),

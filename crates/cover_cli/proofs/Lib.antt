@@ -2,3 +2,4 @@ pub mod Marking
 pub mod Causes
 pub mod Listing
 pub mod Answering
+pub mod OddUses

@@ -8,3 +8,4 @@ pub mod Validate
 pub mod Made
 pub mod Answers
 pub mod Written
+pub mod Noding

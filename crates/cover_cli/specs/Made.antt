@@ -8,6 +8,7 @@ use Rattle.cover_cli.specs.declared.outcome.Outcome.{Outcome}
 use Rattle.cover_cli.specs.declared.outcome.Outcome.TheVariants.{Done, Marked}
 use Rattle.cover_cli.specs.declared.validate.Made.{Made}
 use Rattle.cover_cli.specs.Input.{HoldsCoverage}
+use Rattle.cover_cli.specs.Noding.{IsNoding}
 use Rattle.cover_cli.specs.Validate.{IsValidation}
 
 -- the outcome where so many segments are marked
@@ -32,3 +33,9 @@ pub record IsMadeBy (operation : Operation) (s : State) (made : Made) : Type 0 w
   pub members : List (List (List (List Coord)))
   pub input : HoldsCoverage (input_of operation) s members
   pub writes : Writes operation s made.outcome made.text.items
+
+-- it is the noding of the coverage that the file of this name holds
+pub record IsNodedFrom (from : List ℕ) (s : State) (made : Made) : Type 0 where
+  pub members : List (List (List (List Coord)))
+  pub input : HoldsCoverage from s members
+  pub noding : IsNoding members made.text.items

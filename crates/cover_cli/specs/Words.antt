@@ -5,13 +5,21 @@ use Rattle.std.specs.Str.{bytes_eq}
 -- an operation, with the names of the files that it works on
 pub data Operation : Type 0 where
   Validate : List ℕ → List ℕ → Operation
+  Node : List ℕ → List ℕ → Operation
 
 -- a name is a word that doesn't begin with `-`
 abbrev pub is_name : List ℕ → Bool
 is_name [] = true
 is_name (c ∷ cs) = not (c == 45)
 
+-- the operation that a word names, with the names of its input and output
+abbrev pub operation_on : List ℕ → List ℕ → List ℕ → Option Operation
+operation_on word from to =
+    if bytes_eq word (codes "validate") then Some (Validate from to)
+    else (if bytes_eq word (codes "node") then Some (Node from to)
+    else None)
+
 -- the operation that the words name, where they are accepted
 abbrev pub operation_of : List (List ℕ) → Option Operation
-operation_of (word ∷ from ∷ to ∷ []) = if bytes_eq word (codes "validate") && is_name from && is_name to then Some (Validate from to) else None
+operation_of (word ∷ from ∷ to ∷ []) = if is_name from && is_name to then operation_on word from to else None
 operation_of _ = None

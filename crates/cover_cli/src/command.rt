@@ -3,6 +3,7 @@ ghost use Rattle.std.specs.String.{string_bytes};
 ghost use Rattle.cover_cli.specs.Answers.{IsAnswer};
 ghost use Rattle.cover_cli.specs.Words.{operation_of};
 
+use crate::noding::node_file;
 use crate::outcome::Outcome;
 use crate::run::validate_file;
 use crate::words::{Operation, operation_named};
@@ -24,5 +25,6 @@ pub fn cover<F: Files>(alloc: Global, words: &[String], files: &mut F) -> Outcom
     match operation_named(words) {
         None => Outcome::Usage,
         Some(Operation::Validate { from, to }) => validate_file(alloc, files, from, to),
+        Some(Operation::Node { from, to }) => node_file(alloc, files, from, to),
     }
 }

@@ -7,6 +7,7 @@
 mod command;
 mod input;
 mod lines;
+mod noding;
 mod outcome;
 mod run;
 mod validate;

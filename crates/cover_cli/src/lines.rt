@@ -1,4 +1,5 @@
-ghost use Rattle.std.specs.Prelude.{◌≡◌, ℕ, ◌<◌, IfOk, All, [], length};
+ghost use Rattle.std.specs.Prelude.{◌≡◌, ℕ, ◌<◌, IfOk, OnOk, All, List, [], ◌∷◌, ◌++◌, length};
+ghost use Rattle.cov_types.specs.declared.edge_use.EdgeUse.{EdgeUse as Use};
 ghost use Rattle.cover_cli.specs.Lines.{AreMemberLists, marked_uses};
 
 use cov_types::{EdgeUse, NoMemory, Seg};
@@ -22,15 +23,27 @@ pub fn lists_by_member(
     uses: &[EdgeUse],
     members: usize,
 ) -> Result<Vec<Vec<Seg>>, NoMemory>
-    requires { All (λ u. u.member < members) uses.now }
     ensures { IfOk result (λ v. AreMemberLists uses.now members v.items) }
 {
     let mut lists = empty_lists(alloc, members)?;
     for edge in uses {
-        let list = &mut lists[edge.member as usize];
-        list.push(edge.seg)?;
+        add_use(&mut lists, *edge)?;
     }
     Ok(lists)
+}
+
+// Puts the segment of a use at the end of its member's list, where there is one.
+fn add_use(lists: &mut Vec<Vec<Seg>>, edge: EdgeUse) -> Result<(), NoMemory>
+    ensures { OnOk result ((uses : List Use) (members : ℕ) → AreMemberLists uses members lists.old.items
+        → AreMemberLists (uses ++ edge ∷ []) members lists.new.items) }
+{
+    let member = edge.member as usize;
+    if member >= lists.len() {
+        return Ok(());
+    }
+    let list = &mut lists[member];
+    list.push(edge.seg)?;
+    Ok(())
 }
 
 /// The uses at the places of the marks.
@@ -40,9 +53,7 @@ pub fn uses_at_marks(
     marks: &[Mark],
 ) -> Result<Vec<EdgeUse>, NoMemory>
     requires { All (λ m. m.place < length uses.now) marks.now }
-    ensures exact { IfOk result (λ v. v.items ≡ marked_uses uses.now marks.now) }
-    ensures members { IfOk result (λ v. (members : ℕ)
-        → All (λ u. u.member < members) uses.now → All (λ u. u.member < members) v.items) }
+    ensures { IfOk result (λ v. v.items ≡ marked_uses uses.now marks.now) }
 {
     let mut marked = Vec::new(alloc);
     for mark in marks {

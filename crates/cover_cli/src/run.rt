@@ -17,8 +17,8 @@ pub fn validate_file<F: Files>(alloc: Global, files: &mut F, from: &str, to: &st
     }
 }
 
-// Writes what was made over the file of this name.
-fn written<F: Files>(files: &mut F, to: &str, made: Made) -> Outcome
+/// Writes what was made over the file of this name.
+pub fn written<F: Files>(files: &mut F, to: &str, made: Made) -> Outcome
     ensures { IsWritten to.now made (F.state files.old) (F.state files.new) result }
 {
     match spill(files, to, &made.text) {

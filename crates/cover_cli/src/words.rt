@@ -6,6 +6,7 @@ ghost use Rattle.cover_cli.specs.Named.{IsNamed};
 /// An operation, with the names of the files that it works on.
 pub enum Operation<'a> {
     Validate { from: &'a str, to: &'a str },
+    Node { from: &'a str, to: &'a str },
 }
 
 // A name is a word that doesn't begin with `-`.
@@ -22,12 +23,18 @@ pub fn operation_named(words: &[String]) -> Option<Operation<'_>>
     let [word, from, to] = words else {
         return None;
     };
-    if word.as_str() == "validate" && is_name(from.as_str()) && is_name(to.as_str()) {
-        Some(Operation::Validate {
-            from: from.as_str(),
-            to: to.as_str(),
-        })
-    } else {
-        None
+    let (from, to) = (from.as_str(), to.as_str());
+    if !is_name(from) {
+        return None;
     }
+    if !is_name(to) {
+        return None;
+    }
+    if word.as_str() == "validate" {
+        return Some(Operation::Validate { from, to });
+    }
+    if word.as_str() == "node" {
+        return Some(Operation::Node { from, to });
+    }
+    None
 }

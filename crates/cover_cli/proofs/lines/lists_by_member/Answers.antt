@@ -1,9 +1,12 @@
--- One use more: its segment is at the end of its member's list.
-use Rattle.std.proofs.Common.{sym}
-use Rattle.cover_cli.proofs.Marking.{member_lists-push}
+-- One use more.
+use Rattle.std.proofs.Common.{◌≡◌, ◌+◌, List, [], ◌∷◌, ◌++◌, take, add-one, sym, ap, ◌∙◌}
+use Rattle.std.proofs.Math.Seq.{take-suc}
+use Rattle.cov_types.specs.declared.edge_use.EdgeUse.{EdgeUse}
 use Rattle.cover_cli.proofs.lines.lists_by_member.Goals as goal
 
 pub loop-edge-preserved : goal.loop-edge-preserved
 loop-edge-preserved c =
-    member_lists-push _ _ _ _ c.edge-item.result c.edge-item.result c.index_mut-list.result.now _ c.loop-edge.invariant c.loop-edge-test.true (sym c.edge-item.is)
-    (c.requires c.loop-edge.edge-index _ c.loop-edge-test.true) (sym c.index_mut-list.ensures.value) c.in_ok-push.ensures.items
+    let one_more : take (c.loop-edge.edge-index + 1) c.args.uses.now ≡ take c.loop-edge.edge-index c.args.uses.now ++ c.edge-item.result ∷ [] =
+    rw add-one (take-suc c.args.uses.now c.loop-edge.edge-index c.edge-item.result c.loop-edge-test.true
+    ∙ ap (λ (u : EdgeUse). take c.loop-edge.edge-index c.args.uses.now ++ u ∷ []) (sym c.edge-item.is)) in
+    rw one_more (c.in_ok-add_use.ensures _ _ c.loop-edge.invariant)

@@ -1,7 +1,6 @@
-use Rattle.std.proofs.Common.{◌≡◌, take, ℕ, ◌<◌}
-use Rattle.std.specs.Prelude.{All}
+use Rattle.std.proofs.Common.{◌≡◌, take}
 use Rattle.cover_cli.specs.Lines.{marked_uses}
 use Rattle.cover_cli.proofs.lines.uses_at_marks.Given as goal
 
 abbrev pub invariant-loop-mark : goal.invariant-loop-mark
-invariant-loop-mark l = (l.marked.items ≡ marked_uses l.uses (take l.mark-index l.marks)) × ((members : ℕ) → All (λ u. u.member < members) l.uses → All (λ u. u.member < members) l.marked.items)
+invariant-loop-mark l = l.marked.items ≡ marked_uses l.uses (take l.mark-index l.marks)

@@ -11,7 +11,7 @@ pub returns-clause-made : goal.returns-clause-made
 returns-clause-made c =
     let uses : c.deref.result.now ≡ uses_of c.args.c.now = c.deref.ensures.value ∙ c.in_ok-uses.ensures.exact in
     let marked : c.deref-3.result.now ≡ marked_uses (uses_of c.args.c.now) c.in_ok-marks.marks.items =
-    c.deref-3.ensures.value ∙ c.in_ok-marked.ensures.exact ∙ (λ i. marked_uses (uses i) (c.deref-2.ensures.value i)) in
+    c.deref-3.ensures.value ∙ c.in_ok-marked.ensures ∙ (λ i. marked_uses (uses i) (c.deref-2.ensures.value i)) in
     let count : c.len.result ≡ length c.args.c.now = omega (arith, ap length c.c.view_is) in
     let lists : AreMemberLists (marked_uses (uses_of c.args.c.now) c.in_ok-marks.marks.items) (length c.args.c.now) c.deref-4.result.now =
     lists_moved _ _ _ _ _ _ marked count (sym c.deref-4.ensures.value) c.in_ok-lists.ensures in

@@ -196,6 +196,30 @@ fn node_lists_the_noded_edges_and_the_odd_ones_of_each_member(
 }
 
 #[test]
+fn node_splits_segments_that_overlap_and_reaches_the_range(
+    rt: HostRuntime,
+) -> Result<(), test::Fail> {
+    for (case, input, output) in [
+        (
+            "segments that overlap along a line are split where each ends",
+            "POLYGON ((0 0, 10 0, 10 10, 0 10, 0 0))\nPOLYGON ((5 0, 15 0, 15 10, 5 10, 5 0))\n",
+            "MULTILINESTRING ((0 0, 0 10), (0 0, 5 0), (0 10, 5 10), (5 0, 5 10), (5 0, 10 0), (5 10, 10 10), (10 0, 10 10), (10 0, 15 0), (10 10, 15 10), (15 0, 15 10))\nMULTILINESTRING ((0 0, 0 10), (0 0, 5 0), (0 10, 5 10), (5 0, 10 0), (5 10, 10 10), (10 0, 10 10))\nMULTILINESTRING ((5 0, 5 10), (5 0, 10 0), (5 10, 10 10), (10 0, 15 0), (10 10, 15 10), (15 0, 15 10))\n",
+        ),
+        (
+            "a bow-tie from one end of the range to the other crosses in the middle",
+            "POLYGON ((-16777216 -16777216, 16777216 16777216, 16777216 -16777216, -16777216 16777216, -16777216 -16777216))",
+            "MULTILINESTRING ((-16777216 -16777216, -16777216 16777216), (-16777216 -16777216, 0 0), (-16777216 16777216, 0 0), (0 0, 16777216 -16777216), (0 0, 16777216 16777216), (16777216 -16777216, 16777216 16777216))\nMULTILINESTRING ((-16777216 -16777216, -16777216 16777216), (-16777216 -16777216, 0 0), (-16777216 16777216, 0 0), (0 0, 16777216 -16777216), (0 0, 16777216 16777216), (16777216 -16777216, 16777216 16777216))\n",
+        ),
+    ] {
+        let mut files = shelf_of(rt.alloc(), input.as_bytes(), &[], ROOM, ROOM)?;
+        let came = answer(rt.alloc(), "node in out", &mut files)?;
+        assert_eq!(rt; came, Outcome::Done, "{case}");
+        expect_files(&rt, &files, input, output, case);
+    }
+    Ok(())
+}
+
+#[test]
 fn each_fault_of_a_text_is_answered_at_its_place(rt: HostRuntime) -> Result<(), test::Fail> {
     for (input, fault) in [
         ("POLYGON ((0 0, 1", TextFault::Syntax { at: 16 }),

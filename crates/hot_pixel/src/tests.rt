@@ -44,6 +44,40 @@ fn a_pixel_is_closed_at_its_left_and_bottom_alone(rt: HostRuntime) {
 }
 
 #[test]
+fn a_shallow_segment_through_a_corner_meets_the_pixels_that_it_has_points_of(rt: HostRuntime) {
+    let cases = [
+        ((0, 0, 3, 1), (1, 0), true),
+        ((0, 0, 3, 1), (2, 1), true),
+        ((0, 0, 3, 1), (2, 0), false),
+        ((0, 0, 3, 1), (1, 1), false),
+        ((0, 1, 3, 0), (1, 1), true),
+        ((0, 1, 3, 0), (2, 0), true),
+        ((0, 1, 3, 0), (2, 1), true),
+        ((0, 1, 3, 0), (1, 0), false),
+    ];
+    for (s, (x, y), want) in cases {
+        assert_eq!(rt; meets(segment(&rt, s), Coord { x, y }), want);
+    }
+}
+
+#[test]
+fn a_steep_segment_through_a_corner_meets_the_pixels_that_it_has_points_of(rt: HostRuntime) {
+    let cases = [
+        ((0, 0, 1, 3), (0, 1), true),
+        ((0, 0, 1, 3), (1, 2), true),
+        ((0, 0, 1, 3), (1, 1), false),
+        ((0, 0, 1, 3), (0, 2), false),
+        ((0, 3, 1, 0), (0, 2), true),
+        ((0, 3, 1, 0), (1, 1), true),
+        ((0, 3, 1, 0), (1, 2), true),
+        ((0, 3, 1, 0), (0, 1), false),
+    ];
+    for (s, (x, y), want) in cases {
+        assert_eq!(rt; meets(segment(&rt, s), Coord { x, y }), want);
+    }
+}
+
+#[test]
 fn a_chain_bends_to_the_pixel_of_a_crossing(rt: HostRuntime) -> Result<(), Fail> {
     let rising = segment(&rt, (0, 0, 1, 1));
     let falling = segment(&rt, (0, 1, 1, 0));

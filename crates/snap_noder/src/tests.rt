@@ -1,7 +1,7 @@
 ghost use Rattle.std.specs.Prelude.{All, IfOk};
 ghost use Rattle.cov_types.specs.Range.{IsSegInRange};
 
-use crate::{live, node};
+use crate::{live, node, plain};
 use cov_types::{Coord, EdgeUse, Seg};
 use std::alloc::Global;
 use std::process::Abort;
@@ -95,6 +95,20 @@ fn a_segment_through_a_corner_meets_both_pixels_above_and_below(
 #[test]
 fn nothing_is_noded_to_nothing(rt: HostRuntime) -> Result<(), Fail> {
     expect_noded(&rt, rt.alloc(), &[], &[], &[], 0)
+}
+
+#[test]
+fn edges_that_are_noded_already_keep_those_used_an_odd_number_of_times(
+    rt: HostRuntime,
+) -> Result<(), Fail> {
+    let seg = segment(&rt, (0, 0, 10, 1));
+    let uses = [0, 0, 1].map(|member| EdgeUse { member, seg });
+    let noded = plain(rt.alloc(), &uses)?;
+    assert_eq!(rt; noded.edges.len(), 1);
+    assert!(rt; noded.edges.iter().all(|edge| *edge == seg));
+    assert_eq!(rt; noded.odd.len(), 1);
+    assert!(rt; noded.odd.iter().all(|pair| pair.member == 1 && pair.edge == 0));
+    Ok(())
 }
 
 // The uses have these noded edges and odd pairs, and so many live edges.

@@ -107,7 +107,12 @@ fn edges_that_are_noded_already_keep_those_used_an_odd_number_of_times(
     assert_eq!(rt; noded.edges.len(), 1);
     assert!(rt; noded.edges.iter().all(|edge| *edge == seg));
     assert_eq!(rt; noded.odd.len(), 1);
-    assert!(rt; noded.odd.iter().all(|pair| pair.member == 1 && pair.edge == 0));
+    assert!(rt;
+        noded
+            .odd
+            .iter()
+            .all(|pair| pair.member == 1 && pair.edge == 0)
+    );
     Ok(())
 }
 

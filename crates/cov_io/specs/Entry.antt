@@ -8,6 +8,7 @@ pub record Entry : Type 0 where
   pub name : List ℕ
   pub bytes : List ℕ
 
+-- a file of a shelf as one
 abbrev pub entry_of : ShelfFile → Entry
 entry_of f = record { name = string_bytes f.name; bytes = f.bytes.items }
 

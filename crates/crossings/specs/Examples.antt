@@ -11,6 +11,7 @@ use Rattle.crossings.specs.Winding.{winding}
 abbrev pub west : Coord
 west = record { x = negsuc 4; y = pos 5 }
 
+-- the grid point (-5, 20), above it and above the square
 abbrev pub north_west : Coord
 north_west = record { x = negsuc 4; y = pos 20 }
 

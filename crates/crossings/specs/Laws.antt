@@ -118,6 +118,7 @@ pub record AreSidesBalanced (members : List (List (List (List Coord)))) : Type 0
   pub balanced : IsBalanced (coverage_weights members)
   pub used : edges_of (coverage_weights members) ≡ map (λ u. u.seg) (uses_of members)
 
+-- and this is so of every coverage
 abbrev pub CoverageSidesLaw : Type 0
 CoverageSidesLaw = (members : List (List (List (List Coord)))) → AreSidesBalanced members
 

@@ -14,12 +14,15 @@ side_weights side = map (λ s. record { edge = s; weight = cond (is_before side.
 abbrev pub ring_weights : List Coord → List WeightedEdge
 ring_weights points = flat_map side_weights (sides points)
 
+-- those of a polygon's rings
 abbrev pub poly_weights : List (List Coord) → List WeightedEdge
 poly_weights rings = flat_map ring_weights rings
 
+-- those of a member's polygons
 abbrev pub member_weights : List (List (List Coord)) → List WeightedEdge
 member_weights polys = flat_map poly_weights polys
 
+-- those of a coverage's members
 abbrev pub coverage_weights : List (List (List (List Coord))) → List WeightedEdge
 coverage_weights members = flat_map member_weights members
 

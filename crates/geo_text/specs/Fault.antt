@@ -22,20 +22,25 @@ pub record IsSyntaxFault (bytes : List ℕ) (at : ℕ) : Type 0 where
 
 -- ---- the parts of a file that may be faulty, in its order
 
+-- the rings of an element, in their order
 abbrev pub rings_of : Element → List Ring
 rings_of e = flat_map (λ rings. rings) (bodies e)
 
+-- the rings of all geometries, in their order
 abbrev pub rings : List Geometry → List Ring
 rings geometries = flat_map rings_of (flat_map elements geometries)
 
+-- the numbers of a position
 abbrev pub position_numbers : Position → List Numeral
 position_numbers (Two x y) = x ∷ y ∷ []
 position_numbers (Three x y z) = x ∷ y ∷ z ∷ []
 position_numbers (Four x y z m) = x ∷ y ∷ z ∷ m ∷ []
 
+-- the numbers of a ring's positions
 abbrev pub ring_numbers : Ring → List Numeral
 ring_numbers r = flat_map position_numbers (positions r)
 
+-- the numbers of all rings, in their order
 abbrev pub numbers : List Geometry → List Numeral
 numbers geometries = flat_map ring_numbers (rings geometries)
 
@@ -50,16 +55,20 @@ third_places (Two x y) = []
 third_places (Three x y z) = z.at ∷ []
 third_places (Four x y z m) = z.at ∷ []
 
+-- the places of the third numbers of a ring's positions
 abbrev pub ring_extras : Ring → List ℕ
 ring_extras r = flat_map third_places (positions r)
 
+-- the dimension word of an element, where it has one
 abbrev pub element_dimension : Element → Option Dimension
 element_dimension (OnePolygon d rings) = d
 element_dimension (ManyPolygons d polygons) = d
 
+-- the places of an element's dimension word and third numbers
 abbrev pub element_extras : Element → List ℕ
 element_extras e = dimension_places (element_dimension e) ++ flat_map ring_extras (rings_of e)
 
+-- those of a geometry
 abbrev pub geometry_extras : Geometry → List ℕ
 geometry_extras (Single e) = element_extras e
 geometry_extras (Collection d es) = dimension_places d ++ flat_map element_extras es
@@ -74,9 +83,11 @@ extra_places geometries = flat_map geometry_extras geometries
 abbrev pub IsWhole : Numeral → Type 0
 IsWhole n = All (λ digit. digit ≡ 48) n.fraction
 
+-- a value from -16,777,216 to 16,777,216
 abbrev pub IsValueInRange : Numeral → Type 0
 IsValueInRange n = ((neg_ℤ LIMIT) ≤ℤ value n) × (value n ≤ℤ LIMIT)
 
+-- whole, and in range
 abbrev pub IsNumberFine : Numeral → Type 0
 IsNumberFine n = IsWhole n × IsValueInRange n
 
@@ -88,6 +99,7 @@ IsRingLong r = 4 ≤ length (positions r)
 abbrev pub IsRingClosed : Ring → Type 0
 IsRingClosed r = slice_get (map coordinate (positions r)) (length (positions r) - 1) ≡ Some (coordinate r.first)
 
+-- long enough, and closed
 abbrev pub IsRingFine : Ring → Type 0
 IsRingFine r = IsRingLong r × IsRingClosed r
 
@@ -134,5 +146,6 @@ IsFault bytes (OutOfRange at) = (n : Numeral) × IsFirstNumber bytes at n × IsW
 IsFault bytes (RingShort ring) = (r : Ring) × IsFirstRing bytes ring r × ¬ IsRingLong r
 IsFault bytes (RingOpen ring) = (r : Ring) × IsFirstRing bytes ring r × IsRingLong r × ¬ IsRingClosed r
 
+-- the text has no fault
 abbrev pub IsFaultless : List ℕ → Type 0
 IsFaultless bytes = (fault : TextFault) → IsFault bytes fault → ⊥

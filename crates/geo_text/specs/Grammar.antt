@@ -46,19 +46,24 @@ position (Two x y) = Number x ∷ Number y ∷ []
 position (Three x y z) = Number x ∷ Number y ∷ Number z ∷ []
 position (Four x y z m) = Number x ∷ Number y ∷ Number z ∷ Number m ∷ []
 
+-- positions in brackets
 abbrev pub ring : Ring → List Token
 ring r = bracketed position r.first r.others
 
+-- EMPTY, or rings in brackets
 abbrev pub polygon_body : List Ring → List Token
 polygon_body rings = body ring rings
 
+-- EMPTY, or polygon bodies in brackets
 abbrev pub multi_body : List (List Ring) → List Token
 multi_body polygons = body polygon_body polygons
 
+-- a keyword, perhaps a dimension word, and a body
 abbrev pub element : Element → List Token
 element (OnePolygon d rings) = Word Polygon ∷ (dimension d ++ polygon_body rings)
 element (ManyPolygons d polygons) = Word MultiPolygon ∷ (dimension d ++ multi_body polygons)
 
+-- an element, or a collection of elements
 abbrev pub geometry : Geometry → List Token
 geometry (Single e) = element e
 geometry (Collection d es) = Word GeometryCollection ∷ (dimension d ++ body element es)

@@ -25,12 +25,15 @@ use Rattle.geo_text.specs.declared.place.Place.TheVariants as places
 
 -- ---- faults other than of syntax: the first of each kind
 
+-- a value from -16,777,216 to 16,777,216
 abbrev pub is_in_range : ℤ → Bool
 is_in_range n = int_le (neg_ℤ LIMIT) n && int_le n LIMIT
 
+-- the point that stands in where a list has none
 abbrev pub origin : Coord
 origin = record { x = pos 0; y = pos 0 }
 
+-- whether two coordinates are one
 abbrev pub same_coord : Coord → Coord → Bool
 same_coord a b = int_eq a.x b.x && int_eq a.y b.y
 
@@ -38,24 +41,31 @@ same_coord a b = int_eq a.x b.x && int_eq a.y b.y
 abbrev pub is_closed : List Coord → Bool
 is_closed points = same_coord (get_or points (length points - 1) origin) (get_or points 0 origin)
 
+-- no fault yet, and no ring
 abbrev pub no_faults : Faults
 no_faults = record { planar = None; number = None; ring = None; rings = 0 }
 
+-- with a dimension word or a third number at this place
 abbrev pub with_extra : ℕ → Faults → Faults
 with_extra at f = record f { planar = option_or f.planar (Some (NotPlanar at)) }
 
+-- the fault of a number at this place, if it has one
 abbrev pub number_fault : ℕ → ℤ → Bool → Option TextFault
 number_fault at value whole = if whole then (if is_in_range value then None else Some (OutOfRange at)) else Some (NotWhole at)
 
+-- with a number at this place
 abbrev pub with_number : ℕ → ℤ → Bool → Faults → Faults
 with_number at value whole f = record f { number = option_or f.number (number_fault at value whole) }
 
+-- the fault of a ring with this number, if it has one
 abbrev pub ring_fault : ℕ → List Coord → Option TextFault
 ring_fault ring points = if nat_lt (length points) 4 then Some (RingShort ring) else (if is_closed points then None else Some (RingOpen ring))
 
+-- with one ring more
 abbrev pub with_ring : List Coord → Faults → Faults
 with_ring points f = record f { ring = option_or f.ring (ring_fault f.rings points); rings = f.rings + 1 }
 
+-- the fault that is told: the first kind that there is
 abbrev pub first_fault : Faults → Option TextFault
 first_fault f = option_or f.planar (option_or f.number f.ring)
 
@@ -87,30 +97,39 @@ pub data Symbol : Type 0 where
   Closing : Symbol
   Separator : Symbol
 
+-- the parser at a place
 abbrev pub at : Place → Bool → Bool → Kept → State
 at place in_collection in_multi kept = record { place = place; in_collection = in_collection; in_multi = in_multi; kept = kept }
 
+-- nothing is kept yet
 abbrev pub nothing_kept : Kept
 nothing_kept = record { members = []; polys = []; rings = []; points = []; faults = no_faults }
 
+-- the parser before the first token
 abbrev pub start : State
 start = at places.Outside false false nothing_kept
 
+-- with the first number of a position
 abbrev pub first_number : ℕ → ℤ → Bool → Kept → Kept
 first_number a value whole k = record k { faults = with_number a value whole k.faults }
 
+-- with the second number of a position, whose first is x
 abbrev pub second_number : ℤ → ℕ → ℤ → Bool → Kept → Kept
 second_number x a value whole k = record k { points = k.points ++ record { x = x; y = value } ∷ []; faults = with_number a value whole k.faults }
 
+-- with a third or fourth number of a position
 abbrev pub further_number : ℕ → ℤ → Bool → Kept → Kept
 further_number a value whole k = record k { faults = with_number a value whole (with_extra a k.faults) }
 
+-- the ring that is open is closed
 abbrev pub ring_kept : Kept → Kept
 ring_kept k = record k { rings = k.rings ++ take (length k.points - 1) k.points ∷ []; points = []; faults = with_ring k.points k.faults }
 
+-- the polygon that is open is closed
 abbrev pub polygon_kept : Kept → Kept
 polygon_kept k = record k { polys = k.polys ++ k.rings ∷ []; rings = [] }
 
+-- the member that is open is closed
 abbrev pub member_kept : Kept → Kept
 member_kept k = record k { members = k.members ++ k.polys ∷ []; polys = [] }
 
@@ -124,6 +143,7 @@ abbrev pub body_end : Bool → Bool → Kept → State
 body_end in_collection true k = at places.BodyEnd in_collection true k
 body_end in_collection false k = element_end in_collection k
 
+-- the parser behind a token at a place, where the grammar has it there
 abbrev pub step_at : Place → Symbol → Bool → Bool → Kept → Option State
 step_at places.Outside (Named Polygon) c m k = Some (at (places.Head kinds.Polygon false) c m k)
 step_at places.Outside (Named MultiPolygon) c m k = Some (at (places.Head kinds.MultiPolygon false) c m k)
@@ -155,6 +175,7 @@ step_at places.RingEnd Separator c m k = Some (at places.RingStart c m k)
 step_at places.RingEnd Closing c m k = Some (body_end c m (polygon_kept k))
 step_at place symbol c m k = None
 
+-- the parser behind a token
 abbrev pub step : State → Symbol → Option State
 step s symbol = step_at s.place symbol s.in_collection s.in_multi s.kept
 
@@ -169,6 +190,7 @@ letters keywords.Empty = codes "EMPTY"
 letters keywords.M = codes "M"
 letters keywords.Zm = codes "ZM"
 
+-- the token of a keyword that begins at this place
 abbrev pub symbol_of : Keyword → ℕ → Symbol
 symbol_of keywords.Polygon a = Named Polygon
 symbol_of keywords.MultiPolygon a = Named MultiPolygon
@@ -205,6 +227,7 @@ keyword_at place letter = None
 
 -- ---- numbers
 
+-- a digit, a sign or a point
 abbrev pub is_number_byte : ℕ → Bool
 is_number_byte b = ((is_digit b || (b == 43)) || (b == 45)) || (b == 46)
 
@@ -223,6 +246,7 @@ capped cap size = min size cap
 abbrev pub no_number : ℕ → Bool → Number
 no_number a negative = record { at = a; negative = negative; some_digit = false; point = false; whole = true; size = 0 }
 
+-- the number with one digit more
 abbrev pub with_digit : ℕ → Number → ℕ → Number
 with_digit cap n b =
     if n.point
@@ -235,6 +259,7 @@ number_on cap n b =
     if is_digit b then Some (with_digit cap n b)
     else (if (b == 46) && not n.point then Some (record n { point = true }) else None)
 
+-- the number that a byte at this place begins, if it begins one
 abbrev pub number_begun : ℕ → ℕ → ℕ → Option Number
 number_begun cap a b = if b == 45 then Some (no_number a true) else (if b == 43 then Some (no_number a false) else number_on cap (no_number a false) b)
 
@@ -244,6 +269,7 @@ IsCapped n = n.size ≤ 16777217
 
 -- ---- lexemes
 
+-- a letter of either case
 abbrev pub is_letter : ℕ → Bool
 is_letter b = nat_le 65 (to_ascii_uppercase b) && nat_le (to_ascii_uppercase b) 90
 
@@ -290,6 +316,7 @@ IsLexeme lexeme = Unit {0}
 
 -- ---- the file
 
+-- a coverage as a list of members
 abbrev pub Members : Type 0
 Members = List (List (List (List Coord)))
 

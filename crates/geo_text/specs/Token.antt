@@ -31,6 +31,7 @@ pub record Numeral : Type 0 where
   pub whole : List ℕ
   pub fraction : List ℕ
 
+-- the tokens: words, numbers, brackets and commas
 pub data Token : Type 0 where
   Word : Name → Token
   Dimensions : Dimension → Token
@@ -43,12 +44,15 @@ pub data Token : Type 0 where
 abbrev pub is_white : ℕ → Bool
 is_white b = (((b == 32) || (b == 9)) || (b == 10)) || (b == 13)
 
+-- a byte from 0 to 9
 abbrev pub is_digit : ℕ → Bool
 is_digit b = nat_le 48 b && nat_le b 57
 
+-- white space alone, or nothing
 abbrev pub IsWhite : List ℕ → Type 0
 IsWhite bytes = AllByRecursion (λ b. IsTrue (is_white b)) bytes
 
+-- digits alone, or nothing
 abbrev pub AreDigits : List ℕ → Type 0
 AreDigits bytes = AllByRecursion (λ b. IsTrue (is_digit b)) bytes
 
@@ -84,12 +88,14 @@ pub record IsNumeral (bytes : List ℕ) (n : Numeral) : Type 0 where
   pub some_digit : 0 < length n.whole + length n.fraction
   pub spelling : bytes ≡ sign ++ (n.whole ++ (point ++ n.fraction))
 
+-- the letters of a keyword
 abbrev pub letters_of : Name → List ℕ
 letters_of Polygon = codes "POLYGON"
 letters_of MultiPolygon = codes "MULTIPOLYGON"
 letters_of GeometryCollection = codes "GEOMETRYCOLLECTION"
 letters_of Empty = codes "EMPTY"
 
+-- the letters of a dimension word
 abbrev pub axes_letters : Axes → List ℕ
 axes_letters Z = codes "Z"
 axes_letters M = codes "M"
@@ -108,11 +114,13 @@ IsSpelled at Open bytes = bytes ≡ codes "("
 IsSpelled at Close bytes = bytes ≡ codes ")"
 IsSpelled at Comma bytes = bytes ≡ codes ","
 
+-- the token is a word
 abbrev pub is_word : Token → Bool
 is_word (Word name) = true
 is_word (Dimensions d) = true
 is_word token = false
 
+-- the token is a number
 abbrev pub is_number : Token → Bool
 is_number (Number n) = true
 is_number token = false

@@ -36,6 +36,7 @@ pairs member edges = map (λ k. record { member = member; edge = k }) edges
 abbrev pub is_same_way : Coord × Coord → Coord × Coord → Bool
 is_same_way a b = is_same_coord a.0 b.0 && is_same_coord a.1 b.1
 
+-- whether the two lists have the same ways
 abbrev pub are_same_ways : List (Coord × Coord) → List (Coord × Coord) → Bool
 are_same_ways xs ys = list_all (λ x. list_any (is_same_way x) ys) xs && list_all (λ y. list_any (is_same_way y) xs) ys
 
@@ -60,6 +61,7 @@ pub record LengthExamples : Type 0 where
 abbrev pub half_crossing : List EdgeUse
 half_crossing = ring_uses 0 (at 0 0 ++ at 1 1 ++ at 0 1 ++ at 1 0)
 
+-- the chains of its four sides
 abbrev pub half_chains : List (List Coord)
 half_chains = (at 0 0 ++ at 1 1) ∷ (at 0 1 ++ at 1 1) ∷ (at 0 1 ++ at 1 1 ++ at 1 0) ∷ (at 0 0 ++ at 1 0) ∷ []
 
@@ -67,6 +69,7 @@ half_chains = (at 0 0 ++ at 1 1) ∷ (at 0 1 ++ at 1 1) ∷ (at 0 1 ++ at 1 1 ++
 abbrev pub thin : List EdgeUse
 thin = ring_uses 0 (at 0 0 ++ at 5 0 ++ at 10 1)
 
+-- the chains of its three sides
 abbrev pub thin_chains : List (List Coord)
 thin_chains = (at 0 0 ++ at 5 0) ∷ (at 5 0 ++ at 10 1) ∷ (at 0 0 ++ at 5 0 ++ at 10 1) ∷ []
 
@@ -74,6 +77,7 @@ thin_chains = (at 0 0 ++ at 5 0) ∷ (at 5 0 ++ at 10 1) ∷ (at 0 0 ++ at 5 0 +
 abbrev pub times_in : List EdgeUse → List Seg → List ℕ
 times_in uses edges = map (λ e. member_times e uses 0) edges
 
+-- which edges the two rings have, and how often
 pub record SnappedExamples : Type 0 where
   pub half_segments : segments half_crossing ≡ edge 0 0 1 1 ++ edge 0 1 1 1 ++ edge 0 1 1 0 ++ edge 0 0 1 0
   pub half_edges : segments (snapped_uses half_crossing half_chains) ≡ edge 0 0 1 1 ++ edge 0 1 1 1 ++ edge 0 1 1 1 ++ edge 1 0 1 1 ++ edge 0 0 1 0
@@ -89,6 +93,7 @@ overlap_edges =
     edge 0 0 0 10 ++ edge 0 0 5 0 ++ edge 0 10 5 10 ++ edge 5 0 5 10 ++ edge 5 0 10 0 ++ edge 5 10 10 10
     ++ edge 10 0 10 10 ++ edge 10 0 15 0 ++ edge 10 10 15 10 ++ edge 15 0 15 10
 
+-- the overlay of the two squares
 abbrev pub overlap : Overlay
 overlap = record {
   edges = overlap_edges;
@@ -135,6 +140,7 @@ moat_edges =
     ++ edge 11 11 11 19 ++ edge 11 11 19 11 ++ edge 11 19 19 19 ++ edge 15 0 15 10 ++ edge 15 0 30 0 ++ edge 15 10 20 10
     ++ edge 15 20 15 30 ++ edge 15 20 20 20 ++ edge 15 30 30 30 ++ edge 19 11 19 19 ++ edge 20 10 20 20 ++ edge 30 0 30 30
 
+-- the overlay of the two frames and the island
 abbrev pub moat : Overlay
 moat = record {
   edges = moat_edges;
@@ -164,6 +170,7 @@ notched_edges =
     edge 0 0 0 10 ++ edge 0 0 3 6 ++ edge 0 0 6 3 ++ edge 0 0 10 0 ++ edge 0 10 10 10 ++ edge 3 6 6 3
     ++ edge 10 0 10 10
 
+-- the overlay of the square without the triangle
 abbrev pub notched : Overlay
 notched = record {
   edges = notched_edges;
@@ -176,6 +183,7 @@ notched = record {
 abbrev pub shell : List Coord
 shell = at 0 0 ++ at 10 0 ++ at 10 10 ++ at 0 10
 
+-- the ring of the triangle
 abbrev pub hole : List Coord
 hole = at 0 0 ++ at 3 6 ++ at 6 3
 
@@ -187,6 +195,7 @@ pinched = hole ++ shell
 abbrev pub has_free_corners : List (List Coord) → Bool
 has_free_corners rings = list_all (is_free_corner (flat_map sides rings)) (flat_map corners rings)
 
+-- what is measured there, and how its rings turn
 pub record NotchedExamples : Type 0 where
   pub areas : map (region_area2 notched) (1 ∷ 3 ∷ []) ≡ pos 173 ∷ pos 27 ∷ []
   pub rings : goes_round notched (λ r. r == 1) (shell ∷ hole ∷ []) ≡ true
@@ -217,6 +226,7 @@ pub record AngleExamples : Type 0 where
 abbrev pub round_line : List Coord
 round_line = at 0 0 ++ at 0 10 ++ at 10 10 ++ at 10 0 ++ at 5 0 ++ at 0 0
 
+-- what stands beside a point of the line, and what removing leaves of a ring
 pub record StateExamples : Type 0 where
   pub before : point_before [] round_line 4 ≡ Some (grid 10 0)
   pub after : point_after [] round_line 4 ≡ Some (grid 0 0)

@@ -37,6 +37,7 @@ abbrev pub OddUsesLaw : Type 0
 OddUsesLaw = (uses : List EdgeUse) (edges : List Seg) (odd : List OddUse) → AreEdges uses edges odd
     → (member : ℕ) (p : Point) → member_holds (odd_uses edges odd) member p ≡ member_holds uses member p
 
+-- and so they are by the odd uses of the live edges
 abbrev pub LiveUsesLaw : Type 0
 LiveUsesLaw = (uses : List EdgeUse) (edges : List Seg) (odd : List OddUse) → AreLiveEdges uses edges odd
     → (member : ℕ) (p : Point) → member_holds (odd_uses edges odd) member p ≡ member_holds uses member p
@@ -93,6 +94,7 @@ pub record ArePicks (candidates : List Candidate) : Type 0 where
   pub least : IsFirstBest (λ c d. int_lt c.area2 d.area2) candidates (length candidates) (least_area candidates)
   pub longest : IsFirstBest (λ c d. nat_lt d.border c.border) candidates (length candidates) (longest_border candidates)
 
+-- of one candidate or more, these are the picks
 abbrev pub PickLaw : Type 0
 PickLaw = (candidates : List Candidate) → 0 < length candidates → ArePicks candidates
 
@@ -109,6 +111,7 @@ pub record IsPartEquivalence (o : Overlay) (owners : ℕ → Option ℕ) (i : �
   pub back : (r s : ℕ) → InOnePart o owners i r s → InOnePart o owners i s r
   pub on : (r s t : ℕ) → InOnePart o owners i r s → InOnePart o owners i s t → InOnePart o owners i r t
 
+-- and it is so for every owner of every overlay
 abbrev pub PartLaw : Type 0
 PartLaw = (o : Overlay) (owners : ℕ → Option ℕ) (i : ℕ) → IsPartEquivalence o owners i
 

@@ -16,9 +16,11 @@ half = record { x = pos 1; y = pos 1; d = 2; positive = lit≤ tt }
 abbrev pub wide_rising : Seg
 wide_rising = segment (record { x = negsuc 0; y = negsuc 0 }) (grid 2 2) refl
 
+-- the one that goes down
 abbrev pub wide_falling : Seg
 wide_falling = segment (record { x = negsuc 0; y = pos 2 }) (record { x = pos 2; y = negsuc 0 }) refl
 
+-- both of them
 abbrev pub wide_crossing : List Seg
 wide_crossing = wide_rising ∷ wide_falling ∷ []
 

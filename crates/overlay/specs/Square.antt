@@ -17,9 +17,11 @@ use Rattle.overlay.specs.Examples.{pairs, shell}
 abbrev pub square_edges : List Seg
 square_edges = left ∷ bottom ∷ top ∷ right ∷ []
 
+-- the region of each of its sides
 abbrev pub square_number : ℕ → ℕ
 square_number n = slice_index (0 ∷ 1 ∷ 1 ∷ 0 ∷ 0 ∷ 1 ∷ 1 ∷ 0 ∷ []) n
 
+-- the overlay of the one member that has it
 abbrev pub lone : Overlay
 lone = record { edges = square_edges; uses = odd_uses square_edges (pairs 0 (0 ∷ 1 ∷ 2 ∷ 3 ∷ [])); members = 1; number = square_number }
 
@@ -39,6 +41,7 @@ lone_square = ((shell ∷ []) ∷ []) ∷ []
 abbrev pub by_index : Rule ℕ
 by_index = rule_by least_index
 
+-- what the definitions say of it
 pub record SquareExamples : Type 0 where
   pub regions : AreRegions square_edges square_number
   pub clearance : IsClearance square_edges 1 10

@@ -24,15 +24,19 @@ segment a b before = record { lo = a; hi = b; ordered = before }
 abbrev pub bottom : Seg
 bottom = segment (grid 0 0) (grid 10 0) refl
 
+-- its right side
 abbrev pub right : Seg
 right = segment (grid 10 0) (grid 10 10) refl
 
+-- its top side
 abbrev pub top : Seg
 top = segment (grid 0 10) (grid 10 10) refl
 
+-- its left side
 abbrev pub left : Seg
 left = segment (grid 0 0) (grid 0 10) refl
 
+-- all four, in this order
 abbrev pub square : List Seg
 square = bottom ∷ right ∷ top ∷ left ∷ []
 

@@ -12,6 +12,7 @@ ComesFirst s a b = (a.x <ℤ b.x) ⊎ ((a.x ≡ b.x) × (((s.lo.y ≤ℤ s.hi.y)
 abbrev pub reach_up : Seg → ℤ
 reach_up s = (s.hi.x -ℤ s.lo.x) +ℤ (s.hi.y -ℤ s.lo.y)
 
+-- how far it goes in x, and down in y, together
 abbrev pub reach_down : Seg → ℤ
 reach_down s = (s.hi.x -ℤ s.lo.x) +ℤ (s.lo.y -ℤ s.hi.y)
 

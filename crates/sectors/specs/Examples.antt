@@ -8,24 +8,31 @@ use Rattle.sectors.specs.Sector.{HalfEdge, IsHalfEdge, is_before_by_angle, is_in
 abbrev pub south_east : HalfEdge
 south_east = record { edge = segment (grid 1 1) (grid 2 0) refl; forwards = true }
 
+-- it leads to (2, 1)
 abbrev pub east : HalfEdge
 east = record { edge = segment (grid 1 1) (grid 2 1) refl; forwards = true }
 
+-- it leads to (2, 2)
 abbrev pub north_east : HalfEdge
 north_east = record { edge = segment (grid 1 1) (grid 2 2) refl; forwards = true }
 
+-- it leads to (1, 2)
 abbrev pub north : HalfEdge
 north = record { edge = segment (grid 1 1) (grid 1 2) refl; forwards = true }
 
+-- it leads to (0, 2)
 abbrev pub north_west : HalfEdge
 north_west = record { edge = segment (grid 0 2) (grid 1 1) refl; forwards = false }
 
+-- it leads to (0, 1)
 abbrev pub west : HalfEdge
 west = record { edge = segment (grid 0 1) (grid 1 1) refl; forwards = false }
 
+-- it leads to (0, 0)
 abbrev pub south_west : HalfEdge
 south_west = record { edge = segment (grid 0 0) (grid 1 1) refl; forwards = false }
 
+-- it leads to (1, 0)
 abbrev pub south : HalfEdge
 south = record { edge = segment (grid 1 0) (grid 1 1) refl; forwards = false }
 

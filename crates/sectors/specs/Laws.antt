@@ -114,5 +114,6 @@ SideNumberLaw = (edges : List Seg) (n : ℕ) (h : HalfEdge) → IsHalfEdge edges
 abbrev pub SomeNumberLaw : Type 0
 SomeNumberLaw = (edges : List Seg) (h : HalfEdge) → Contains edges h.edge → (n : ℕ) × IsHalfEdge edges n h
 
+-- and one number only, where no edge stands twice
 abbrev pub OneNumberLaw : Type 0
 OneNumberLaw = (edges : List Seg) → AreDistinct edges → (n m : ℕ) (h : HalfEdge) → IsHalfEdge edges n h → IsHalfEdge edges m h → n ≡ m

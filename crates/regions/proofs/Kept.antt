@@ -1,29 +1,33 @@
--- A test on sides that next and the links keep is the same on joined sides.
+-- A test on sides that next and a walk over links keep is the same on joined sides.
 use mathlib.Core.List.{List, [], ◌∷◌}
-use Rattle.std.proofs.Common.{◌≡◌, refl, sym, ap, subst, Bool, true, false, cond, Contains, ℤ, pos, ◌+ℤ◌, ◌-ℤ◌, inl, inr, arith}
+use Rattle.std.proofs.Common.{◌≡◌, refl, sym, ◌∙◌, ap, subst, Bool, true, false, cond, Contains, IsTrue, ◌⊎◌, ℤ, pos, ◌+ℤ◌, ◌-ℤ◌, inl, inr, arith}
 use Rattle.std.proofs.lemmas.List.Elements.{All-contains}
+use Rattle.cov_types.specs.declared.coord.Coord.{Coord}
 use Rattle.cov_types.specs.declared.seg.Seg.{Seg}
+use Rattle.cov_types.specs.Coord.{is_before}
 use Rattle.cov_types.specs.Range.{IsSegInRange}
 use Rattle.cov_types.proofs.Equal.{Decides-same_segs}
 use Rattle.exact.proofs.Ring.{lin}
-use Rattle.plane.specs.Point.{Point}
+use Rattle.plane.specs.Point.{Point, at_coord}
 use Rattle.plane.specs.Segment.{upper, lower}
 use Rattle.plane.specs.Joined.{Joined}
-use Rattle.plane.specs.Region.{far_point}
+use Rattle.plane.specs.Region.{far_point, IsOuter}
 use Rattle.plane.proofs.Sweeps.{rises-in_range}
 use Rattle.crossings.specs.Across.{AllMeetInEnds, is_same_seg, weight_of}
 use Rattle.crossings.specs.Crossing.{edges_of, crossing_sum, IsSwept}
 use Rattle.crossings.proofs.Sums.{crossing_sum-joined}
 use Rattle.crossings.proofs.Changes.{crossing_sum-across}
 use Rattle.crossings.proofs.Lists.{contains_here, contains_there}
-use Rattle.sectors.specs.Sector.{HalfEdge, left, twin, AreDistinct, IsPlanar}
+use Rattle.sectors.specs.Sector.{HalfEdge, origin, left, twin, IsNext, AreDistinct, IsPlanar}
 use Rattle.sectors.proofs.Sectors.{next_joined}
 use Rattle.sectors.proofs.Angles.{true_or_false}
-use Rattle.regions.specs.Linked.{IsKept}
+use Rattle.regions.specs.Below.{IsNearestBelow, HasNoneBelow}
+use Rattle.regions.specs.Linked.{LeavesOverRay, IsKept}
 use Rattle.regions.specs.Weights.{side_weight, weigh_sides}
 use Rattle.regions.proofs.Links.{link_down, link_out}
 use Rattle.regions.proofs.Balance.{first_or_later, distinct_first, distinct_rest, balanced_sides}
-use Rattle.regions.proofs.Outwards.{IsCarried, some_out}
+use Rattle.regions.proofs.Nearest.{nearest_or_none}
+use Rattle.regions.proofs.Outwards.{ComesUp, leaves_at, below_earlier, of_all, some_out}
 
 -- ---- the weights of distinct edges
 
@@ -63,9 +67,29 @@ weight_once passes e (f ∷ fs) distinct c =
           )
     ]
 
+-- ---- tests that a walk keeps
+
+-- a half-edge that leaves an earlier vertex than v passes as g, and has a side point that is joined with that of g
+pub record PassesEarlier (edges : List Seg) (passes : HalfEdge → Bool) (v : Coord) (g : HalfEdge) : Type 0 where
+  pub half_edge : HalfEdge
+  pub among : Contains edges half_edge.edge
+  pub earlier : IsTrue (is_before (origin half_edge) v)
+  pub same : passes g ≡ passes half_edge
+  pub joined : Joined edges (left g) (left half_edge)
+
+-- g, which leaves v over the ray, passes as the upper side of the nearest edge below v, or as the outer region where none is below v
+pub record PassesDown (edges : List Seg) (passes : HalfEdge → Bool) (outer : Bool) (v : Coord) (g : HalfEdge) : Type 0 where
+  pub down : (e : Seg) → IsNearestBelow edges (at_coord v) e → passes g ≡ passes (record { edge = e; forwards = true })
+  pub out : HasNoneBelow edges (at_coord v) → passes g ≡ outer
+
+-- the test is the same on half-edges that follow one another, and at each half-edge over the ray as at an earlier one or down the ray
+pub record IsWalkTest (edges : List Seg) (passes : HalfEdge → Bool) (outer : Bool) : Type 0 where
+  pub next : (h g : HalfEdge) → IsNext edges h g → passes h ≡ passes g
+  pub over : (v : Coord) (g : HalfEdge) → LeavesOverRay edges v g → PassesEarlier edges passes v g ⊎ PassesDown edges passes outer v g
+
 -- ---- the sum on the left of a half-edge, less its own weight, is one number
 
-module _ (edges : List Seg) (planar : IsPlanar edges) (distinct : AreDistinct edges) (passes : HalfEdge → Bool) (kept : IsKept edges passes) where
+module _ (edges : List Seg) (planar : IsPlanar edges) (distinct : AreDistinct edges) (passes : HalfEdge → Bool) (outer : Bool) (walk : IsWalkTest edges passes outer) where
   in_range : (e : Seg) → Contains edges e → IsSegInRange e
   in_range e c = All-contains IsSegInRange edges e planar.in_range c
 
@@ -79,7 +103,7 @@ module _ (edges : List Seg) (planar : IsPlanar edges) (distinct : AreDistinct ed
   sum_joined p q j =
       let same = edges_of_weights passes edges in
       crossing_sum-joined (weigh_sides passes edges) (subst (λ es. IsSwept es) (sym same) (λ e c. rises-in_range e (in_range e c)))
-      (balanced_sides edges planar distinct passes kept.next) p q (subst (λ es. Joined es p q) (sym same) j)
+      (balanced_sides edges planar distinct passes walk.next) p q (subst (λ es. Joined es p q) (sym same) j)
 
   sum_across : (e : Seg) → Contains edges e → sum_at (lower e) ≡ sum_at (upper e) +ℤ jump passes e
   sum_across e c =
@@ -102,12 +126,34 @@ module _ (edges : List Seg) (planar : IsPlanar edges) (distinct : AreDistinct ed
       let weights = ap (λ t. pos (cond t 1 0)) same in
       omega (arith, lin)
 
-  level_carried : IsCarried edges level
-  level_carried = record {
-    across = level-twin;
-    next = λ h g next. same_level h g (next_joined edges planar h g next) (kept.next h g next);
-    down = λ v g over e nearest. same_level g (record { edge = e; forwards = true }) (link_down edges planar v g over e nearest) (kept.down v g over e nearest);
+  abbrev far_level : ℤ
+  far_level = sum_at far_point -ℤ pos (cond outer 1 0)
+
+  level_out : (h : HalfEdge) → IsOuter edges (left h) → passes h ≡ outer → level h ≡ far_level
+  level_out h j same =
+      let sums = sum_joined (left h) far_point j in
+      let weights = ap (λ t. pos (cond t 1 0)) same in
+      omega (arith, lin)
+
+  level_comes_up : ComesUp edges (λ h. level h ≡ far_level)
+  level_comes_up = record {
+    turn = λ h g next rest. level-twin h next.among ∙ same_level (twin h) g (next_joined edges planar (twin h) g next) (walk.next (twin h) g next) ∙ rest;
+    over = λ v g over earlier. elim (walk.over v g over) [
+      | inl back ↦ same_level g back.half_edge back.joined back.same ∙ earlier back.half_edge back.among back.earlier
+      | inr ahead ↦ elim (nearest_or_none edges planar (at_coord v)) [
+        | inl found ↦ (
+            let e = found.0 in
+            let below : HalfEdge = record { edge = e; forwards = true } in
+            same_level g below (link_down edges planar v g over e found.1) (ahead.down e found.1)
+            ∙ earlier below found.1.below.among (below_earlier edges planar v g (leaves_at edges v g over) e found.1)
+            )
+        | inr none ↦ level_out g (link_out edges planar v g over none) (ahead.out none)
+      ]
+    ];
   }
+
+  level_is : (h : HalfEdge) → Contains edges h.edge → level h ≡ far_level
+  level_is h c = of_all edges planar (λ k. level k ≡ far_level) level_comes_up h c
 
   one_weight : (a b : Bool) → pos (cond a 1 0) ≡ pos (cond b 1 0) → a ≡ b
   one_weight true true e = refl
@@ -115,14 +161,28 @@ module _ (edges : List Seg) (planar : IsPlanar edges) (distinct : AreDistinct ed
   one_weight false true e = absurd (omega (arith, lin))
   one_weight false false e = refl
 
-  pub kept_joined : (h g : HalfEdge) → Contains edges h.edge → Contains edges g.edge → Joined edges (left h) (left g) → passes h ≡ passes g
-  kept_joined h g in_h in_g j =
-      let a = some_out edges planar level level_carried h in_h in
-      let b = some_out edges planar level level_carried g in_g in
-      let far_a = sum_joined (left a.half_edge) far_point (link_out edges planar a.vertex a.half_edge a.leaves a.none) in
-      let far_b = sum_joined (left b.half_edge) far_point (link_out edges planar b.vertex b.half_edge b.leaves b.none) in
-      let outs = ap (λ t. pos (cond t 1 0)) (kept.out a.vertex b.vertex a.half_edge b.half_edge a.leaves a.none b.leaves b.none) in
+  pub walk_test_joined : (h g : HalfEdge) → Contains edges h.edge → Contains edges g.edge → Joined edges (left h) (left g) → passes h ≡ passes g
+  walk_test_joined h g in_h in_g j =
       let sums = sum_joined (left h) (left g) j in
-      let first = a.same in
-      let second = b.same in
+      let first = level_is h in_h in
+      let second = level_is g in_g in
       one_weight (passes h) (passes g) (omega (arith, lin))
+
+  pub walk_test_outer : (h : HalfEdge) → Contains edges h.edge → IsOuter edges (left h) → passes h ≡ outer
+  walk_test_outer h c j =
+      let sums = sum_joined (left h) far_point j in
+      let far = level_is h c in
+      one_weight (passes h) outer (omega (arith, lin))
+
+-- ---- tests that all links keep
+
+pub kept_joined : (edges : List Seg) → IsPlanar edges → AreDistinct edges → (passes : HalfEdge → Bool) → IsKept edges passes
+    → (h g : HalfEdge) → Contains edges h.edge → Contains edges g.edge → Joined edges (left h) (left g) → passes h ≡ passes g
+kept_joined edges planar distinct passes kept h g in_h in_g j =
+    let out = some_out edges planar h in_h in
+    walk_test_joined edges planar distinct passes (passes out.half_edge)
+    (record {
+      next = kept.next;
+      over = λ v k over. inr (record { down = kept.down v k over; out = λ none. kept.out v out.vertex k out.half_edge over none out.leaves out.none });
+    })
+    h g in_h in_g j

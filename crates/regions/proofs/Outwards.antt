@@ -1,11 +1,12 @@
--- From each half-edge a way leads to a link past the range, over twins, next half-edges and links down.
+-- What next half-edges and links hand up from earlier vertices holds of all half-edges; so from some side a link leads past the range, and a test that crossings keep is the same on all sides.
 use mathlib.Core.List.{List, [], ◌∷◌}
-use Rattle.std.proofs.Common.{◌≡◌, refl, sym, ◌∙◌, ap, subst, ℕ, zero, suc, ◌≤◌, ◌<◌, ◌^◌, Bool, true, false, not, ◌&&◌, cond, true≢false, int_eq, count_by, Contains, pos, ◌+ℤ◌, ◌<ℤ◌, inl, inr, arith}
+use Rattle.std.proofs.Common.{◌≡◌, refl, sym, ◌∙◌, ap, subst, ℕ, zero, suc, ◌≤◌, ◌<◌, ◌^◌, Bool, true, false, not, ◌&&◌, cond, true≢false, int_eq, count_by, Contains, IsTrue, pos, ◌+ℤ◌, ◌<ℤ◌, inl, inr, arith}
 use Rattle.std.proofs.lemmas.List.Elements.{All-contains}
 use Rattle.std.proofs.lemmas.List.Sums.{sum_by-cons}
 use Rattle.std.proofs.lemmas.Bool.{and_parts, and_from}
 use Rattle.cov_types.specs.declared.coord.Coord.{Coord}
 use Rattle.cov_types.specs.declared.seg.Seg.{Seg}
+use Rattle.cov_types.specs.Coord.{is_before}
 use Rattle.cov_types.specs.Range.{IsInRange, IsSegInRange}
 use Rattle.cov_types.proofs.Equal.{Decides-same_coords}
 use Rattle.exact.proofs.Ring.{lin, mul_one, pos_times}
@@ -15,7 +16,7 @@ use Rattle.plane.specs.Segment.{side}
 use Rattle.plane.specs.Ray.{sweep}
 use Rattle.plane.specs.Region.{far_point}
 use Rattle.plane.proofs.Sides.{side-lo}
-use Rattle.plane.proofs.Sweeps.{sweep-one_to_one}
+use Rattle.plane.proofs.Sweeps.{sweep-before, before-sweep, sweep-one_to_one}
 use Rattle.crossings.proofs.Lists.{contains_here, contains_there}
 use Rattle.crossings.proofs.Ways.{joined-trans, joined-sym}
 use Rattle.sectors.specs.Sector.{HalfEdge, origin, target, left, twin, half_edges, is_before_by_angle, Leaves, IsNext, IsPlanar}
@@ -71,28 +72,54 @@ count_less f g (x ∷ xs) h y c none some =
           )
     ]
 
--- ---- what twins, next half-edges and links down keep
+-- ---- facts that come up from earlier vertices
 
--- f is the same on a half-edge and its twin, on half-edges that follow one another, and along each link down
-pub record IsCarried {X : Type 0} (edges : List Seg) (f : HalfEdge → X) : Type 0 where
-  pub across : (h : HalfEdge) → Contains edges h.edge → f h ≡ f (twin h)
-  pub next : (h g : HalfEdge) → IsNext edges h g → f h ≡ f g
-  pub down : (v : Coord) (g : HalfEdge) → LeavesOverRay edges v g → (e : Seg) → IsNearestBelow edges (at_coord v) e → f g ≡ f (record { edge = e; forwards = true })
+-- the fact holds of each half-edge where it holds of the next one after its twin, and of one over the ray where it holds of all that leave earlier vertices
+pub record ComesUp (edges : List Seg) (Holds : HalfEdge → Type 0) : Type 0 where
+  pub turn : (h g : HalfEdge) → IsNext edges (twin h) g → Holds g → Holds h
+  pub over : (v : Coord) (g : HalfEdge) → LeavesOverRay edges v g → ((k : HalfEdge) → Contains edges k.edge → IsTrue (is_before (origin k) v) → Holds k) → Holds g
 
--- a link past the range leads from a half-edge that is like h
-pub record IsLikeOut {X : Type 0} (edges : List Seg) (f : HalfEdge → X) (h : HalfEdge) : Type 0 where
+-- from the side on the left of the half-edge a link leads past the range
+pub record HasWayOut (edges : List Seg) : Type 0 where
   pub vertex : Coord
   pub half_edge : HalfEdge
   pub leaves : LeavesOverRay edges vertex half_edge
   pub none : HasNoneBelow edges (at_coord vertex)
-  pub same : f h ≡ f half_edge
 
-module _ {X : Type 0} (edges : List Seg) (planar : IsPlanar edges) (f : HalfEdge → X) (carried : IsCarried edges f) where
+pub leaves_at : (edges : List Seg) (v : Coord) (g : HalfEdge) → LeavesOverRay edges v g → Leaves edges v g
+leaves_at edges v g over = record { among = over.over.follows.leaves.among; from = over.from }
+
+module _ (edges : List Seg) (planar : IsPlanar edges) where
   in_range : (e : Seg) → Contains edges e → IsSegInRange e
   in_range e c = All-contains IsSegInRange edges e planar.in_range c
 
-  out_from : (h g : HalfEdge) → f h ≡ f g → IsLikeOut edges f g → IsLikeOut edges f h
-  out_from h g e out = record { vertex = out.vertex; half_edge = out.half_edge; leaves = out.leaves; none = out.none; same = e ∙ out.same }
+  vertex_in_range : (h : HalfEdge) → Contains edges h.edge → IsInRange (origin h)
+  vertex_in_range h c = by_direction h.forwards
+    where
+      by_direction : (b : Bool) → IsInRange (origin (record { edge = h.edge; forwards = b }))
+      by_direction true = (in_range h.edge c).lo
+      by_direction false = (in_range h.edge c).hi
+
+  -- the nearest edge below a vertex begins at an earlier one
+  pub below_earlier : (v : Coord) (g : HalfEdge) → Leaves edges v g → (e : Seg) → IsNearestBelow edges (at_coord v) e → IsTrue (is_before e.lo v)
+  below_earlier v g at e nearest =
+      let hv = subst (λ c. IsInRange c) at.from (vertex_in_range g at.among) in
+      let he = (in_range e nearest.below.among).lo in
+      let under = (under-is e (at_coord v)).0 nearest.below.under in
+      let one = mul_one (sweep (at_coord e.lo)) in
+      let from = under.from in
+      before-sweep e.lo v he hv (elim (trichotomy (sweep (at_coord e.lo)) (sweep (at_coord v))) [
+        | inl less ↦ less
+        | inr rest ↦ elim rest [
+          | inl even ↦ absurd (
+              let same = sweep-one_to_one e.lo v he hv even in
+              let zero = subst (λ c. side e (at_coord c) ≡ pos 0) same (side-lo e) in
+              let above = under.above in
+              omega (arith, lin)
+              )
+          | inr more ↦ absurd (omega (arith, lin))
+        ]
+      ])
 
   -- ---- how many half-edges leave before h
 
@@ -118,37 +145,15 @@ module _ {X : Type 0} (edges : List Seg) (planar : IsPlanar edges) (f : HalfEdge
       second_false true b h = h
       second_false false b h = refl
 
-  -- ---- the vertices
-
-  vertex_in_range : (h : HalfEdge) → Contains edges h.edge → IsInRange (origin h)
-  vertex_in_range h c = by_direction h.forwards
-    where
-      by_direction : (b : Bool) → IsInRange (origin (record { edge = h.edge; forwards = b }))
-      by_direction true = (in_range h.edge c).lo
-      by_direction false = (in_range h.edge c).hi
+  -- ---- the induction
 
   not_so_low : (v : Coord) → IsInRange v → (sweep (at_coord v) +ℤ pos (2 ^ 60)) <ℤ pos 0 → ⊥
   unfolding sweep
   not_so_low v h low = omega (arith, lin, pos_times (2 ^ 30) v.x, h.left, h.bottom)
 
-  -- the nearest edge below a vertex begins at a lower one
-  lower_vertex : (v : Coord) → IsInRange v → (e : Seg) → IsNearestBelow edges (at_coord v) e → sweep (at_coord e.lo) <ℤ sweep (at_coord v)
-  lower_vertex v hv e nearest =
-      let under = (under-is e (at_coord v)).0 nearest.below.under in
-      let one = mul_one (sweep (at_coord e.lo)) in
-      let from = under.from in
-      elim (trichotomy (sweep (at_coord e.lo)) (sweep (at_coord v))) [
-        | inl less ↦ less
-        | inr rest ↦ elim rest [
-          | inl even ↦ absurd (
-              let same = sweep-one_to_one e.lo v (in_range e nearest.below.among).lo hv even in
-              let zero = subst (λ c. side e (at_coord c) ≡ pos 0) same (side-lo e) in
-              let above = under.above in
-              omega (arith, lin)
-              )
-          | inr more ↦ absurd (omega (arith, lin))
-        ]
-      ]
+  height : (v : Coord) → IsInRange v → (sweep (at_coord v) +ℤ pos (2 ^ 60)) <ℤ pos (2 ^ 61)
+  unfolding sweep
+  height v h = omega (arith, lin, pos_times (2 ^ 30) v.x, h.right, h.top)
 
   twin_twin : (h : HalfEdge) → twin (twin h) ≡ h
   twin_twin h = ap (λ b. record { edge = h.edge; forwards = b }) (not_not h.forwards)
@@ -164,61 +169,73 @@ module _ {X : Type 0} (edges : List Seg) (planar : IsPlanar edges) (f : HalfEdge
       by_direction true = refl
       by_direction false = refl
 
-  -- by the height m of the vertex, and there by the rank r
-  find_out : (m r : ℕ) (v : Coord) (h : HalfEdge) → Leaves edges v h → (sweep (at_coord v) +ℤ pos (2 ^ 60)) <ℤ pos m → rank v h < r → IsLikeOut edges f h
-  find_out zero r v h at low less = absurd (not_so_low v (subst (λ c. IsInRange c) at.from (vertex_in_range h at.among)) low)
-  find_out (suc m) zero v h at low less = absurd (omega arith)
-  find_out (suc m) (suc r) v h at low less =
-      let (g, next) = some_next edges planar (twin h) at.among in
-      let from_v : origin g ≡ v = next.leaves.from ∙ twin_target h ∙ at.from in
-      let at_g : Leaves edges v g = record { among = next.leaves.among; from = from_v } in
-      let to_g : f h ≡ f g = carried.across h at.among ∙ carried.next (twin h) g next in
-      elim (true_or_false (is_before_by_angle g h)) [
-        | inl before ↦ out_from h g to_g (find_out (suc m) r v g at_g low (omega (arith, rank_less v g h at_g at before)))
-        | inr last ↦ (
-            let over : LeavesOverRay edges v g = record {
-              before = twin h;
-              over = record { follows = next; past_down = ap (λ k. is_before_by_angle g k) (twin_twin h) ∙ last };
-              from = from_v;
-            } in
-            elim (nearest_or_none edges planar (at_coord v)) [
-              | inr none ↦ record { vertex = v; half_edge = g; leaves = over; none = none; same = to_g }
-              | inl found ↦ (
-                  let e = found.0 in
-                  let below : HalfEdge = record { edge = e; forwards = true } in
-                  let at_e : Leaves edges e.lo below = record { among = found.1.below.among; from = refl } in
-                  let down : f g ≡ f below = carried.down v g over e found.1 in
-                  let lower = lower_vertex v (subst (λ c. IsInRange c) at.from (vertex_in_range h at.among)) e found.1 in
-                  out_from h below (to_g ∙ down) (find_out m (suc (rank e.lo below)) e.lo below at_e (omega (arith, lin)) (omega arith))
-                  )
-            ]
-            )
-      ]
+  module _ (Holds : HalfEdge → Type 0) (up : ComesUp edges Holds) where
+    -- by the height m of the vertex, and there by the rank r
+    by_height : (m r : ℕ) (v : Coord) (h : HalfEdge) → Leaves edges v h → (sweep (at_coord v) +ℤ pos (2 ^ 60)) <ℤ pos m → rank v h < r → Holds h
+    by_height zero r v h at low less = absurd (not_so_low v (subst (λ c. IsInRange c) at.from (vertex_in_range h at.among)) low)
+    by_height (suc m) zero v h at low less = absurd (omega arith)
+    by_height (suc m) (suc r) v h at low less =
+        let (g, next) = some_next edges planar (twin h) at.among in
+        let from_v : origin g ≡ v = next.leaves.from ∙ twin_target h ∙ at.from in
+        let at_g : Leaves edges v g = record { among = next.leaves.among; from = from_v } in
+        up.turn h g next (elim (true_or_false (is_before_by_angle g h)) [
+          | inl before ↦ by_height (suc m) r v g at_g low (omega (arith, rank_less v g h at_g at before))
+          | inr last ↦ up.over v g
+              (record {
+                before = twin h;
+                over = record { follows = next; past_down = ap (λ k. is_before_by_angle g k) (twin_twin h) ∙ last };
+                from = from_v;
+              })
+              (λ k c earlier. (
+              let hv = subst (λ c. IsInRange c) at.from (vertex_in_range h at.among) in
+              let lower = sweep-before (origin k) v (vertex_in_range k c) hv earlier in
+              by_height m (suc (rank (origin k) k)) (origin k) k (record { among = c; from = refl }) (omega (arith, lin)) (omega arith)
+              ))
+        ])
 
-  height : (v : Coord) → IsInRange v → (sweep (at_coord v) +ℤ pos (2 ^ 60)) <ℤ pos (2 ^ 61)
-  unfolding sweep
-  height v h = omega (arith, lin, pos_times (2 ^ 30) v.x, h.right, h.top)
+    pub of_all : (h : HalfEdge) → Contains edges h.edge → Holds h
+    of_all h c =
+        by_height (2 ^ 61) (suc (rank (origin h) h)) (origin h) h (record { among = c; from = refl }) (height (origin h) (vertex_in_range h c)) (omega arith)
 
-  pub some_out : (h : HalfEdge) → Contains edges h.edge → IsLikeOut edges f h
-  some_out h c =
-      find_out (2 ^ 61) (suc (rank (origin h) h)) (origin h) h (record { among = c; from = refl }) (height (origin h) (vertex_in_range h c)) (omega arith)
+  -- ---- some link leads past the range
+
+  out_comes_up : ComesUp edges (λ _. HasWayOut edges)
+  out_comes_up = record {
+    turn = λ _ _ _ out. out;
+    over = λ v g over earlier. elim (nearest_or_none edges planar (at_coord v)) [
+      | inl found ↦ earlier (record { edge = found.0; forwards = true }) found.1.below.among (below_earlier v g (leaves_at edges v g over) found.0 found.1)
+      | inr none ↦ record { vertex = v; half_edge = g; leaves = over; none = none }
+    ];
+  }
+
+  pub some_out : (h : HalfEdge) → Contains edges h.edge → HasWayOut edges
+  some_out h c = of_all (λ _. HasWayOut edges) out_comes_up h c
 
 -- ---- a test that twins and joined points keep
 
 module _ (edges : List Seg) (planar : IsPlanar edges) (passes : HalfEdge → Bool) (crossed : IsCrossed edges passes) where
-  passes_carried : IsCarried edges passes
-  passes_carried = record {
-    across = crossed.across;
-    next = λ h g next. crossed.joined h g next.among next.leaves.among (next_joined edges planar h g next);
-    down = λ v g over e nearest. crossed.joined g (record { edge = e; forwards = true }) over.over.follows.leaves.among nearest.below.among (link_down edges planar v g over e nearest);
+  passes_out : (out : HasWayOut edges) → ComesUp edges (λ h. passes h ≡ passes out.half_edge)
+  passes_out out = record {
+    turn = λ h g next same. crossed.across h next.among ∙ crossed.joined (twin h) g next.among next.leaves.among (next_joined edges planar (twin h) g next) ∙ same;
+    over = λ v g over earlier. elim (nearest_or_none edges planar (at_coord v)) [
+      | inl found ↦ (
+          let e = found.0 in
+          let below : HalfEdge = record { edge = e; forwards = true } in
+          let at = leaves_at edges v g over in
+          crossed.joined g below at.among found.1.below.among (link_down edges planar v g over e found.1) ∙ earlier below found.1.below.among (below_earlier edges planar v g at e found.1)
+          )
+      | inr none ↦ (
+          let here = link_out edges planar v g over none in
+          let there = link_out edges planar out.vertex out.half_edge out.leaves out.none in
+          crossed.joined g out.half_edge over.over.follows.leaves.among out.leaves.over.follows.leaves.among
+          (joined-trans edges (left g) far_point (left out.half_edge) here (joined-sym edges (left out.half_edge) far_point there))
+          )
+    ];
   }
 
-  -- so it is the same on all half-edges: those past which links lead out are joined
+  -- so it is the same on all half-edges
   pub crossed_same : (h g : HalfEdge) → Contains edges h.edge → Contains edges g.edge → passes h ≡ passes g
   crossed_same h g in_h in_g =
-      let a = some_out edges planar passes passes_carried h in_h in
-      let b = some_out edges planar passes passes_carried g in_g in
-      let far_a = link_out edges planar a.vertex a.half_edge a.leaves a.none in
-      let far_b = link_out edges planar b.vertex b.half_edge b.leaves b.none in
-      let both = joined-trans edges (left a.half_edge) far_point (left b.half_edge) far_a (joined-sym edges (left b.half_edge) far_point far_b) in
-      a.same ∙ crossed.joined a.half_edge b.half_edge a.leaves.over.follows.leaves.among b.leaves.over.follows.leaves.among both ∙ sym b.same
+      let out = some_out edges planar h in_h in
+      let on_all = of_all edges planar (λ k. passes k ≡ passes out.half_edge) (passes_out out) in
+      on_all h in_h ∙ sym (on_all g in_g)

@@ -10,7 +10,7 @@ use Rattle.sectors.specs.Sector.{HalfEdge, left, IsNext, AreDistinct, IsPlanar}
 use Rattle.regions.specs.Below.{IsNearestBelow, HasNoneBelow}
 use Rattle.crossings.specs.Crossing.{IsBalanced}
 use Rattle.regions.specs.Weights.{weigh_sides}
-use Rattle.regions.specs.Linked.{LeavesOverRay, IsLinkOut, IsLinked, IsKept}
+use Rattle.regions.specs.Linked.{LeavesOverRay, IsLinkOut, IsLinked, IsKept, IsWalk}
 use Rattle.regions.specs.Crossed.{IsCrossed}
 
 -- ---- the edge below
@@ -83,3 +83,13 @@ OneNumberingLaw = (edges : List Seg) (number other : ℕ → ℕ) → AreRegions
 abbrev pub WalkLaw : Type 0
 WalkLaw = (edges : List Seg) → IsPlanar edges → AreDistinct edges → (number : ℕ → ℕ) → ((n m : ℕ) → IsLinked edges n m → number n ≡ number m)
     → ((n : ℕ) (p : Point) → IsSide edges n p → (number n ≤ n) × IsJoinedSide edges p (number n)) → AreRegions edges number
+
+-- numbers of a walk, which links down only where no earlier side is, are the regions too, where each is the number of a side that is no later and is joined with its own
+abbrev pub FewerLinksLaw : Type 0
+FewerLinksLaw = (edges : List Seg) → IsPlanar edges → AreDistinct edges → (number : ℕ → ℕ) (outer : ℕ) → IsWalk edges number outer
+    → ((n : ℕ) (p : Point) → IsSide edges n p → (number n ≤ n) × IsJoinedSide edges p (number n)) → AreRegions edges number
+
+-- and on such a walk each side with an outer side point has the number of the outer region
+abbrev pub OuterNumberLaw : Type 0
+OuterNumberLaw = (edges : List Seg) → IsPlanar edges → AreDistinct edges → (number : ℕ → ℕ) (outer : ℕ) → IsWalk edges number outer
+    → (n : ℕ) (p : Point) → IsSide edges n p → IsOuter edges p → number n ≡ outer

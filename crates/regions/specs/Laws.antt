@@ -10,7 +10,8 @@ use Rattle.sectors.specs.Sector.{HalfEdge, left, IsNext, AreDistinct, IsPlanar}
 use Rattle.regions.specs.Below.{IsNearestBelow, HasNoneBelow}
 use Rattle.crossings.specs.Crossing.{IsBalanced}
 use Rattle.regions.specs.Weights.{weigh_sides}
-use Rattle.regions.specs.Linked.{LeavesOverRay, IsLinkOut, IsLinked, IsKept}
+use Rattle.regions.specs.Linked.{LeavesOverRay, IsLinkOut, IsLinked, IsKept, IsWalk}
+use Rattle.regions.specs.Crossed.{IsCrossed}
 
 -- ---- the edge below
 
@@ -61,6 +62,13 @@ abbrev pub JoinedNumberLaw : Type 0
 JoinedNumberLaw = (edges : List Seg) → IsPlanar edges → AreDistinct edges → (number : ℕ → ℕ) → ((n m : ℕ) → IsLinked edges n m → number n ≡ number m)
     → (n m : ℕ) (p q : Point) → IsSide edges n p → IsSide edges m q → Joined edges p q → number n ≡ number m
 
+-- ---- tests that a crossing keeps
+
+-- each region is reached from each other one over edges: a test that is the same across each edge and at joined points is the same on all sides
+abbrev pub CrossedLaw : Type 0
+CrossedLaw = (edges : List Seg) → IsPlanar edges → (passes : HalfEdge → Bool) → IsCrossed edges passes
+    → (h g : HalfEdge) → Contains edges h.edge → Contains edges g.edge → passes h ≡ passes g
+
 -- ---- the numbers of the regions
 
 -- there are numbers that give each side its region, the least side that it is joined with
@@ -75,3 +83,13 @@ OneNumberingLaw = (edges : List Seg) (number other : ℕ → ℕ) → AreRegions
 abbrev pub WalkLaw : Type 0
 WalkLaw = (edges : List Seg) → IsPlanar edges → AreDistinct edges → (number : ℕ → ℕ) → ((n m : ℕ) → IsLinked edges n m → number n ≡ number m)
     → ((n : ℕ) (p : Point) → IsSide edges n p → (number n ≤ n) × IsJoinedSide edges p (number n)) → AreRegions edges number
+
+-- numbers of a walk, which links down only where no earlier side is, are the regions too, where each is the number of a side that is no later and is joined with its own
+abbrev pub FewerLinksLaw : Type 0
+FewerLinksLaw = (edges : List Seg) → IsPlanar edges → AreDistinct edges → (number : ℕ → ℕ) (outer : ℕ) → IsWalk edges number outer
+    → ((n : ℕ) (p : Point) → IsSide edges n p → (number n ≤ n) × IsJoinedSide edges p (number n)) → AreRegions edges number
+
+-- and on such a walk each side with an outer side point has the number of the outer region
+abbrev pub OuterNumberLaw : Type 0
+OuterNumberLaw = (edges : List Seg) → IsPlanar edges → AreDistinct edges → (number : ℕ → ℕ) (outer : ℕ) → IsWalk edges number outer
+    → (n : ℕ) (p : Point) → IsSide edges n p → IsOuter edges p → number n ≡ outer

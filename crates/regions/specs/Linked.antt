@@ -1,8 +1,11 @@
 -- How sides of edges are linked: to the side that follows, and down the ray to the edge below.
-use Rattle.std.specs.Prelude.{◌≡◌, ◌⊎◌, ℕ, Bool, true, false, List}
+use Rattle.std.specs.Prelude.{◌≡◌, ◌⊎◌, ℕ, Bool, true, false, IsTrue, List}
 use Rattle.cov_types.specs.declared.coord.Coord.{Coord}
 use Rattle.cov_types.specs.declared.seg.Seg.{Seg}
-use Rattle.plane.specs.Point.{at_coord}
+use Rattle.cov_types.specs.Coord.{is_before}
+use Rattle.plane.specs.Point.{Point, at_coord}
+use Rattle.plane.specs.Joined.{Joined}
+use Rattle.plane.specs.Region.{IsSide}
 use Rattle.sectors.specs.Sector.{HalfEdge, origin, twin, is_before_by_angle, IsHalfEdge, IsNext, IsNextNumber}
 use Rattle.regions.specs.Below.{IsNearestBelow, HasNoneBelow}
 
@@ -40,6 +43,31 @@ pub record IsLinkOut (edges : List Seg) (n : ℕ) : Type 0 where
 -- the sides follow one another, or a link leads from the first down to the second, or from both past the range
 abbrev pub IsLinked : List Seg → ℕ → ℕ → Type 0
 IsLinked edges n m = IsNextNumber edges n m ⊎ (IsLinkDown edges n m ⊎ (IsLinkOut edges n × IsLinkOut edges m))
+
+-- the half-edge with the number n leaves v
+pub record IsNumberFrom (edges : List Seg) (n : ℕ) (v : Coord) : Type 0 where
+  pub half_edge : HalfEdge
+  pub is : IsHalfEdge edges n half_edge
+  pub from : origin half_edge ≡ v
+
+-- a side that leaves an earlier vertex than v has the number of the side n, and a side point that is joined with that of n
+pub record HasEarlier (edges : List Seg) (number : ℕ → ℕ) (n : ℕ) (v : Coord) : Type 0 where
+  pub side : ℕ
+  pub vertex : Coord
+  pub from : IsNumberFrom edges side vertex
+  pub earlier : IsTrue (is_before vertex v)
+  pub same : number n ≡ number side
+  pub joined : (p q : Point) → IsSide edges n p → IsSide edges side q → Joined edges p q
+
+-- the side n, which leaves v over the ray, has the number of the side that a link down leads to, or that of the outer region where none is below v
+pub record IsTiedDown (edges : List Seg) (number : ℕ → ℕ) (outer n : ℕ) (v : Coord) : Type 0 where
+  pub down : (e : Seg) (m : ℕ) → IsNearestBelow edges (at_coord v) e → IsHalfEdge edges m (record { edge = e; forwards = true }) → number n ≡ number m
+  pub out : HasNoneBelow edges (at_coord v) → number n ≡ outer
+
+-- the numbers are the same along next, and each side that leaves a vertex over the ray is tied down, or has an earlier side
+pub record IsWalk (edges : List Seg) (number : ℕ → ℕ) (outer : ℕ) : Type 0 where
+  pub next : (n m : ℕ) → IsNextNumber edges n m → number n ≡ number m
+  pub over : (n : ℕ) (v : Coord) → IsNumberOverRay edges n v → HasEarlier edges number n v ⊎ IsTiedDown edges number outer n v
 
 -- the test is the same on the left of half-edges that follow one another, along each link down, and at all links past the range
 pub record IsKept (edges : List Seg) (passes : HalfEdge → Bool) : Type 0 where

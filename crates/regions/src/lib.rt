@@ -2,10 +2,12 @@
 //!
 //! Its promise, for any list of edges in range that meet in ends alone: a point off the edges is joined with the upper side point of the
 //! nearest edge below it, and is outer where there is none; and, where no edge stands twice, two sides have joined side points exactly
-//! where links tie them. It has laws and no code: each is what a call that does nothing ensures.
+//! where links tie them; and each region is reached from each other one over edges. It has laws and no code: each is what a call that
+//! does nothing ensures.
 //!
 //! A side is linked to the side that follows it round the region, and, where the sector at its vertex has the way straight down the ray
-//! in it, to the upper side of the nearest edge below the vertex, or past the range.
+//! in it, to the upper side of the nearest edge below the vertex, or past the range. A link down is enough where no side of the same
+//! region that was tied to this one in another way leaves an earlier vertex: so one link for each boundary cycle, at its least vertex.
 //!
 //! A crate above takes a lemma by `use Rattle.regions.proofs.FILE.{NAME}` in its `proofs/`. The files, lowest first:
 //!
@@ -16,9 +18,13 @@
 //! - `Nearest`: edges below a point are ordered, so there is a nearest one or none (`nearest_or_none`).
 //! - `Balance`: for a test on sides that next keeps, what lower sides weigh more than upper ones is balanced, by renumbering along next
 //!   (`balanced_sides`).
-//! - `Kept`: so the crossing sum less a side's own weight is one number on all sides, down to a link past the range, and a test that links
-//!   keep is the same on joined sides (`kept_joined`).
-//! - `Numbered`: the same for numbers (`joined_number`), and when they are the numbers of the regions (`walk_regions`, `one_numbering`).
+//! - `Outwards`: what each half-edge has from the next one after its twin, and one over the ray from those that leave earlier vertices, all
+//!   have (`of_all`); so some link leads past the range (`some_out`), and a test that crossings keep is the same on all sides
+//!   (`crossed_same`).
+//! - `Kept`: so the crossing sum less a side's own weight is one number on all sides, and a test that a walk keeps is the same on joined
+//!   sides (`walk_test_joined`); one that all links keep is such a test (`kept_joined`).
+//! - `Numbered`: the same for numbers (`walk_joined`, `outer_number`, `joined_number`), and when they are the numbers of the regions
+//!   (`fewer_links_regions`, `walk_regions`, `one_numbering`).
 //! - `Exists`: merging the two sides of each link gives such numbers (`regions_exist`).
 #![tactic(auto)]
 

@@ -1,5 +1,5 @@
 use Rattle.regions.proofs.Exists.{regions_exist}
-use Rattle.regions.proofs.Numbered.{one_numbering, walk_regions}
+use Rattle.regions.proofs.Numbered.{one_numbering, walk_regions, fewer_links_regions, outer_number}
 use Rattle.regions.proofs.number.number_law.Goals as goal
 
 pub returns-clause-some : goal.returns-clause-some
@@ -10,3 +10,9 @@ returns-clause-one c = one_numbering
 
 pub returns-clause-walk : goal.returns-clause-walk
 returns-clause-walk c = walk_regions
+
+pub returns-clause-fewer_links : goal.returns-clause-fewer_links
+returns-clause-fewer_links c = fewer_links_regions
+
+pub returns-clause-outer : goal.returns-clause-outer
+returns-clause-outer c = outer_number

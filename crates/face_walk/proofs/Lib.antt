@@ -1,2 +1,4 @@
 pub mod Nearer
 pub mod Depth
+pub mod Places
+pub mod Cycles

@@ -1,20 +1,12 @@
--- The places that links tie: the sides of the edges, and the place past the range.
-use Rattle.std.specs.Prelude.{◌≡◌, ◌⊎◌, ℕ, ◌*◌, List, [], ◌∷◌, ◌++◌, length, Some, slice_get}
+-- Links between places: the sides of the edges, and the place past the range, whose number is that after the sides.
+use Rattle.std.specs.Prelude.{◌≡◌, ◌⊎◌, ℕ, ◌*◌, List, length, Contains, IsTrue}
 use Rattle.cov_types.specs.declared.coord.Coord.{Coord}
 use Rattle.cov_types.specs.declared.seg.Seg.{Seg}
+use Rattle.cov_types.specs.Coord.{is_before}
 use Rattle.connected.specs.declared.link.Link.{Link}
-use Rattle.plane.specs.Point.{Point}
-use Rattle.plane.specs.Region.{side_points, far_point}
+use Rattle.connected.specs.Connected.{IsConnected}
 use Rattle.sectors.specs.Sector.{IsNextNumber}
-use Rattle.regions.specs.Linked.{IsNumberOverRay, IsLinkDown, IsLinkOut}
-
--- the points of the places: the side points, and after them the point past the range
-abbrev pub place_points : List Seg → List Point
-place_points edges = side_points edges ++ far_point ∷ []
-
--- n is a place, and p its point
-abbrev pub IsPlace : List Seg → ℕ → Point → Type 0
-IsPlace edges n p = slice_get (place_points edges) n ≡ Some p
+use Rattle.regions.specs.Linked.{IsNumberOverRay, IsLinkDown, IsLinkOut, IsNumberFrom}
 
 -- the half-edge with the number leaves a vertex over the ray
 abbrev pub IsOver : List Seg → ℕ → Type 0
@@ -31,3 +23,17 @@ IsLink edges link = IsNextNumber edges link.from link.to ⊎ IsLinkBelow edges l
 -- the link leads down the ray from the side that follows the half-edge h
 abbrev pub IsLinkAfter : List Seg → ℕ → Link → Type 0
 IsLinkAfter edges h link = IsNextNumber edges h link.from × IsLinkBelow edges link.from link.to
+
+-- links connect n with a side that leaves an earlier vertex than v
+pub record LeavesEarlier (edges : List Seg) (links : List Link) (n : ℕ) (v : Coord) : Type 0 where
+  pub side : ℕ
+  pub vertex : Coord
+  pub from : IsNumberFrom edges side vertex
+  pub earlier : IsTrue (is_before vertex v)
+  pub way : IsConnected links n side
+
+-- each link leads along next or down the ray, all of those along next are there, and a side that leaves a vertex over the ray is linked down, or connected with one that leaves an earlier vertex
+pub record AreLinks (edges : List Seg) (links : List Link) : Type 0 where
+  pub sound : (link : Link) → Contains links link → IsLink edges link
+  pub along : (n m : ℕ) → IsNextNumber edges n m → Contains links (record { from = n; to = m })
+  pub down : (n : ℕ) (v : Coord) → IsNumberOverRay edges n v → LeavesEarlier edges links n v ⊎ ((m : ℕ) → IsLinkBelow edges n m → Contains links (record { from = n; to = m }))

@@ -9,6 +9,7 @@
 #![tactic(auto)]
 
 mod below;
+mod cycle;
 mod links;
 mod region;
 

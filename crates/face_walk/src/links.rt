@@ -1,8 +1,13 @@
-ghost use Rattle.std.specs.Prelude.{◌≡◌, ◌*◌, ◌<◌, ◌↔◌, ℕ, length, Contains, Some, IfOk};
+ghost use Rattle.std.specs.Prelude.{◌≡◌, ◌⊎◌, ◌*◌, ◌<◌, ◌↔◌, ℕ, length, List, All, Contains, Some, IfOk};
+ghost use Rattle.cov_types.specs.declared.coord.Coord.{Coord};
 ghost use Rattle.connected.specs.declared.link.Link.{Link};
-ghost use Rattle.face_walk.specs.Links.{IsOver, IsLinkBelow, IsLink, IsLinkAfter};
+ghost use Rattle.sectors.specs.Sector.{IsNextNumber};
+ghost use Rattle.regions.specs.Linked.{IsNumberOverRay};
+ghost use Rattle.face_walk.specs.Cycles.{AreAlong, AreFirst};
+ghost use Rattle.face_walk.specs.Links.{IsOver, IsLinkBelow, IsLinkAfter, LeavesEarlier, AreLinks};
 
 use crate::below::nearest_below;
+use crate::cycle::first_of_cycles;
 use connected::Link;
 use cov_types::{NoMemory, Seg};
 use half_edge::Arena;
@@ -15,10 +20,25 @@ pub fn place_past_range(a: &Arena) -> usize
     a.len()
 }
 
-/// The links between the sides of an arena's edges and the place past the range.
+/// The links between the sides of an arena's edges and the place past the range: from each side to the next one, and from the least
+/// vertex of a boundary cycle down the ray, where the sector of the cycle at that vertex has this way in it.
 pub fn links(alloc: Global, a: &Arena, edges: &[Seg]) -> Result<Vec<Link>, NoMemory>
     requires { edges.now ≡ a.now }
-    ensures { IfOk result (λ v. (link : Link) → Contains v.items link ↔ IsLink a.now link) }
+    ensures { IfOk result (λ v. AreLinks a.now v.items) }
+{
+    let mut links = links_along(alloc, a)?;
+    let first = first_of_cycles(alloc, a, &links)?;
+    for h in 0..a.len() {
+        if let Some(link) = link_down(a, edges, &first, h) {
+            links.push(link)?;
+        }
+    }
+    Ok(links)
+}
+
+// The links from each side to the next one.
+fn links_along(alloc: Global, a: &Arena) -> Result<Vec<Link>, NoMemory>
+    ensures { IfOk result (λ v. AreAlong a.now v.items) }
 {
     let mut links = Vec::new(alloc);
     for h in 0..a.len() {
@@ -26,23 +46,30 @@ pub fn links(alloc: Global, a: &Arena, edges: &[Seg]) -> Result<Vec<Link>, NoMem
             from: h,
             to: a.next(h),
         })?;
-        if let Some(link) = link_down(a, edges, h) {
-            links.push(link)?;
-        }
     }
     Ok(links)
 }
 
-// The link down from the side that follows h, where the sector between the two has the way straight down the ray in it.
-fn link_down(a: &Arena, edges: &[Seg], h: usize) -> Option<Link>
+// The link down from the side that follows h, where the sector between the two has the way straight down the ray in it, and the vertex
+// is the least of its boundary cycle.
+fn link_down(a: &Arena, edges: &[Seg], first: &[usize], h: usize) -> Option<Link>
     requires edges { edges.now ≡ a.now }
     requires within { h < 2 * length a.now }
-    ensures { (link : Link) → (result ≡ Some link) ↔ IsLinkAfter a.now h link }
+    requires first_count { length first.now ≡ 2 * length a.now }
+    requires first_within { All (λ k. k < 2 * length a.now) first.now }
+    ensures sound { (link : Link) → result ≡ Some link → IsLinkAfter a.now h link }
+    ensures complete {
+        (along : List Link) (n : ℕ) (v : Coord) → AreFirst a.now along first.now → IsNextNumber a.now h n → IsNumberOverRay a.now n v
+            → LeavesEarlier a.now along n v ⊎ ((m : ℕ) → IsLinkBelow a.now n m → result ≡ Some (record { from = n; to = m }))
+    }
 {
     if !a.opens_down(h) {
         return None;
     }
     let from = a.next(h);
+    if a.origin(first[from]) != a.origin(from) {
+        return None;
+    }
     Some(Link {
         from,
         to: place_below(a, edges, from),

@@ -1,5 +1,5 @@
 -- What is known while components are numbered, from the least start upwards.
-use Rattle.std.specs.Prelude.{◌≡◌, ◌⊎◌, ℕ, ◌+◌, ◌<◌, ◌≤◌, ◌↔◌, List, [], length, All, Contains, Some, slice_get, slice_index, count_by, nat_lt}
+use Rattle.std.specs.Prelude.{◌≡◌, ◌⊎◌, ℕ, ◌+◌, ◌<◌, ◌≤◌, ◌↔◌, List, length, All, Contains, Some, slice_get, slice_index, count_by, nat_lt}
 use Rattle.std.specs.Global.{Vec}
 use Rattle.connected.specs.declared.link.Link.{Link}
 use Rattle.connected.specs.Connected.{IsTied, IsConnected}
@@ -46,3 +46,15 @@ AreWithin nodes links = All (λ l. (l.from < nodes) × (l.to < nodes)) links
 abbrev pub IsSpread : List (Vec ℕ) → ℕ → List ℕ → List ℕ → Type 0
 IsSpread lists start before after = (links : List Link) → AreWithin (length before) links → AreNeighbours (length before) links lists
     → AreNumbered (length before) links start start before → AreNumbered (length before) links (start + 1) (start + 1) after
+
+-- so many lists of nodes, each node one of so many
+pub record AreListsWithin (nodes : ℕ) (lists : List (Vec ℕ)) : Type 0 where
+  pub count : length lists ≡ nodes
+  pub each : (x : ℕ) (list : Vec ℕ) → slice_get lists x ≡ Some list → All (λ y. y < nodes) list.items
+
+-- while one component is numbered: whatever links the lists are of, the nodes that wait are those with work left
+pub record IsSpreading (lists : List (Vec ℕ)) (start : ℕ) (before after waiting : List ℕ) : Type 0 where
+  pub count : length after ≡ length before
+  pub within : (x : ℕ) → Contains waiting x → x < length before
+  pub so_far : (links : List Link) → AreWithin (length before) links → AreNeighbours (length before) links lists → AreNumbered (length before) links start start before
+      → AreNumbered (length before) links start (start + 1) after × AreWaiting (length before) links start after waiting

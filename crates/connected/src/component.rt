@@ -1,6 +1,6 @@
 ghost use Rattle.std.specs.Prelude.{◌≡◌, ◌+◌, ◌<◌, All, IfOk, OnOk, length, slice_index};
 ghost use Rattle.connected.specs.Connected.{AreComponents};
-ghost use Rattle.connected.specs.Spreading.{AreVisited, IsSpread};
+ghost use Rattle.connected.specs.Spreading.{AreListsWithin, AreVisited, IsSpread};
 
 use crate::link::Link;
 use crate::neighbours::neighbour_lists;
@@ -30,6 +30,7 @@ fn spread(
     start: usize,
     least: &mut [usize],
 ) -> Result<(), NoMemory>
+    requires lists { AreListsWithin (length least.old) neighbours.now }
     requires within { start < length least.old }
     requires own { slice_index least.old start ≡ start }
     ensures { OnOk result (IsSpread neighbours.now start least.old least.new) }

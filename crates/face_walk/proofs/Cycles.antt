@@ -23,25 +23,22 @@ use Rattle.sectors.specs.Sector.{HalfEdge, origin, IsHalfEdge}
 use Rattle.regions.specs.Linked.{IsNumberFrom}
 use Rattle.face_walk.specs.Cycles.{AreAlong, IsNoEarlier, IsFirstOfCycle, AreFirst, AreFirstAmong}
 use Rattle.face_walk.proofs.Places.{number_within, some_half_edge}
+use Rattle.face_walk.proofs.LinksDown.{BeginsAt}
 
 -- what `<` answers
 before_is : (a b : Coord) → partial_lt partial_cmp-value.it a b ≡ is_before a b
 before_is a b = grind (arith, ints)
 
--- each half-edge with the number leaves v
-abbrev pub AllLeave : List Seg → ℕ → Coord → Type 0
-AllLeave edges n v = (g : HalfEdge) → IsHalfEdge edges n g → v ≡ origin g
-
 -- from their vertices: m leaves v and k leaves w
-no_earlier_by : (edges : List Seg) (m k : ℕ) (v w : Coord) → AllLeave edges m v → AllLeave edges k w → (IsTrue (is_before v w) → ⊥) → IsNoEarlier edges m k
+no_earlier_by : (edges : List Seg) (m k : ℕ) (v w : Coord) → BeginsAt edges m v → BeginsAt edges k w → (IsTrue (is_before v w) → ⊥) → IsNoEarlier edges m k
 no_earlier_by edges m k v w all_m all_k none x y from_m from_k before =
     none (subst (λ a. IsTrue (is_before a w)) (sym (all_m from_m.half_edge from_m.is ∙ from_m.from)) (subst (λ b. IsTrue (is_before x b)) (sym (all_k from_k.half_edge from_k.is ∙ from_k.from)) before))
 
-no_earlier_itself : (edges : List Seg) (k : ℕ) (v : Coord) → AllLeave edges k v → IsNoEarlier edges k k
+no_earlier_itself : (edges : List Seg) (k : ℕ) (v : Coord) → BeginsAt edges k v → IsNoEarlier edges k k
 no_earlier_itself edges k v all = no_earlier_by edges k k v v all all (λ before. true≢false (sym before ∙ is_before-irrefl v))
 
 -- k leaves an earlier vertex than j, and m no earlier one than j
-no_earlier_past : (edges : List Seg) (m j k : ℕ) (v w : Coord) → AllLeave edges k v → AllLeave edges j w → IsNumberFrom edges j w → IsTrue (is_before v w) → IsNoEarlier edges m j → IsNoEarlier edges m k
+no_earlier_past : (edges : List Seg) (m j k : ℕ) (v w : Coord) → BeginsAt edges k v → BeginsAt edges j w → IsNumberFrom edges j w → IsTrue (is_before v w) → IsNoEarlier edges m j → IsNoEarlier edges m k
 no_earlier_past edges m j k v w all_k all_j at_j before rest x y from_m from_k earlier =
     rest x w from_m at_j
     (is_before-trans x v w (subst (λ b. IsTrue (is_before x b)) (sym (all_k from_k.half_edge from_k.is ∙ from_k.from)) earlier) before)
@@ -69,7 +66,7 @@ module _ (edges : List Seg) (cycles : List ℕ) where
       is ∙ get_or_default_zero table (get_or cycles h 0) k (omega (arith, c_below, places))
 
   -- h leaves v, no earlier vertex than w, which k leaves
-  pub first-keep : (h k : ℕ) (table : List ℕ) (v w : Coord) → k ≡ get_or table (get_or cycles h 0) 0 → AllLeave edges h v → AllLeave edges k w
+  pub first-keep : (h k : ℕ) (table : List ℕ) (v w : Coord) → k ≡ get_or table (get_or cycles h 0) 0 → BeginsAt edges h v → BeginsAt edges k w
       → partial_lt partial_cmp-value.it v w ≡ false → AreFirstAmong edges cycles h table → AreFirstAmong edges cycles (h + 1) table
   first-keep h k table v w is_k all_h all_k not_before so_far = record {
     places = so_far.places;
@@ -84,7 +81,7 @@ module _ (edges : List Seg) (cycles : List ℕ) where
 
   -- h leaves v, an earlier vertex than w, which k leaves
   pub first-set : (h k : ℕ) (table : List ℕ) (v w : Coord) → h < 2 * length edges → get_or cycles h 0 < 2 * length edges → k ≡ get_or table (get_or cycles h 0) 0
-      → AllLeave edges h v → AllLeave edges k w → partial_lt partial_cmp-value.it v w ≡ true → AreFirstAmong edges cycles h table
+      → BeginsAt edges h v → BeginsAt edges k w → partial_lt partial_cmp-value.it v w ≡ true → AreFirstAmong edges cycles h table
       → AreFirstAmong edges cycles (h + 1) (set table (get_or cycles h 0) h)
   first-set h k table v w below below_c is_k all_h all_k before so_far = let c = get_or cycles h 0 in record {
     places = length-set table c h ∙ so_far.places;
@@ -125,7 +122,7 @@ module _ (edges : List Seg) (cycles : List ℕ) where
 
   -- one step, as the code takes it
   pub first-more : (h k : ℕ) (table after : List ℕ) (v w : Coord) (b less : Bool) → All (λ c. c < 2 * length edges) cycles → length cycles ≡ 2 * length edges → h < 2 * length edges
-      → k ≡ get_or table (get_or cycles h 0) k → AllLeave edges h v → AllLeave edges k w → less ≡ partial_lt partial_cmp-value.it v w → less ≡ b
+      → k ≡ get_or table (get_or cycles h 0) k → BeginsAt edges h v → BeginsAt edges k w → less ≡ partial_lt partial_cmp-value.it v w → less ≡ b
       → after ≡ cond b (set table (get_or cycles h 0) h) table → AreFirstAmong edges cycles h table → AreFirstAmong edges cycles (h + 1) after
   first-more h k table after v w true less within count below is_k all_h all_k test is_b is so_far = subst (λ (xs : List ℕ). AreFirstAmong edges cycles (h + 1) xs) (sym is)
       (first-set h k table v w below (number_within_at h within count below) (read_at h k table within count below so_far.places is_k) all_h all_k (sym test ∙ is_b) so_far)
@@ -223,3 +220,16 @@ first-returned edges along count index cycles numbers items first table is exact
     first-all edges along cycles first table (along-within edges along (2 * length edges) exact refl) components
     (subst (λ (xs : List ℕ). AreFirstAmong edges xs (2 * length edges) first) same among) (read.places ∙ index_is)
     (λ n below. read.each n (omega (arith, below, index_is)) ∙ ap (λ (xs : List ℕ). get_or first (get_or xs n 0) 0) same_items)
+
+-- ---- for the caller
+
+pub first-shown : (edges : List Seg) (along links : List Link) (first table : List ℕ) → along ≡ links → table ≡ first → AreFirst edges along first → AreFirst edges links table
+first-shown edges along links first table same same_first all =
+    subst (λ (ls : List Link). AreFirst edges ls table) same (subst (λ (xs : List ℕ). AreFirst edges along xs) (sym same_first) all)
+
+pub first-within : (edges : List Seg) (along : List Link) (table : List ℕ) → AreAlong edges along → AreFirst edges along table → All (λ k. k < 2 * length edges) table
+first-within edges along table exact all i d below =
+    let places = all.count in
+    let i_below : i < 2 * length edges = omega (arith, below, places) in
+    let within = connected-within (2 * length edges) along i (get_or table i 0) (along-within edges along (2 * length edges) exact refl) i_below (all.each i i_below).way in
+    subst (λ k. k < 2 * length edges) (sym (get_or_default_zero table i d below)) within

@@ -1,11 +1,13 @@
 -- Places, and what links between them join.
 use mathlib.Core.List.{List, [], ◌∷◌}
-use Rattle.std.proofs.Common.{◌≡◌, refl, sym, ◌∙◌, ap, subst, ℕ, zero, suc, ◌+◌, ◌*◌, ◌<◌, length, true, Contains, Some, slice_get, ◌⊎◌, inl, inr, arith}
+use Rattle.std.proofs.Common.{◌≡◌, refl, sym, ◌∙◌, ap, subst, ℕ, zero, suc, ◌+◌, ◌*◌, ◌<◌, length, get_or, true, Contains, Some, slice_get, ◌⊎◌, inl, inr, arith}
 use Rattle.std.proofs.lemmas.Bool.{cases_lt}
 use Rattle.std.proofs.lemmas.Option.{slice_get_within}
 use Rattle.cov_types.specs.declared.seg.Seg.{Seg}
 use Rattle.connected.specs.declared.link.Link.{Link}
 use Rattle.connected.specs.Connected.{IsTied, LeadsAlong}
+use Rattle.connected.specs.Spreading.{AreWithin}
+use Rattle.std.proofs.lemmas.List.Elements.{Contains-get_or}
 use Rattle.plane.specs.Point.{Point}
 use Rattle.plane.specs.Joined.{IsOff, Joined}
 use Rattle.plane.specs.Region.{far_point, IsSide, IsOuter}
@@ -17,7 +19,7 @@ use Rattle.sectors.proofs.Sectors.{next_joined}
 use Rattle.regions.specs.Linked.{IsLinkDown, IsLinkOut}
 use Rattle.regions.proofs.Links.{linked_joined, out_side}
 use Rattle.regions.proofs.Numbered.{side_half_edge}
-use Rattle.face_walk.specs.Links.{IsLinkBelow, IsLink}
+use Rattle.face_walk.specs.Links.{IsLinkBelow, IsLink, AreLinks}
 
 -- ---- the numbers of sides
 
@@ -107,6 +109,9 @@ link_within edges link h =
             )
       ]
     ]
+
+pub links_within : (edges : List Seg) (links : List Link) → AreLinks edges links → AreWithin (2 * length edges + 1) links
+links_within edges links made i d below = link_within edges (get_or links i d) (made.sound (get_or links i d) (Contains-get_or links i d below))
 
 link_joined : (edges : List Seg) → IsPlanar edges → (link : Link) → IsLink edges link → (p q : Point) → IsPlace edges link.from p → IsPlace edges link.to q → Joined edges p q
 link_joined edges planar link h p q at_p at_q =

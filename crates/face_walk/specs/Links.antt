@@ -1,5 +1,5 @@
 -- Links between places: the sides of the edges, and the place past the range, whose number is that after the sides.
-use Rattle.std.specs.Prelude.{◌≡◌, ◌⊎◌, ℕ, ◌*◌, List, length, Contains, IsTrue}
+use Rattle.std.specs.Prelude.{◌≡◌, ◌⊎◌, ℕ, ◌*◌, List, length, Contains, IsTrue, Option, Some}
 use Rattle.cov_types.specs.declared.coord.Coord.{Coord}
 use Rattle.cov_types.specs.declared.seg.Seg.{Seg}
 use Rattle.cov_types.specs.Coord.{is_before}
@@ -7,6 +7,7 @@ use Rattle.connected.specs.declared.link.Link.{Link}
 use Rattle.connected.specs.Connected.{IsConnected}
 use Rattle.sectors.specs.Sector.{IsNextNumber}
 use Rattle.regions.specs.Linked.{IsNumberOverRay, IsLinkDown, IsLinkOut, IsNumberFrom}
+use Rattle.face_walk.specs.Cycles.{AreFirst}
 
 -- the half-edge with the number leaves a vertex over the ray
 abbrev pub IsOver : List Seg → ℕ → Type 0
@@ -31,6 +32,12 @@ pub record LeavesEarlier (edges : List Seg) (links : List Link) (n : ℕ) (v : C
   pub from : IsNumberFrom edges side vertex
   pub earlier : IsTrue (is_before vertex v)
   pub way : IsConnected links n side
+
+-- the answer is a link down from the side that follows h, and it is there where that side leaves a vertex over the ray, unless links along next connect it with a side that leaves an earlier vertex
+pub record AnswersLinkDown (edges : List Seg) (first : List ℕ) (h : ℕ) (answer : Option Link) : Type 0 where
+  pub sound : (link : Link) → answer ≡ Some link → IsLinkAfter edges h link
+  pub complete : (along : List Link) (n : ℕ) (v : Coord) → AreFirst edges along first → IsNextNumber edges h n → IsNumberOverRay edges n v
+      → LeavesEarlier edges along n v ⊎ ((m : ℕ) → IsLinkBelow edges n m → answer ≡ Some (record { from = n; to = m }))
 
 -- each link leads along next or down the ray, all of those along next are there, and a side that leaves a vertex over the ray is linked down, or connected with one that leaves an earlier vertex
 pub record AreLinks (edges : List Seg) (links : List Link) : Type 0 where

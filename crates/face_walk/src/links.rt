@@ -1,10 +1,7 @@
-ghost use Rattle.std.specs.Prelude.{◌≡◌, ◌⊎◌, ◌*◌, ◌<◌, ◌↔◌, ℕ, length, List, All, Contains, Some, IfOk};
-ghost use Rattle.cov_types.specs.declared.coord.Coord.{Coord};
-ghost use Rattle.connected.specs.declared.link.Link.{Link};
-ghost use Rattle.sectors.specs.Sector.{IsNextNumber};
-ghost use Rattle.regions.specs.Linked.{IsNumberOverRay};
-ghost use Rattle.face_walk.specs.Cycles.{AreAlong, AreFirst};
-ghost use Rattle.face_walk.specs.Links.{IsOver, IsLinkBelow, IsLinkAfter, LeavesEarlier, AreLinks};
+ghost use Rattle.std.specs.Prelude.{◌≡◌, ◌*◌, ◌<◌, ◌↔◌, ℕ, length, All, IfOk};
+ghost use Rattle.sectors.specs.Sector.{IsPlanar, AreDistinct};
+ghost use Rattle.face_walk.specs.Cycles.{AreAlong};
+ghost use Rattle.face_walk.specs.Links.{IsOver, IsLinkBelow, AnswersLinkDown, AreLinks};
 
 use crate::below::nearest_below;
 use crate::cycle::first_of_cycles;
@@ -13,15 +10,8 @@ use cov_types::{NoMemory, Seg};
 use half_edge::Arena;
 use std::alloc::Global;
 
-/// The place past the range: the number after those of the sides.
-pub fn place_past_range(a: &Arena) -> usize
-    ensures { result ≡ 2 * length a.now }
-{
-    a.len()
-}
-
-/// The links between the sides of an arena's edges and the place past the range: from each side to the next one, and from the least
-/// vertex of a boundary cycle down the ray, where the sector of the cycle at that vertex has this way in it.
+/// The links between the sides of an arena's edges and the place past the range, whose number is that after the sides: from each side
+/// to the next one, and from the least vertex of a boundary cycle down the ray, where the sector of the cycle has that way in it.
 pub fn links(alloc: Global, a: &Arena, edges: &[Seg]) -> Result<Vec<Link>, NoMemory>
     requires { edges.now ≡ a.now }
     ensures { IfOk result (λ v. AreLinks a.now v.items) }
@@ -54,14 +44,12 @@ fn links_along(alloc: Global, a: &Arena) -> Result<Vec<Link>, NoMemory>
 // is the least of its boundary cycle.
 fn link_down(a: &Arena, edges: &[Seg], first: &[usize], h: usize) -> Option<Link>
     requires edges { edges.now ≡ a.now }
+    requires planar { IsPlanar a.now }
+    requires distinct { AreDistinct a.now }
     requires within { h < 2 * length a.now }
     requires first_count { length first.now ≡ 2 * length a.now }
     requires first_within { All (λ k. k < 2 * length a.now) first.now }
-    ensures sound { (link : Link) → result ≡ Some link → IsLinkAfter a.now h link }
-    ensures complete {
-        (along : List Link) (n : ℕ) (v : Coord) → AreFirst a.now along first.now → IsNextNumber a.now h n → IsNumberOverRay a.now n v
-            → LeavesEarlier a.now along n v ⊎ ((m : ℕ) → IsLinkBelow a.now n m → result ≡ Some (record { from = n; to = m }))
-    }
+    ensures { AnswersLinkDown a.now first.now h result }
 {
     if !a.opens_down(h) {
         return None;
@@ -70,21 +58,22 @@ fn link_down(a: &Arena, edges: &[Seg], first: &[usize], h: usize) -> Option<Link
     if a.origin(first[from]) != a.origin(from) {
         return None;
     }
-    Some(Link {
-        from,
-        to: place_below(a, edges, from),
-    })
+    let to = place_below(a, edges, from);
+    Some(Link { from, to })
 }
 
-// The upper side of the nearest edge below the vertex of the half-edge, or the place past the range.
+// The upper side of the nearest edge below the vertex that the half-edge leaves, or the place past the range.
 fn place_below(a: &Arena, edges: &[Seg], h: usize) -> usize
     requires edges { edges.now ≡ a.now }
+    requires planar { IsPlanar a.now }
+    requires distinct { AreDistinct a.now }
     requires within { h < 2 * length a.now }
     requires over { IsOver a.now h }
     ensures { (place : ℕ) → IsLinkBelow a.now h place ↔ (place ≡ result) }
 {
+    let past_range = a.len();
     match nearest_below(edges, a.origin(h)) {
         Some(k) => 2 * k,
-        None => place_past_range(a),
+        None => past_range,
     }
 }

@@ -7,7 +7,7 @@ ghost use Rattle.plane.specs.Region.{IsSide, IsOuter, IsRegionOf, IsOuterRegion,
 ghost use Rattle.sectors.specs.Sector.{IsPlanar, AreDistinct};
 ghost use Rattle.face_walk.specs.Numbers.{AreNumbered};
 
-use crate::links::{links, place_past_range};
+use crate::links::links;
 use connected::components;
 use cov_types::{NoMemory, Seg};
 use half_edge::Arena;
@@ -32,14 +32,15 @@ impl Model for Regions {
 }
 
 impl Regions {
-    /// The regions between the edges of the arena. Takes linear memory, and time in proportion to the vertices times the edges: for each
-    /// vertex all edges are looked at for the nearest one below it.
+    /// The regions between the edges of the arena. Takes linear memory. Its time is linear too, but that for each connected piece of the
+    /// drawing all edges are looked at once, for the nearest one below its least vertex: time in proportion to pieces times edges.
     pub fn build(alloc: Global, a: &Arena) -> Result<Regions, NoMemory>
         ensures { IfOk result (λ r. r ≡ a.now) }
     {
         let edges = edges_of(alloc, a)?;
         let links = links(alloc, a, &edges)?;
-        let least = components(alloc, place_past_range(a) + 1, &links)?;
+        // A node for each side, and one for the place past the range.
+        let least = components(alloc, a.len() + 1, &links)?;
         Ok(Regions { edges, least })
     }
 

@@ -1,24 +1,22 @@
-use Rattle.std.proofs.Common.{rules, ◌≡◌, ◌⊎◌, ◌*◌, ◌<◌, ◌↔◌, ℕ, length, List, All, Contains, Some, IfOk, ◌+◌, ◌-◌, ◌≤◌, ◌/◌, ◌%◌, Bool, true, false, nat_eq, nat_lt, [], ◌∷◌, ◌++◌, slice_index_or, slice_set, bit_and, bit_or, Fits, w8, w32, w64, Bor, MutBor}
-use Rattle.cov_types.specs.declared.coord.Coord.{Coord}
-use Rattle.connected.specs.declared.link.Link.{Link}
-use Rattle.sectors.specs.Sector.{IsNextNumber}
-use Rattle.regions.specs.Linked.{IsNumberOverRay}
-use Rattle.face_walk.specs.Cycles.{AreAlong, AreFirst}
-use Rattle.face_walk.specs.Links.{IsOver, IsLinkBelow, IsLinkAfter, LeavesEarlier, AreLinks}
+use Rattle.std.proofs.Common.{refl, ◌*◌, ◌<◌, length, slice_index, arith}
+use Rattle.face_walk.proofs.LinksDown.{over_next, answers_shut, answers_later, answers_link, differs}
 use Rattle.face_walk.proofs.links.link_down.Goals as goal
 
--- src/links.rt:67:9
-pub returns-then-not-opens_down-clause-complete : goal.returns-then-not-opens_down-clause-complete
-returns-then-not-opens_down-clause-complete c = ?
+pub returns-then-not-opens_down : goal.returns-then-not-opens_down
+returns-then-not-opens_down c =
+    answers_shut c.args.a.now c.requires.planar c.args.first.now c.args.h c.opens_down.result c.opens_down.ensures c.if-not-opens_down.true
 
--- src/links.rt:71:9
-pub returns-then-ne-clause-complete : goal.returns-then-ne-clause-complete
-returns-then-ne-clause-complete c = ?
+pub returns-then-ne : goal.returns-then-ne
+returns-then-ne c =
+    let from = c.next-from.result in
+    let below = c.next-from.ensures.within in
+    let k_below : slice_index c.args.first.now from < 2 * length c.args.a.now = c.requires.first_within from 0 (omega (arith, below, c.requires.first_count)) in
+    answers_later c.args.a.now c.args.first.now c.args.h from (slice_index c.args.first.now from) c.origin-2.result c.origin.result below k_below refl
+    c.next-from.ensures.only c.origin-2.ensures c.origin.ensures (differs c.origin.result c.origin-2.result c.ne.result c.ne.ensures c.if-ne.true)
 
--- src/links.rt:75:13
-pub place_below-requires-clause-over : goal.place_below-requires-clause-over
-place_below-requires-clause-over c = ?
+pub place_below-to-requires-clause-over : goal.place_below-to-requires-clause-over
+place_below-to-requires-clause-over c = over_next c.args.a.now c.args.h c.next-from.result c.opens_down.result c.opens_down.ensures c.if-not-opens_down.false c.next-from.ensures.next
 
--- src/links.rt:55:1
-pub returns-clause-complete : goal.returns-clause-complete
-returns-clause-complete c = ?
+pub returns : goal.returns
+returns c =
+    answers_link c.args.a.now c.args.first.now c.args.h c.next-from.result c.place_below-to.result c.next-from.ensures.next c.next-from.ensures.only c.place_below-to.ensures

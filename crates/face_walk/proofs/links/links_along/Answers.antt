@@ -1,20 +1,16 @@
-use Rattle.std.proofs.Common.{rules, ◌≡◌, ◌⊎◌, ◌*◌, ◌<◌, ◌↔◌, ℕ, length, List, All, Contains, Some, IfOk, ◌+◌, ◌-◌, ◌≤◌, ◌/◌, ◌%◌, Bool, true, false, nat_eq, nat_lt, [], ◌∷◌, ◌++◌, slice_index_or, slice_set, bit_and, bit_or, Fits, w8, w32, w64, Bor, MutBor}
-use Rattle.cov_types.specs.declared.coord.Coord.{Coord}
-use Rattle.connected.specs.declared.link.Link.{Link}
-use Rattle.sectors.specs.Sector.{IsNextNumber}
-use Rattle.regions.specs.Linked.{IsNumberOverRay}
-use Rattle.face_walk.specs.Cycles.{AreAlong, AreFirst}
-use Rattle.face_walk.specs.Links.{IsOver, IsLinkBelow, IsLinkAfter, LeavesEarlier, AreLinks}
+use Rattle.std.proofs.Common.{arith}
+use Rattle.face_walk.proofs.LinksSoFar.{along_none, along_more, along_all}
 use Rattle.face_walk.proofs.links.links_along.Goals as goal
 
--- src/links.rt:44:5
 pub loop-h-init : goal.loop-h-init
-loop-h-init c = ?
+loop-h-init c = along_none c.args.a.now c.new-links.result.items c.new-links.ensures.items
 
--- src/links.rt:44:5
 pub loop-h-preserved : goal.loop-h-preserved
-loop-h-preserved c = ?
+loop-h-preserved c =
+    along_more c.args.a.now c.loop-h.h c.next.result c.loop-h.links.items c.push.new.self.items c.next.ensures.next c.next.ensures.only c.in_ok-push.ensures.items c.loop-h.invariant
 
--- src/links.rt:40:1
 pub returns : goal.returns
-returns c = ?
+returns c =
+    let count = c.len-h-end.ensures.count in
+    let stop = c.loop-h-test.false in
+    along_all c.args.a.now c.loop-h.h c.loop-h.links.items (omega (arith, count, stop)) c.loop-h.invariant

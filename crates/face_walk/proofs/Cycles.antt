@@ -1,6 +1,6 @@
 -- Of the half-edges of each boundary cycle one is found that leaves the least vertex.
 use mathlib.Core.List.{List, [], ◌∷◌}
-use Rattle.std.proofs.Common.{◌≡◌, refl, sym, ◌∙◌, ap, subst, ℕ, ◌+◌, ◌*◌, ◌<◌, ◌≤◌, length, get_or, set, cond, ◌++◌, Bool, true, false, true≢false, IsTrue, All, Contains, ◌⊎◌, inl, inr, arith}
+use Rattle.std.proofs.Common.{◌≡◌, refl, sym, ◌∙◌, ap, subst, ℕ, ◌+◌, ◌*◌, ◌<◌, ◌≤◌, length, get_or, set, cond, ◌++◌, Bool, true, false, true≢false, IsTrue, All, inl, inr, arith}
 use Rattle.std.proofs.lemmas.Bool.{cases_eq}
 use Rattle.std.proofs.lemmas.Grind.{get_or_default_zero}
 use Rattle.std.proofs.lemmas.Int.{ints}
@@ -17,9 +17,8 @@ use Rattle.cov_types.proofs.Order.{is_before-irrefl, is_before-trans}
 use Rattle.connected.specs.declared.link.Link.{Link}
 use Rattle.connected.specs.Connected.{IsConnected, AreComponents}
 use Rattle.connected.specs.Spreading.{AreWithin}
-use Rattle.connected.proofs.Ways.{connected-sym, connected-within}
+use Rattle.connected.proofs.Ways.{connected-within}
 use Rattle.connected.proofs.Numbers.{number-low, same_component, same_number}
-use Rattle.sectors.specs.Sector.{HalfEdge, origin, IsHalfEdge}
 use Rattle.regions.specs.Linked.{IsNumberFrom}
 use Rattle.face_walk.specs.Cycles.{AreAlong, IsNoEarlier, IsFirstOfCycle, AreFirst, AreFirstAmong}
 use Rattle.face_walk.proofs.Places.{number_within, some_half_edge}

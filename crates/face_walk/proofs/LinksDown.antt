@@ -1,6 +1,6 @@
 -- The link down the ray from a side, and what the code tells of it.
 use mathlib.Core.List.{List}
-use Rattle.std.proofs.Common.{◌≡◌, refl, sym, ◌∙◌, ap, subst, ℕ, ◌*◌, ◌<◌, length, slice_index, IsTrue, Contains, Bool, true, false, true≢false, not, ◌&&◌, int_eq, Some, None, slice_get, ◌↔◌, inl, inr}
+use Rattle.std.proofs.Common.{◌≡◌, refl, sym, ◌∙◌, ap, subst, ℕ, ◌*◌, ◌<◌, length, slice_index, IsTrue, Contains, Bool, true, false, true≢false, not, ◌&&◌, int_eq, Some, None, ◌↔◌, inl, inr}
 use Rattle.std.proofs.lemmas.Option.{none-some, same_Some}
 use Rattle.cov_types.specs.declared.coord.Coord.{Coord}
 use Rattle.cov_types.specs.declared.seg.Seg.{Seg}
@@ -8,7 +8,6 @@ use Rattle.cov_types.specs.Coord.{is_before}
 use Rattle.cov_types.specs.Range.{IsInRange}
 use Rattle.cov_types.proofs.Equal.{Decides-same_coords}
 use Rattle.cov_types.proofs.Order.{cases_coords}
-use Rattle.connected.specs.declared.link.Link.{Link}
 use Rattle.connected.specs.Connected.{IsConnected}
 use Rattle.connected.proofs.Ways.{connected-same}
 use Rattle.plane.specs.Point.{at_coord}
@@ -17,8 +16,8 @@ use Rattle.sectors.proofs.Next.{next_of_one}
 use Rattle.sectors.proofs.Numbers.{forwards_number, half_edge_among, one_half_edge, one_number}
 use Rattle.regions.specs.Below.{IsNearestBelow, HasNoneBelow}
 use Rattle.regions.specs.Linked.{IsNumberOverRay, IsNumberFrom}
-use Rattle.face_walk.specs.Cycles.{AreFirst, IsFirstOfCycle}
-use Rattle.face_walk.specs.Links.{IsOver, IsLinkBelow, IsLinkAfter, LeavesEarlier, AnswersLinkDown}
+use Rattle.face_walk.specs.Cycles.{IsFirstOfCycle}
+use Rattle.face_walk.specs.Links.{IsOver, IsLinkBelow, IsLinkAfter, AnswersLinkDown}
 use Rattle.face_walk.specs.Nearest.{IsNearestAt}
 use Rattle.face_walk.proofs.Nearer.{in_range_of, one_nearest}
 use Rattle.face_walk.proofs.Places.{some_half_edge}
@@ -93,15 +92,18 @@ false_from_not true h = absurd (true≢false (sym h))
 false_from_not false h = refl
 
 pub over_next : (edges : List Seg) (h m : ℕ) (opens : Bool) → Opens edges h opens → opens ≡ true → IsNextNumber edges h m → IsOver edges m
-over_next edges h m opens tells wide next = (origin next.to, record {
-  half_edge = next.to;
-  is = next.to_is;
-  leaves = record {
-    before = next.from;
-    over = record { follows = next.follows; past_down = false_from_not (is_before_by_angle next.to (twin next.from)) (sym (tells next.from next.to next.from_is next.follows) ∙ wide) };
-    from = refl;
-  };
-})
+over_next edges h m opens tells wide next = (
+  origin next.to,
+  record {
+    half_edge = next.to;
+    is = next.to_is;
+    leaves = record {
+      before = next.from;
+      over = record { follows = next.follows; past_down = false_from_not (is_before_by_angle next.to (twin next.from)) (sym (tells next.from next.to next.from_is next.follows) ∙ wide) };
+      from = refl;
+    };
+  },
+)
 
 over_opens : (edges : List Seg) → IsPlanar edges → (h m : ℕ) (opens : Bool) → Opens edges h opens → IsNextNumber edges h m → (v : Coord) → IsNumberOverRay edges m v → opens ≡ true
 over_opens edges planar h m opens tells next v over =

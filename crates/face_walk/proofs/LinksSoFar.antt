@@ -1,18 +1,18 @@
 -- The links along next, and those down from the first half-edges.
 use mathlib.Core.List.{List, [], ◌∷◌, ◌++◌}
-use Rattle.std.proofs.Common.{◌≡◌, refl, sym, ◌∙◌, ap, subst, ℕ, ◌+◌, ◌*◌, ◌<◌, ◌≤◌, length, Contains, Option, Some, None, ◌↔◌, ◌⊎◌, inl, inr, arith}
-use Rattle.std.proofs.lemmas.Bool.{cases_lt, cases_eq}
+use Rattle.std.proofs.Common.{◌≡◌, sym, ap, subst, ℕ, ◌+◌, ◌*◌, ◌<◌, ◌≤◌, length, Contains, Option, Some, None, ◌↔◌, ◌⊎◌, inl, inr, arith}
+use Rattle.std.proofs.lemmas.Bool.{cases_eq}
 use Rattle.std.proofs.lemmas.Option.{same_Some, none-some}
 use Rattle.std.proofs.lemmas.List.Elements.{Contains-push, Contains-push_cases, Contains-append_left}
 use Rattle.cov_types.specs.declared.coord.Coord.{Coord}
 use Rattle.cov_types.specs.declared.seg.Seg.{Seg}
 use Rattle.connected.specs.declared.link.Link.{Link}
-use Rattle.connected.specs.Connected.{IsTied, LeadsAlong, IsConnected}
-use Rattle.sectors.specs.Sector.{HalfEdge, IsHalfEdge, IsNext, IsNextNumber}
+use Rattle.connected.specs.Connected.{LeadsAlong}
+use Rattle.sectors.specs.Sector.{IsNextNumber}
 use Rattle.sectors.proofs.Numbers.{some_number}
 use Rattle.regions.specs.Linked.{IsNumberOverRay}
 use Rattle.face_walk.specs.Cycles.{AreAlong, AreFirst}
-use Rattle.face_walk.specs.Links.{IsLinkBelow, IsLink, IsLinkAfter, LeavesEarlier, AnswersLinkDown, AreLinks}
+use Rattle.face_walk.specs.Links.{IsLinkBelow, IsLink, LeavesEarlier, AnswersLinkDown, AreLinks}
 use Rattle.face_walk.proofs.Places.{number_within}
 
 -- ---- along next

@@ -1,6 +1,6 @@
 -- The least places of the components are the numbers of the regions.
-use mathlib.Core.List.{List, [], ◌∷◌}
-use Rattle.std.proofs.Common.{◌≡◌, refl, sym, ◌∙◌, ap, subst, ℕ, ◌+◌, ◌*◌, ◌<◌, ◌≤◌, length, slice_index, Contains, inl, inr, arith}
+use mathlib.Core.List.{List, []}
+use Rattle.std.proofs.Common.{◌≡◌, refl, subst, ℕ, ◌+◌, ◌*◌, ◌<◌, ◌≤◌, length, slice_index, Contains, inl, inr, arith}
 use Rattle.cov_types.specs.declared.seg.Seg.{Seg}
 use Rattle.connected.specs.declared.link.Link.{Link}
 use Rattle.connected.specs.Connected.{IsConnected, AreComponents}
@@ -85,12 +85,14 @@ module _ (edges : List Seg) (planar : IsPlanar edges) (distinct : AreDistinct ed
       let below = side_within edges n p at in
       let low = no_later n below in
       let (q, at_q) = some_side edges (number n) (omega (arith, below, low)) in
-      let own = components.own n (omega (arith, below)) in
-      (low, record {
-        at = q;
-        side = at_q;
-        joined = way_joined_sides n (number n) p q at at_q own;
-      })
+      let own = components.own n (omega (arith, below)) in (
+        low,
+        record {
+          at = q;
+          side = at_q;
+          joined = way_joined_sides n (number n) p q at at_q own;
+        },
+      )
 
   regions : AreRegions edges number
   regions = fewer_links_regions edges planar distinct number outer walk joined_side

@@ -1,22 +1,19 @@
 -- What the table of numbers says of a side, of the outer region and of how many regions there are.
 use mathlib.Core.List.{List, [], ◌∷◌, ◌++◌}
-use Rattle.std.proofs.Common.{◌≡◌, refl, sym, ◌∙◌, ap, subst, ℕ, zero, suc, ◌+◌, ◌-◌, ◌*◌, ◌/◌, ◌<◌, ◌==◌, ◌↔◌, Bool, true, false, cond, length, take, Some, slice_get, get_or, slice_index, count_by, Contains, All, arith}
+use Rattle.std.proofs.Common.{◌≡◌, refl, sym, ◌∙◌, ap, subst, ℕ, zero, suc, ◌+◌, ◌-◌, ◌*◌, ◌/◌, ◌<◌, ◌==◌, ◌↔◌, Bool, true, false, cond, length, take, Some, slice_get, get_or, slice_index, count_by, arith}
 use Rattle.std.proofs.lemmas.Bool.Decides.{nat_tests}
 use Rattle.std.proofs.lemmas.List.{get_or_read, take_more}
 use Rattle.std.proofs.lemmas.Option.{get_or_from_slice_get}
-use Rattle.std.proofs.lemmas.List.Elements.{Contains-get_or}
 use Rattle.std.proofs.lemmas.List.Sums.{sum_by_push}
 use Rattle.cov_types.specs.declared.seg.Seg.{Seg}
-use Rattle.connected.specs.declared.link.Link.{Link}
 use Rattle.plane.specs.Label.{numbers_below}
 use Rattle.plane.specs.Point.{Point}
 use Rattle.plane.specs.Joined.{Joined}
 use Rattle.plane.specs.Region.{IsSide, IsRegionOf, AreRegions}
 use Rattle.crossings.proofs.Located.{region-joined, same_region}
 use Rattle.regions.proofs.Numbered.{one_numbering}
-use Rattle.face_walk.specs.Links.{IsLink}
 use Rattle.face_walk.specs.Numbers.{IsOutermost, AreNumbered}
-use Rattle.face_walk.proofs.Places.{some_side, link_within}
+use Rattle.face_walk.proofs.Places.{some_side}
 
 pub numbered-shown : (edges shown : List Seg) (table : List ℕ) → edges ≡ shown → AreNumbered edges table → AreNumbered shown table
 numbered-shown edges shown table same h = subst (λ es. AreNumbered es table) same h

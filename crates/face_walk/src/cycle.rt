@@ -21,7 +21,7 @@ pub fn first_of_cycles(alloc: Global, a: &Arena, along: &[Link]) -> Result<Vec<u
     Ok(table)
 }
 
-// The same at the numbers of the cycles, where each half-edge has the number of its cycle.
+// At the number of each cycle one of its half-edges that leaves the least vertex, where each half-edge has the number of its cycle.
 fn first_at_numbers(alloc: Global, a: &Arena, cycles: &[usize]) -> Result<Vec<usize>, NoMemory>
     requires count { length cycles.now ≡ 2 * length a.now }
     requires within { All (λ c. c < 2 * length a.now) cycles.now }

@@ -241,7 +241,7 @@ fn five_hundred_separate_squares_have_a_region_each(rt: HostRuntime) -> Result<(
     Ok(())
 }
 
-/// Adds the edges of a column of the grid that do not lie right of it, and the ones that lead from it to the next column, ascending.
+/// Adds those edges of a grid of unit squares that begin at x, ascending; the grid has so many squares each way.
 fn add_grid_column(
     rt: &impl Abort,
     edges: &mut Vec<Seg>,

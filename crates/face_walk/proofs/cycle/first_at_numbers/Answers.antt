@@ -1,4 +1,4 @@
-use Rattle.std.proofs.Common.{refl, Ok, sym, ◌∙◌, ap, subst, true, false, ◌*◌, ◌+◌, ◌<◌, ℕ, List, length, arith}
+use Rattle.std.proofs.Common.{refl, Ok, ◌∙◌, ap, subst, true, false, ◌*◌, ◌<◌, ℕ, length, arith}
 use Rattle.std.specs.declared.alloc.AllocError.{AllocError}
 use Rattle.std.specs.List.{range_with_len}
 use Rattle.std.specs.Global.{Vec}

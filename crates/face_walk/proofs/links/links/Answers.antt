@@ -1,4 +1,4 @@
-use Rattle.std.proofs.Common.{◌≡◌, sym, ◌∙◌, ap, subst, ◌+◌, ◌*◌, ◌≤◌, List, [], ◌∷◌, ◌++◌, length, arith}
+use Rattle.std.proofs.Common.{◌≡◌, sym, ◌∙◌, ap, subst, ◌+◌, List, [], ◌∷◌, ◌++◌, arith}
 use Rattle.connected.specs.declared.link.Link.{Link}
 use Rattle.face_walk.specs.Cycles.{AreAlong, AreFirst}
 use Rattle.face_walk.proofs.Cycles.{first-shown, first-within}

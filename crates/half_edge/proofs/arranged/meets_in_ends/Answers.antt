@@ -1,5 +1,5 @@
 use Rattle.std.proofs.Common.{refl}
-use Rattle.half_edge.proofs.Ascending.{bad_meets_not}
+use Rattle.half_edge.proofs.Meeting.{bad_meets_not}
 use Rattle.half_edge.proofs.Meeting.{meet_apart, meet_in_end}
 use Rattle.half_edge.proofs.Places.{iff_true, iff_false}
 use Rattle.half_edge.proofs.arranged.meets_in_ends.Goals as goal

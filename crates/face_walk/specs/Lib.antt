@@ -1,0 +1,4 @@
+pub mod Nearest
+pub mod Cycles
+pub mod Links
+pub mod Numbers

@@ -183,8 +183,8 @@ fn edges_that_cross_or_descend_or_lie_out_of_range_are_not_arranged(
 /// The edges of 50,000 unit squares side by side, with a gap of one between any two.
 fn separate_squares(alloc: Global, rt: &impl Abort) -> Result<Vec<Seg>, NoMemory> {
     let mut edges = Vec::new(alloc);
-    for k in 0..50_000 {
-        let x = 2 * k;
+    for k in 0..50_000_u16 {
+        let x = 2 * i32::from(k);
         let corners = [
             (x, 0, x, 1),
             (x, 0, x + 1, 0),

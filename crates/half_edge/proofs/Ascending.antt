@@ -2,9 +2,10 @@
 use mathlib.Core.List.{List}
 use Rattle.std.proofs.Common.{◌≡◌, refl, sym, ◌∙◌, ap, subst, ℕ, ◌+◌, ◌-◌, ◌<◌, ◌≤◌, length, get_or, Some, Bool, true, false, not, IsTrue, true≢false, inl, inr, arith}
 use Rattle.std.proofs.lemmas.Bool.{cases_lt, cases_eq}
-use Rattle.std.specs.Ordering.{is_lt, is_ge, is_some_and, partial_ge, int_cmp, ordering_then, partial_ordering_then}
+use Rattle.std.specs.Ordering.{is_ge, is_some_and, partial_ge, int_cmp, ordering_then, partial_ordering_then}
 use Rattle.std.specs.declared.cmp.Ordering.{Ordering}
 use Rattle.std.specs.declared.cmp.Ordering.TheVariants.{Less, Equal, Greater}
+use Rattle.half_edge.proofs.Deciding.{ge-not_lt}
 use Rattle.cov_types.specs.Coord.{coord_cmp}
 use Rattle.cov_types.specs.contracts.seg.SegPartialOrd.TheImpl.{partial_cmp-value}
 use Rattle.cov_types.specs.Seg.{is_seg_before, seg_cmp}
@@ -24,11 +25,6 @@ partial_is : (s t : Seg) → partial_cmp-value.it s t ≡ Some (seg_cmp s t)
 partial_is s t =
     (λ i. partial_ordering_then (then_is (int_cmp s.lo.x t.lo.x) (int_cmp s.lo.y t.lo.y) i) (then_is (int_cmp s.hi.x t.hi.x) (int_cmp s.hi.y t.hi.y) i))
     ∙ then_is (coord_cmp s.lo t.lo) (coord_cmp s.hi t.hi)
-
-ge-not_lt : (o : Ordering) → is_ge o ≡ not (is_lt o)
-ge-not_lt Less = refl
-ge-not_lt Equal = refl
-ge-not_lt Greater = refl
 
 ge_is : (s t : Seg) → partial_ge partial_cmp-value.it s t ≡ not (is_seg_before s t)
 ge_is s t = ap (λ o. is_some_and is_ge o) (partial_is s t) ∙ ge-not_lt (seg_cmp s t) ∙ ap not (is_lt-seg_cmp s t)

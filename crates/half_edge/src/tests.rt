@@ -183,8 +183,8 @@ fn edges_that_cross_or_descend_or_lie_out_of_range_are_not_arranged(
 /// The edges of 50,000 unit squares side by side, with a gap of one between any two.
 fn separate_squares(alloc: Global, rt: &impl Abort) -> Result<Vec<Seg>, NoMemory> {
     let mut edges = Vec::new(alloc);
-    for k in 0..50_000 {
-        let x = 2 * k;
+    for k in 0..50_000_u16 {
+        let x = 2 * i32::from(k);
         let corners = [
             (x, 0, x, 1),
             (x, 0, x + 1, 0),
@@ -216,6 +216,40 @@ fn an_arena_of_two_hundred_thousand_edges_is_built(rt: HostRuntime) -> Result<()
                 "after {h} from {first}"
             );
         }
+    }
+    Ok(())
+}
+
+/// The edges from (0, 0) to a thousand points of the line x = 1, upwards.
+fn star(alloc: Global, rt: &impl Abort) -> Result<Vec<Seg>, NoMemory> {
+    let centre = Coord { x: 0, y: 0 };
+    let mut edges = Vec::new(alloc);
+    for k in 0..1000_u16 {
+        let tip = Coord {
+            x: 1,
+            y: i32::from(k),
+        };
+        edges.push(Seg::between(centre, tip).expect(rt, "two points"))?;
+    }
+    Ok(edges)
+}
+
+#[test]
+fn round_a_star_each_edge_goes_on_to_the_one_below_it(rt: HostRuntime) -> Result<(), Fail> {
+    let alloc = rt.alloc();
+    let edges = star(alloc, &rt)?;
+    assert!(rt; are_arranged(&edges));
+    let arena = Arena::build(alloc, edges)?;
+    assert_eq!(rt; arena.len(), 2000);
+    assert_eq!(rt; arena.next(1), 1998);
+    for k in 1..1000 {
+        assert!(rt; 2 * k + 1 < arena.len());
+        assert_eq!(rt; arena.next(2 * k), 2 * k + 1, "at the tip of {k}");
+        assert_eq!(rt;
+            arena.next(2 * k + 1),
+            2 * k - 2,
+            "back from the tip of {k}"
+        );
     }
     Ok(())
 }

@@ -1,4 +1,4 @@
-use Rattle.half_edge.proofs.Places.{by_true}
+use Rattle.half_edge.proofs.Deciding.{by_true}
 use Rattle.half_edge.proofs.Ascending.{ascend_distinct}
 use Rattle.half_edge.proofs.Meeting.{arranged}
 use Rattle.half_edge.specs.Arranged.{IsArranged}

@@ -1,6 +1,6 @@
 use Rattle.std.proofs.Common.{◌+◌, ◌≤◌, length, arith}
 use Rattle.half_edge.proofs.Meeting.{meet_more, rest-meets, rest-fails, noded_from_pairs, noded_fails}
-use Rattle.half_edge.proofs.Places.{iff_true, iff_false, by_true, by_false}
+use Rattle.half_edge.proofs.Deciding.{iff_true, iff_false, by_true, by_false}
 use Rattle.half_edge.proofs.arranged.are_noded.Goals as goal
 
 pub returns-then-not-meets_later_in_ends : goal.returns-then-not-meets_later_in_ends

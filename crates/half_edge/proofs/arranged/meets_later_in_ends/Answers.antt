@@ -1,6 +1,7 @@
 use Rattle.std.proofs.Common.{sym, ◌∙◌}
 use Rattle.half_edge.proofs.Meeting.{meets_rest, before_from_lt}
-use Rattle.half_edge.proofs.Places.{all_more, by_true, iff_true}
+use Rattle.half_edge.proofs.Deciding.{by_true, iff_true}
+use Rattle.half_edge.proofs.Places.{all_more}
 use Rattle.plane.specs.Noded.{MeetInEnds}
 use Rattle.half_edge.proofs.arranged.meets_later_in_ends.Goals as goal
 

@@ -9,6 +9,8 @@ mod input;
 mod lines;
 mod noding;
 mod outcome;
+mod regions;
+mod rows;
 mod run;
 mod validate;
 mod words;

@@ -1,0 +1,63 @@
+-- The rows of the regions below a number, one more at a time.
+use Rattle.std.proofs.Common.{◌≡◌, ◌⊎◌, inl, inr, refl, sym, ◌∙◌, ap, subst, ℕ, suc, ◌+◌, ◌*◌, ◌<◌, ◌==◌, Bool, true, false, cond, List, [], ◌∷◌, ◌++◌, length, add-one, append-nil, ℤ, arith}
+use Rattle.std.specs.Prelude.{filter}
+use Rattle.std.specs.List.{AllZip, concat}
+use Rattle.std.proofs.lemmas.Bool.Decides.{eqb_tells}
+use Rattle.std.proofs.lemmas.List.Elements.{filter-append}
+use Rattle.std.proofs.lemmas.List.Folds.{concat-append}
+use Rattle.plane.specs.Label.{numbers_below}
+use Rattle.plane.specs.Region.{IsOuterRegion}
+use Rattle.overlay.specs.Overlay.{Overlay, label_of}
+use Rattle.overlay.specs.Measure.{region_area2}
+use Rattle.snap_noder.proofs.Zip.{zip_push}
+use Rattle.cover_cli.specs.Regions.{IsRow, AreRows}
+use Rattle.cover_cli.specs.Rows.{outer_row, inner_row}
+
+-- ---- one row
+
+pub outer_is_row : (o : Overlay) (r : ℕ) → IsOuterRegion o.edges r → IsRow o r (outer_row r)
+outer_is_row o r outer = inl (outer, refl)
+
+pub inner_is_row : (o : Overlay) (r : ℕ) (label : List ℕ) (area2 : ℤ) → ¬ IsOuterRegion o.edges r → label ≡ label_of o r → area2 ≡ region_area2 o r → IsRow o r (inner_row r label area2)
+inner_is_row o r label area2 inner l a = inr (inner, λ i. inner_row r (l i) (a i))
+
+-- ---- the regions below a number
+
+abbrev pub regions_below : Overlay → ℕ → List ℕ
+regions_below o n = filter (λ r. o.number r == r) (numbers_below n)
+
+module _ (o : Overlay) where
+  one : (r : ℕ) (b : Bool) → (o.number r == r) ≡ b → filter (λ q. o.number q == q) (r ∷ []) ≡ cond b (r ∷ []) []
+  one r true h = rw h refl
+  one r false h = rw h refl
+
+  next : (n : ℕ) → regions_below o (n + 1) ≡ regions_below o n ++ filter (λ q. o.number q == q) (n ∷ [])
+  next n = ap (regions_below o) (add-one n) ∙ filter-append (λ q. o.number q == q) (numbers_below n) (n ∷ [])
+
+  pub rows_start : (text : List ℕ) → text ≡ [] → AreRows o (regions_below o 0) text
+  rows_start text empty = record { rows = []; each = tt; lines = empty }
+
+  -- the number is that of a region, and its row comes next
+  pub rows_more : (n : ℕ) (before after line : List ℕ) → o.number n ≡ n → AreRows o (regions_below o n) before → IsRow o n line → after ≡ before ++ line → AreRows o (regions_below o (n + 1)) after
+  rows_more n before after line region so_far row appended =
+      let more : regions_below o (n + 1) ≡ regions_below o n ++ n ∷ [] = next n ∙ ap (λ rs. regions_below o n ++ rs) (here (eqb_tells (o.number n) n)) in
+      subst (λ (rs : List ℕ). AreRows o rs after) (sym more) (record {
+        rows = so_far.rows ++ line ∷ [];
+        each = zip_push (IsRow o) (regions_below o n) so_far.rows n line so_far.each row;
+        lines = appended ∙ (λ i. so_far.lines i ++ sym (append-nil line) i) ∙ sym (concat-append so_far.rows (line ∷ []));
+      })
+    where
+      here : (((o.number n == n) ≡ true) × (o.number n ≡ n)) ⊎ (((o.number n == n) ≡ false) × (¬ (o.number n ≡ n))) → filter (λ q. o.number q == q) (n ∷ []) ≡ n ∷ []
+      here (inl same) = one n true same.0
+      here (inr other) = absurd (other.1 region)
+
+  -- the number is that of no region
+  pub rows_same : (n : ℕ) (text : List ℕ) → ¬ (o.number n ≡ n) → AreRows o (regions_below o n) text → AreRows o (regions_below o (n + 1)) text
+  rows_same n text none so_far = subst (λ (rs : List ℕ). AreRows o rs text) (sym same_ones) so_far
+    where
+      here : (((o.number n == n) ≡ true) × (o.number n ≡ n)) ⊎ (((o.number n == n) ≡ false) × (¬ (o.number n ≡ n))) → filter (λ q. o.number q == q) (n ∷ []) ≡ []
+      here (inl same) = absurd (none same.1)
+      here (inr other) = one n false other.0
+
+      same_ones : regions_below o (n + 1) ≡ regions_below o n
+      same_ones = next n ∙ ap (λ rs. regions_below o n ++ rs) (here (eqb_tells (o.number n) n)) ∙ append-nil (regions_below o n)

@@ -1,5 +1,5 @@
 -- The overlay that the noded and the live edges make.
-use Rattle.std.proofs.Common.{◌≡◌, inl, inr, refl, sym, ap, subst, ℕ, ◌<◌, ◌%◌, ◌==◌, ◌&&◌, ◌∙◌, List, [], ◌∷◌, length, get_or, arith}
+use Rattle.std.proofs.Common.{◌≡◌, inl, inr, refl, sym, ap, subst, ℕ, ◌<◌, ◌==◌, ◌&&◌, ◌∙◌, List, [], ◌∷◌, get_or, arith}
 use Rattle.std.specs.Prelude.{All, Contains}
 use Rattle.std.specs.List.{AllZip}
 use Rattle.std.proofs.lemmas.Bool.{and_parts}
@@ -13,9 +13,10 @@ use Rattle.plane.specs.Region.{AreRegions}
 use Rattle.crossings.specs.Across.{is_same_seg}
 use Rattle.crossings.proofs.Lists.{contains_here, contains_there}
 use Rattle.overlay.specs.declared.odd_use.OddUse.{OddUse}
-use Rattle.overlay.specs.Noding.{IsOdd, AreChains, snapped_uses, AreSnapped, AreLiveEdges, IsNoded, odd_uses}
+use Rattle.overlay.specs.Noding.{IsOdd, snapped_uses, AreLiveEdges, IsNoded, odd_uses}
 use Rattle.overlay.specs.Overlay.{Overlay}
 use Rattle.overlay.specs.Cleaned.{IsSnappedOverlay}
+use Rattle.owner_label.specs.Overlays.{Labelled, IsOverlay}
 use Rattle.overlay.proofs.OddUses.{some_passes, live_again_law}
 use Rattle.snap_noder.proofs.ParityLemmas.{contains_mapped}
 
@@ -66,3 +67,10 @@ module _ (uses : List EdgeUse) (members : ℕ) (edges live : List Seg) (odd live
     are_snapped = noded.are_snapped;
     overlay = record { odd = live_odd; live = of_snapped; by_odd = refl; count = refl; numbered = numbered };
   }
+
+-- the labels of live edges are those of this overlay
+pub is_overlay_of : (l : Labelled) (edges : List Seg) (odd : List OddUse) (members : ℕ) (number : ℕ → ℕ) → l ≡ record { edges = edges; odd = odd } → All (λ o. o.member < members) odd → AreRegions edges number
+    → IsOverlay l (overlay_of edges odd members number)
+is_overlay_of l edges odd members number same all numbered =
+    let whole : IsOverlay (record { edges = edges; odd = odd }) (overlay_of edges odd members number) = record { edges = refl; uses = refl; members = all; numbered = numbered } in
+    subst (λ (k : Labelled). IsOverlay k (overlay_of edges odd members number)) (sym same) whole

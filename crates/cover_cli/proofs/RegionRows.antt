@@ -1,17 +1,49 @@
 -- The rows of the regions below a number, one more at a time.
-use Rattle.std.proofs.Common.{◌≡◌, ◌⊎◌, inl, inr, refl, sym, ◌∙◌, ap, subst, ℕ, suc, ◌+◌, ◌*◌, ◌<◌, ◌==◌, Bool, true, false, cond, List, [], ◌∷◌, ◌++◌, length, add-one, append-nil, ℤ, arith}
+use Rattle.std.proofs.Common.{◌≡◌, ◌⊎◌, ◌↔◌, inl, inr, refl, sym, ◌∙◌, ap, subst, ℕ, zero, suc, ◌+◌, ◌*◌, ◌<◌, ◌==◌, Bool, true, false, cond, List, [], ◌∷◌, ◌++◌, length, add-one, append-nil, ℤ, Option, Some, None, IsNone, IfSome, arith}
 use Rattle.std.specs.Prelude.{filter}
-use Rattle.std.specs.List.{AllZip, concat}
-use Rattle.std.proofs.lemmas.Bool.Decides.{eqb_tells}
+use Rattle.std.specs.Option.{option_eq}
+use Rattle.std.proofs.lemmas.Bool.{false≢true}
+use Rattle.std.proofs.lemmas.Bool.Decides.{eqb_tells, Decides-eqb}
 use Rattle.std.proofs.lemmas.List.Elements.{filter-append}
 use Rattle.std.proofs.lemmas.List.Folds.{concat-append}
+use Rattle.cov_types.specs.declared.seg.Seg.{Seg}
 use Rattle.plane.specs.Label.{numbers_below}
-use Rattle.plane.specs.Region.{IsOuterRegion}
-use Rattle.overlay.specs.Overlay.{Overlay, label_of}
+use Rattle.plane.specs.Point.{Point}
+use Rattle.plane.specs.Region.{IsSide, IsOuter, IsRegionOf, IsOuterRegion}
+use Rattle.plane.specs.Segment.{upper, lower}
+use Rattle.crossings.proofs.Located.{one_region}
+use Rattle.overlay.specs.Overlay.{Overlay, IsRegion, label_of}
 use Rattle.overlay.specs.Measure.{region_area2}
 use Rattle.snap_noder.proofs.Zip.{zip_push}
-use Rattle.cover_cli.specs.Regions.{IsRow, AreRows}
+use Rattle.cover_cli.specs.Regions.{IsRow, AreRows, region_numbers}
 use Rattle.cover_cli.specs.Rows.{outer_row, inner_row}
+
+-- ---- which regions there are
+
+-- each side has a side point
+pub side_at : (edges : List Seg) (n : ℕ) → n < 2 * length edges → (p : Point) × IsSide edges n p
+side_at [] n within = absurd (omega arith)
+side_at (e ∷ edges) zero within = (upper e, refl)
+side_at (e ∷ edges) (suc zero) within = (lower e, refl)
+side_at (e ∷ edges) (suc (suc n)) within = side_at edges n (omega arith)
+
+-- a side that is its own region
+pub own_region : (edges : List Seg) (n r : ℕ) → n < 2 * length edges → ((p : Point) → IsSide edges n p → IsRegionOf edges p r) → r ≡ n → IsRegion edges n
+own_region edges n r within region same =
+    let p = side_at edges n within in
+    record { at = p.0; side = p.1; own = subst (λ q. IsRegionOf edges p.0 q) same (region p.0 p.1) }
+
+-- a region that is not that of the outer points is not outer
+pub not_outer : (edges : List Seg) (outer : Option ℕ) (r : ℕ) → IsNone outer ↔ (edges ≡ []) → IfSome outer (λ k. (p : Point) → IsOuter edges p → IsRegionOf edges p k)
+    → option_eq ◌==◌ outer (Some r) ≡ false → IsRegion edges r → ¬ IsOuterRegion edges r
+not_outer edges None r none region other is_region outer = no_sides edges (none.0 refl) (outer.side)
+  where
+    no_sides : (es : List Seg) → es ≡ [] → IsSide es r outer.at → ⊥
+    no_sides es empty side = (let at : None ≡ Some outer.at = subst (λ (fs : List Seg). IsSide fs r outer.at) empty side in cc)
+not_outer edges (Some k) r none region other is_region outer =
+    let same : is_region.at ≡ outer.at = cc (is_region.side, outer.side) in
+    let own : IsRegionOf edges outer.at r = subst (λ (p : Point). IsRegionOf edges p r) same is_region.own in
+    false≢true (sym other ∙ (Decides-eqb k r).1 (one_region edges outer.at k r (region outer.at outer.outer) own))
 
 -- ---- one row
 
@@ -61,3 +93,7 @@ module _ (o : Overlay) where
 
       same_ones : regions_below o (n + 1) ≡ regions_below o n
       same_ones = next n ∙ ap (λ rs. regions_below o n ++ rs) (here (eqb_tells (o.number n) n)) ∙ append-nil (regions_below o n)
+
+  -- at the end the regions are all
+  pub rows_all : (n : ℕ) (text : List ℕ) → n ≡ 2 * length o.edges → AreRows o (regions_below o n) text → AreRows o (region_numbers o) text
+  rows_all n text end so_far = subst (λ k. AreRows o (regions_below o k) text) end so_far

@@ -5,7 +5,7 @@ ghost use Rattle.cover_cli.specs.Words.{operation_of};
 
 use crate::noding::node_file;
 use crate::outcome::Outcome;
-use crate::regions::regions_file;
+use crate::region_listing::regions_file;
 use crate::run::validate_file;
 use crate::words::{Operation, operation_named};
 use cov_io::Files;

@@ -7,9 +7,11 @@
 mod command;
 mod input;
 mod lines;
+
 mod noding;
 mod outcome;
-mod regions;
+mod region_listing;
+mod region_rows;
 mod rows;
 mod run;
 mod validate;

@@ -9,11 +9,16 @@ ghost use Rattle.cover_cli.specs.Regions.{IsRegionList};
 ghost use Rattle.cover_cli.specs.Words.{Regions as RegionsOf};
 
 use crate::input::read_coverage;
+use crate::region_rows::rows_of;
 use crate::outcome::Outcome;
 use crate::run::written;
 use crate::validate::Made;
 use cov_io::Files;
 use cov_types::{Coverage, NoMemory, uses};
+use face_walk::Regions;
+use half_edge::Arena;
+use owner_label::Labels;
+use snap_noder::{live, node};
 use std::alloc::Global;
 
 // The text of the regions of the snapped members.
@@ -21,7 +26,13 @@ fn region_list(alloc: Global, c: &Coverage) -> Result<Vec<u8>, NoMemory>
     requires { AllInRange c.now }
     ensures { IfOk result (λ text. IsRegionList c.now text.items) }
 {
-    Ok(Vec::new(alloc))
+    let uses = uses(alloc, c)?;
+    let noded = node(alloc, &uses)?;
+    let live = live(alloc, &noded)?;
+    let arena = Arena::build(alloc, live.edges.to_vec(alloc)?)?;
+    let regions = Regions::build(alloc, &arena)?;
+    let labels = Labels::build(alloc, &arena, &regions, &live)?;
+    rows_of(alloc, &arena, &regions, &labels)
 }
 
 // Reads the file of this name and makes all that listing its regions writes. It only reads.

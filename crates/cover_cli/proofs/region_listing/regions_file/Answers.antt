@@ -3,7 +3,7 @@ use Rattle.std.proofs.Common.{Err, ap}
 use Rattle.cover_cli.specs.Answers.{is_success}
 use Rattle.cover_cli.proofs.Answering.{refused, answered, listing_made}
 use Rattle.cover_cli.specs.Words.{Regions}
-use Rattle.cover_cli.proofs.regions.regions_file.Goals as goal
+use Rattle.cover_cli.proofs.region_listing.regions_file.Goals as goal
 
 pub returns-in-Err : goal.returns-in-Err
 returns-in-Err g c = refused (Regions c.args.from.now c.args.to.now) _ _ _ c.in-Err.ensures.cause c.in-Err.ensures.kept (λ p h. c.in-Err.ensures.promised p (ap Err h))

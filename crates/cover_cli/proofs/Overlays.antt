@@ -16,7 +16,7 @@ use Rattle.overlay.specs.declared.odd_use.OddUse.{OddUse}
 use Rattle.overlay.specs.Noding.{IsOdd, snapped_uses, AreLiveEdges, IsNoded, odd_uses}
 use Rattle.overlay.specs.Overlay.{Overlay}
 use Rattle.overlay.specs.Cleaned.{IsSnappedOverlay}
-use Rattle.owner_label.specs.Overlays.{Labelled, IsOverlay}
+use Rattle.owner_label.specs.Labelled.{Labelled, IsOverlay}
 use Rattle.overlay.proofs.OddUses.{some_passes, live_again_law}
 use Rattle.snap_noder.proofs.ParityLemmas.{contains_mapped}
 

@@ -7,7 +7,6 @@
 mod command;
 mod input;
 mod lines;
-
 mod noding;
 mod outcome;
 mod region_listing;

@@ -9,8 +9,8 @@ ghost use Rattle.cover_cli.specs.Regions.{IsRegionList};
 ghost use Rattle.cover_cli.specs.Words.{Regions as RegionsOf};
 
 use crate::input::read_coverage;
-use crate::region_rows::rows_of;
 use crate::outcome::Outcome;
+use crate::region_rows::rows_of;
 use crate::run::written;
 use crate::validate::Made;
 use cov_io::Files;

@@ -1,6 +1,6 @@
 ghost use Rattle.std.specs.Prelude.{◌≡◌, ◌++◌, List, ℕ, IfOk, OnOk};
 ghost use Rattle.overlay.specs.Overlay.{Overlay, IsRegion};
-ghost use Rattle.owner_label.specs.Overlays.{IsOverlay};
+ghost use Rattle.owner_label.specs.Labelled.{IsOverlay};
 ghost use Rattle.cover_cli.specs.Regions.{IsRow, AreRows, region_numbers};
 
 use crate::rows::{append_inner_row, append_outer_row};

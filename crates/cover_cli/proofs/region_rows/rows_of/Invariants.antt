@@ -1,6 +1,6 @@
 -- The rows of the regions below the side are written.
 use Rattle.overlay.specs.Overlay.{Overlay}
-use Rattle.owner_label.specs.Overlays.{IsOverlay}
+use Rattle.owner_label.specs.Labelled.{IsOverlay}
 use Rattle.cover_cli.specs.Regions.{AreRows}
 use Rattle.cover_cli.proofs.RegionRows.{regions_below}
 use Rattle.cover_cli.proofs.region_rows.rows_of.Given as goal

@@ -1,0 +1,5 @@
+pub mod Ascending
+pub mod Merging
+pub mod Sides
+pub mod Toggles
+pub mod Regions

@@ -1,0 +1,5 @@
+pub mod Members
+pub mod Sided
+pub mod Labelled
+pub mod Lists
+pub mod Spread

@@ -1,0 +1,7 @@
+//! Overlay labels.
+#![tactic(auto)]
+
+mod label;
+mod lists;
+mod sided;
+mod spread;

@@ -2,4 +2,3 @@ pub mod Marking
 pub mod Causes
 pub mod Listing
 pub mod Answering
-pub mod OddUses

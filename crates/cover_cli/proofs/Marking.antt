@@ -1,6 +1,6 @@
 -- One use more, in the lists by member and in the marked uses.
-use Rattle.std.proofs.Common.{◌≡◌, ℕ, ◌+◌, ◌<◌, ◌≤◌, ◌==◌, Bool, true, false, cond, List, [], ◌∷◌, ◌++◌, length, get_or, take, set, map, refl, sym, ap, subst, zero, suc, ◌∙◌, arith, Option, Some, Vec, add-one, ◌⊎◌, inl, inr}
-use Rattle.std.specs.Prelude.{All, filter, flat_map, option_map, option_to_list, slice_get}
+use Rattle.std.proofs.Common.{◌≡◌, ℕ, ◌+◌, ◌<◌, ◌≤◌, ◌==◌, Bool, true, false, cond, List, [], ◌∷◌, ◌++◌, length, get_or, take, set, map, refl, sym, ap, ◌∙◌, arith, Option, Some, Vec, add-one, inl, inr}
+use Rattle.std.specs.Prelude.{filter, option_map, option_to_list, slice_get}
 use Rattle.std.specs.declared.alloc.Global.{Global}
 use Rattle.std.proofs.Math.Seq.{take-suc}
 use Rattle.std.proofs.lemmas.List.{get_or-set_same, get_or-set_other, length-set, append-nil, map-append}

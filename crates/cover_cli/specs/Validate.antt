@@ -1,9 +1,7 @@
 -- What validating a file writes.
-use Rattle.std.specs.Prelude.{◌≡◌, ℕ, List, map, length}
-use Rattle.std.specs.List.{enumerate_from}
+use Rattle.std.specs.Prelude.{◌≡◌, ℕ, List, length}
 use Rattle.cov_io.specs.State.{State}
 use Rattle.cov_types.specs.declared.coord.Coord.{Coord}
-use Rattle.cov_types.specs.declared.seg.Seg.{Seg}
 use Rattle.cov_types.specs.Uses.{uses_of}
 use Rattle.cov_valid.specs.declared.mark.Mark.{Mark}
 use Rattle.cov_valid.specs.Marks.{AreMarks}

@@ -7,7 +7,6 @@ ghost use Rattle.cover_cli.specs.Made.{IsNodedFrom};
 ghost use Rattle.cover_cli.specs.Noding.{IsNoding};
 ghost use Rattle.cover_cli.specs.Refusal.{IsCause};
 ghost use Rattle.cover_cli.specs.Words.{Node};
-ghost use Rattle.snap_noder.specs.Edges.{odd_uses};
 
 use crate::input::read_coverage;
 use crate::lines::lists_by_member;
@@ -15,24 +14,10 @@ use crate::outcome::Outcome;
 use crate::run::written;
 use crate::validate::Made;
 use cov_io::Files;
-use cov_types::{Coverage, EdgeUse, NoMemory, uses};
+use cov_types::{Coverage, NoMemory, uses};
 use cov_write::lines_of;
-use snap_noder::{Noded, node};
+use snap_noder::{node, uses_of_odd};
 use std::alloc::Global;
-
-// The uses that the odd pairs stand for.
-fn uses_of_odd(alloc: Global, noded: &Noded) -> Result<Vec<EdgeUse>, NoMemory>
-    ensures { IfOk result (λ v. v.items ≡ odd_uses noded.now.edges.items noded.now.odd.items) }
-{
-    let mut uses = Vec::new(alloc);
-    for pair in &noded.odd {
-        uses.push(EdgeUse {
-            member: pair.member,
-            seg: noded.edges[pair.edge],
-        })?;
-    }
-    Ok(uses)
-}
 
 // The text of the noded edges, and then for each member of its odd edges.
 fn noding(alloc: Global, c: &Coverage) -> Result<Vec<u8>, NoMemory>

@@ -14,3 +14,4 @@ pub mod SquareRegions
 pub mod SquareCleaned
 pub mod Angles
 pub mod Labels
+pub mod OneNoding

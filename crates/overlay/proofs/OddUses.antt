@@ -24,11 +24,11 @@ use Rattle.overlay.specs.Noding.{segments, IsAscending, IsOdd, is_odd_before, Ar
 
 -- ---- whether two uses are one
 
-abbrev is_same_use : EdgeUse → EdgeUse → Bool
+abbrev pub is_same_use : EdgeUse → EdgeUse → Bool
 is_same_use x e = (x.member == e.member) && is_same_seg e.seg x.seg
 
-decides : (x e : EdgeUse) → Decides (is_same_use x e) (x ≡ e)
-decides x e = (there, back)
+pub Decides-same_use : (x e : EdgeUse) → Decides (is_same_use x e) (x ≡ e)
+Decides-same_use x e = (there, back)
   where
     there : is_same_use x e ≡ true → x ≡ e
     there h = let parts = and_parts _ _ h in same_uses x e ((Decides-eqb x.member e.member).0 parts.0) (sym ((Decides-same_segs e.seg x.seg).0 parts.1))
@@ -58,7 +58,7 @@ some_passes {X} p (x ∷ xs) h = by (λ rest. some_passes p xs rest) (p x) refl
 -- ---- places in an ascending list
 
 -- an edge stands at one place
-one_place : (edges : List Seg) → IsAscending edges → (a b : ℕ) (e : Seg) → slice_get edges a ≡ Some e → slice_get edges b ≡ Some e → a ≡ b
+pub one_place : (edges : List Seg) → IsAscending edges → (a b : ℕ) (e : Seg) → slice_get edges a ≡ Some e → slice_get edges b ≡ Some e → a ≡ b
 one_place edges ascending a b e at_a at_b =
     elim (cases_order a b) [
       | inl same ↦ same
@@ -84,16 +84,16 @@ module _ (edges : List Seg) where
   uses_of_pair o = map (λ e. record { member = o.member; seg = e }) (option_to_list (slice_get edges o.edge))
 
   -- the pair stands for the use
-  record StandsFor (o : OddUse) (u : EdgeUse) : Type 0 where
-    member : o.member ≡ u.member
-    edge : slice_get edges o.edge ≡ Some u.seg
+  pub record StandsFor (o : OddUse) (u : EdgeUse) : Type 0 where
+    pub member : o.member ≡ u.member
+    pub edge : slice_get edges o.edge ≡ Some u.seg
 
   in_option : (m : ℕ) (found : Option Seg) (u : EdgeUse) → Contains (map (λ e. record { member = m; seg = e }) (option_to_list found)) u → (m ≡ u.member) × (found ≡ Some u.seg)
   in_option m None u (k, inside, is) = absurd (omega arith)
   in_option m (Some e) u (zero, inside, is) = (ap (λ (v : EdgeUse). v.member) is, ap (λ (v : EdgeUse). Some v.seg) is)
   in_option m (Some e) u (suc k, inside, is) = absurd (omega arith)
 
-  pair_of : (odd : List OddUse) (u : EdgeUse) → Contains (odd_uses edges odd) u → (o : OddUse) × (Contains odd o × StandsFor o u)
+  pub pair_of : (odd : List OddUse) (u : EdgeUse) → Contains (odd_uses edges odd) u → (o : OddUse) × (Contains odd o × StandsFor o u)
   pair_of [] u (k, inside, is) = absurd (omega arith)
   pair_of (o ∷ odd) u h =
       elim (Contains-append_cases (uses_of_pair o) (odd_uses edges odd) u h) [
@@ -101,7 +101,7 @@ module _ (edges : List Seg) where
         | inr later ↦ (let found = pair_of odd u later in (found.0, (contains_there o found.0 odd found.1.0, found.1.1)))
       ]
 
-  has_use : (odd : List OddUse) (o : OddUse) (u : EdgeUse) → Contains odd o → StandsFor o u → Contains (odd_uses edges odd) u
+  pub has_use : (odd : List OddUse) (o : OddUse) (u : EdgeUse) → Contains odd o → StandsFor o u → Contains (odd_uses edges odd) u
   has_use [] o u (k, inside, is) stands = absurd (omega arith)
   has_use (q ∷ odd) o u (zero, inside, is) stands = Contains-append_left (uses_of_pair q) (odd_uses edges odd) u (in_its_own q (subst (λ r. StandsFor r u) (sym is) stands))
     where
@@ -128,7 +128,7 @@ module _ (edges : List Seg) where
   same_member : (o q : OddUse) → IsTrue (is_odd_before o q) → o.member ≡ q.member → o.edge ≡ q.edge → ⊥
   same_member o q before m e = grind (arith, nat_tests)
 
-  distinct_uses : IsAscending edges → (odd : List OddUse) → AllPairs (λ o q. IsTrue (is_odd_before o q)) odd → AreDistinct (odd_uses edges odd)
+  pub distinct_uses : IsAscending edges → (odd : List OddUse) → AllPairs (λ o q. IsTrue (is_odd_before o q)) odd → AreDistinct (odd_uses edges odd)
   distinct_uses ascending [] before = λ i j d less within. absurd (omega arith)
   distinct_uses ascending (o ∷ odd) before =
       in_front o.member (slice_get edges o.edge) (odd_uses edges odd) (distinct_uses ascending odd (λ i j d less within. before (suc i) (suc j) d (omega arith) (omega arith)))
@@ -143,14 +143,14 @@ module _ (edges : List Seg) where
 -- ---- they are those that all uses have an odd number of times
 
 -- each edge that is odd for a member is in the list
-abbrev HasOddEdges : List EdgeUse → List Seg → Type 0
+abbrev pub HasOddEdges : List EdgeUse → List Seg → Type 0
 HasOddEdges uses edges = (member : ℕ) (e : Seg) → IsOdd uses member e → Contains edges e
 
 module _ (uses : List EdgeUse) (edges : List Seg) (odd : List OddUse) (ascending : IsAscending edges) (pairs : AreOddPairs uses edges odd) (has : HasOddEdges uses edges) where
   some_is : (s t : Seg) → Some s ≡ Some t → s ≡ t
   some_is s t h = ap (λ o. unwrap_or o s) h
 
-  are_odd : (u : EdgeUse) → Contains (odd_uses edges odd) u ↔ (member_times u.seg uses u.member % 2 ≡ 1)
+  pub are_odd : (u : EdgeUse) → Contains (odd_uses edges odd) u ↔ (member_times u.seg uses u.member % 2 ≡ 1)
   are_odd u = (there, back)
     where
       there : Contains (odd_uses edges odd) u → IsOdd uses u.member u.seg
@@ -170,8 +170,8 @@ module _ (uses : List EdgeUse) (edges : List Seg) (odd : List OddUse) (ascending
           has_use edges odd o u ((pairs.exact o).1 (u.seg, (here, h))) (record { member = refl; edge = here })
 
   -- so a sum over all uses and over the odd ones has one parity
-  same_parity : (f : EdgeUse → ℕ) → sum_by f uses % 2 ≡ sum_by f (odd_uses edges odd) % 2
-  same_parity f = odd_sum is_same_use decides f uses (odd_uses edges odd) (distinct_uses edges ascending odd pairs.ascending) are_odd
+  pub same_parity : (f : EdgeUse → ℕ) → sum_by f uses % 2 ≡ sum_by f (odd_uses edges odd) % 2
+  same_parity f = odd_sum is_same_use Decides-same_use f uses (odd_uses edges odd) (distinct_uses edges ascending odd pairs.ascending) are_odd
 
   odd_uses_hold : (member : ℕ) (p : Point) → member_holds (odd_uses edges odd) member p ≡ member_holds uses member p
   odd_uses_hold member p = ap (λ n. n == 1) (sym (same_parity (λ u. cond ((u.member == member) && is_over u.seg p) 1 0)))

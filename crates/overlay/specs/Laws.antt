@@ -12,7 +12,7 @@ use Rattle.plane.specs.Segment.{upper, lower}
 use Rattle.sectors.specs.Sector.{HalfEdge, target, is_in_sector, Leaves, IsPlanar}
 use Rattle.overlay.specs.declared.candidate.Candidate.{Candidate}
 use Rattle.overlay.specs.declared.odd_use.OddUse.{OddUse}
-use Rattle.overlay.specs.Noding.{segments, AreEdges, AreLiveEdges, odd_uses}
+use Rattle.overlay.specs.Noding.{segments, AreEdges, AreLiveEdges, odd_uses, IsNoded}
 use Rattle.overlay.specs.Overlay.{Overlay}
 use Rattle.overlay.specs.Measure.{root, region_area2, border, owned_border}
 use Rattle.overlay.specs.Gap.{IsClearance, IsNarrow}
@@ -45,6 +45,13 @@ LiveUsesLaw = (uses : List EdgeUse) (edges : List Seg) (odd : List OddUse) → A
 abbrev pub LiveAgainLaw : Type 0
 LiveAgainLaw = (uses : List EdgeUse) (edges : List Seg) (odd : List OddUse) → AreEdges uses edges odd
     → (live : List Seg) (live_odd : List OddUse) → AreLiveEdges (odd_uses edges odd) live live_odd → AreLiveEdges uses live live_odd
+
+-- ---- noded edges
+
+-- uses in range have one list of noded edges, with one list of odd pairs
+abbrev pub NodingLaw : Type 0
+NodingLaw = (uses : List EdgeUse) → All (λ u. IsSegInRange u.seg) uses → (edges others : List Seg) (odd odd_too : List OddUse)
+    → IsNoded uses edges odd → IsNoded uses others odd_too → (edges ≡ others) × (odd ≡ odd_too)
 
 -- ---- labels
 

@@ -1,4 +1,4 @@
-ghost use Rattle.overlay.specs.Laws.{RootLaw, OddUsesLaw, LiveUsesLaw, LiveAgainLaw, SidesDifferLaw, FarLaw, NumberingLaw, MeasuresLaw, ClearanceLaw, NarrowLaw, PickLaw, OwnerLaw, PartLaw, AngleLaw};
+ghost use Rattle.overlay.specs.Laws.{RootLaw, OddUsesLaw, LiveUsesLaw, LiveAgainLaw, NodingLaw, SidesDifferLaw, FarLaw, NumberingLaw, MeasuresLaw, ClearanceLaw, NarrowLaw, PickLaw, OwnerLaw, PartLaw, AngleLaw};
 
 /// The root of a number is the whole part of its square root. A call does nothing.
 pub fn root_law()
@@ -10,6 +10,11 @@ pub fn odd_uses_law()
     ensures edges { OddUsesLaw }
     ensures live { LiveUsesLaw }
     ensures again { LiveAgainLaw }
+{}
+
+/// Uses have one noding. A call does nothing.
+pub fn noding_law()
+    ensures { NodingLaw }
 {}
 
 /// The two sides of a live edge have different labels, and far out no member holds anything. A call does nothing.

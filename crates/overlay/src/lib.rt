@@ -20,7 +20,9 @@
 //! A crate above takes a lemma by `use Rattle.overlay.proofs.FILE.{NAME}` in its `proofs/`. The files:
 //!
 //! - `Roots`: the root is the whole part of the square root (`root_is`), and the only such number (`root_unique`).
-//! - `OddUses`: where all uses are held, the odd ones are (`odd_uses_law`, `live_uses_law`); an odd edge is used (`odd_used`).
+//! - `OddUses`: where all uses are held, the odd ones are (`odd_uses_law`, `live_uses_law`); an odd edge is used (`odd_used`); the
+//!   odd uses are distinct (`distinct_uses`), and any sum over them has the parity of that over all uses (`same_parity`).
+//! - `OneNoding`: uses in range have one noding (`one_noding`); two lists in order with the same elements are one (`same_ordered`).
 //! - `Labels`: some member holds just one side of a live edge (`sides_differ`), and none the point past the range (`far_free`).
 //! - `Numberings`: the sides of edge k (`upper_side`, `lower_side`), and measures under another numbering (`measures_same`).
 //! - `Clearances`: one clearance (`clearance_unique`), and narrow by it (`narrow_is`).
@@ -38,7 +40,7 @@ mod odd_use;
 pub use candidate::Candidate;
 pub use examples::{instances, vectors};
 pub use laws::{
-    angle_law, clearance_law, label_law, numbering_law, odd_uses_law, owner_law, part_law,
-    pick_law, root_law,
+    angle_law, clearance_law, label_law, noding_law, numbering_law, odd_uses_law, owner_law,
+    part_law, pick_law, root_law,
 };
 pub use odd_use::OddUse;

@@ -1,5 +1,5 @@
-/// An edge that a member uses an odd number of times.
-#[derive(Clone, Copy, Debug, PartialEq, Eq)]
+/// An edge that a member uses an odd number of times; ordered by `member`, then `edge`.
+#[derive(Clone, Copy, Debug, PartialEq, Eq, PartialOrd, Ord)]
 pub struct OddUse {
     /// The number of the member, from 0.
     pub member: u32,

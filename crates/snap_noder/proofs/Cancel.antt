@@ -1,7 +1,7 @@
 -- The loop over sorted pairs in which two that are equal cancel.
 use mathlib.Core.List.{[], ◌∷◌}
-use Rattle.std.proofs.Common.{◌≡◌, ◌⊎◌, inl, inr, refl, sym, ◌∙◌, ap, subst, true≢false, ℕ, zero, suc, ◌+◌, ◌-◌, ◌<◌, ◌≤◌, ◌%◌, ◌↔◌, Bool, true, false, List, ◌++◌, length, get_or, take, IsTrue, IsSorted, is_lt, Some, is_some, slice_get, arith}
-use Rattle.std.specs.Prelude.{Contains, AllPairs}
+use Rattle.std.proofs.Common.{◌≡◌, inl, inr, sym, ◌∙◌, ap, subst, true≢false, ℕ, ◌+◌, ◌-◌, ◌<◌, ◌≤◌, ◌%◌, ◌↔◌, Bool, false, List, ◌++◌, length, get_or, take, IsTrue, IsSorted, is_lt, Some, is_some, slice_get, arith}
+use Rattle.std.specs.Prelude.{Contains}
 use Rattle.std.proofs.lemmas.Bool.{cases_Bool, cases_lt, false≢true}
 use Rattle.std.proofs.lemmas.Option.{get_or_from_slice_get}
 use Rattle.std.proofs.lemmas.List.{take_more, take_all, take_at, length-take, get_or-take, get_or_default, get_or_append_left, length-append}
@@ -9,9 +9,10 @@ use Rattle.std.proofs.lemmas.List.Elements.{Contains-append_left, Contains-push,
 use Rattle.std.proofs.lemmas.List.Quantifiers.{all_pairs_push}
 use Rattle.std.proofs.lemmas.List.Sorted.{sorted_far}
 use Rattle.std.proofs.Math.Seq.{get_or-append_seam}
-use Rattle.snap_noder.specs.declared.odd_use.OddUse.{OddUse}
-use Rattle.snap_noder.specs.Order.{is_odd_before, odd_cmp, AreOddAscending}
-use Rattle.snap_noder.specs.Edges.{odd_times, IsLast}
+use Rattle.overlay.specs.declared.odd_use.OddUse.{OddUse}
+use Rattle.overlay.specs.Noding.{is_odd_before}
+use Rattle.snap_noder.specs.Order.{odd_cmp, AreOddAscending}
+use Rattle.snap_noder.specs.Places.{odd_times, IsLast}
 use Rattle.snap_noder.proofs.OddOrder.{is_same_odd, Decides-same_odds, odd_weak, is_lt-odd_cmp, odds_from_neither, is_odd_before-irrefl}
 use Rattle.snap_noder.proofs.Times.{same_or_not, times_push_same, times_push_other, odd_has}
 

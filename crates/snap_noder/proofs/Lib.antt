@@ -4,4 +4,5 @@ mod Cancel
 mod Zip
 mod Places
 mod ParityLemmas
+mod LiveUses
 mod Snapping

@@ -1,13 +1,13 @@
 -- The order of odd pairs, and the test whether two are one.
-use Rattle.std.proofs.Common.{◌≡◌, refl, sym, ◌∙◌, ap, ℕ, ◌==◌, eqb, Bool, true, false, ◌&&◌, ◌||◌, not, nat_lt, Decides, IsTrue, Ordering, Less, Equal, Greater, nat_cmp, is_lt, arith}
-use Rattle.std.specs.Ordering.{ordering_then, ordering_reverse}
+use Rattle.std.proofs.Common.{◌≡◌, ap, ◌==◌, Bool, false, ◌&&◌, Decides, nat_cmp, is_lt, arith}
 use Rattle.std.specs.Cmp.{IsTotalOrder, IsStrictWeakOrder}
 use Rattle.std.proofs.lemmas.Bool.{and_parts, and_from}
 use Rattle.std.proofs.lemmas.Bool.Decides.{Decides-eqb}
 use Rattle.std.proofs.lemmas.Cmp.{nat_cmp_total, then_total}
 use Rattle.std.proofs.lemmas.List.Sorted.{ranks_by}
-use Rattle.snap_noder.specs.declared.odd_use.OddUse.{OddUse}
-use Rattle.snap_noder.specs.Order.{is_odd_before, odd_cmp}
+use Rattle.overlay.specs.declared.odd_use.OddUse.{OddUse}
+use Rattle.overlay.specs.Noding.{is_odd_before}
+use Rattle.snap_noder.specs.Order.{odd_cmp}
 
 abbrev pub is_same_odd : OddUse → OddUse → Bool
 is_same_odd o p = (o.member == p.member) && (o.edge == p.edge)

@@ -1,18 +1,16 @@
 -- Places in ascending edges.
 use mathlib.Core.List.{[], ◌∷◌}
-use Rattle.std.proofs.Common.{◌≡◌, ◌⊎◌, inl, inr, refl, sym, ◌∙◌, ap, subst, true≢false, ℕ, zero, suc, ◌+◌, ◌<◌, ◌≤◌, Bool, true, false, List, get_or, length, IsTrue, Option, Some, None, is_some, slice_get, Result, Ok, Err, Ordering, Less, Equal, Greater, is_lt, is_gt, IsOk, IfOk, IsSorted, refl, arith}
-use Rattle.std.specs.Prelude.{Contains, AllPairs}
+use Rattle.std.proofs.Common.{◌≡◌, ◌⊎◌, inl, inr, refl, sym, ◌∙◌, ap, subst, true≢false, ℕ, zero, suc, ◌+◌, ◌<◌, false, List, get_or, length, Some, is_some, slice_get, Result, Ok, Err, Ordering, Less, Equal, Greater, is_lt, is_gt, IsOk, IfOk, IsSorted, refl, arith}
+use Rattle.std.specs.Prelude.{Contains}
 use Rattle.std.specs.List.{HoldsAt}
-use Rattle.std.specs.List.Sorted.{IsBinarySearchResult, IsPartitionPoint, IsSearchInRange}
-use Rattle.std.specs.Cmp.{IsTotalOrder}
-use Rattle.std.proofs.lemmas.Bool.{cases_order, cases_lt, cases_Bool}
-use Rattle.std.proofs.lemmas.List.{get_or_default}
+use Rattle.std.specs.List.Sorted.{IsBinarySearchResult, IsSearchInRange}
+use Rattle.std.proofs.lemmas.Bool.{cases_lt}
 use Rattle.std.proofs.lemmas.List.Sorted.{searchable_from_sorted}
 use Rattle.std.proofs.lemmas.Option.{get_or_from_slice_get, slice_get-get_or}
-use Rattle.cov_types.specs.Seg.{is_seg_before, seg_cmp}
+use Rattle.cov_types.specs.Seg.{seg_cmp}
 use Rattle.cov_types.specs.declared.seg.Seg.{Seg}
 use Rattle.cov_types.proofs.SegOrder.{seg_cmp_total, is_lt-seg_cmp, is_gt-seg_cmp, is_seg_before-asymm, is_seg_before-irrefl, same_segs_from_neither}
-use Rattle.snap_noder.specs.Order.{AreAscending}
+use Rattle.overlay.specs.Noding.{IsAscending}
 
 pub slice_get_within : {X : Type 0} (xs : List X) (k : ℕ) (x : X) → slice_get xs k ≡ Some x → k < length xs
 slice_get_within [] k x at = absurd (true≢false (ap is_some (sym at)))
@@ -31,25 +29,9 @@ get_or_at [] k within = absurd (omega arith)
 get_or_at (x ∷ xs) zero within = (x, refl)
 get_or_at (x ∷ xs) (suc k) within = get_or_at xs k (omega arith)
 
--- in ascending edges an edge has one place
-not_before_itself : (s t : Seg) → s ≡ t → ¬ IsTrue (is_seg_before s t)
-not_before_itself s t same h = true≢false (sym h ∙ ap (λ (u : Seg). is_seg_before u t) same ∙ is_seg_before-irrefl t)
-
-pub one_place : (edges : List Seg) → AreAscending edges → (j k : ℕ) (e : Seg) → slice_get edges j ≡ Some e → slice_get edges k ≡ Some e → j ≡ k
-one_place edges up j k e at_j at_k =
-    let j_is = get_or_from_slice_get edges j e e at_j in
-    let k_is = get_or_from_slice_get edges k e e at_k in
-    elim (cases_order j k) [
-      | inl same ↦ same
-      | inr apart ↦ elim apart [
-        | inl below ↦ absurd (not_before_itself _ _ (j_is ∙ sym k_is) (up j k e below (slice_get_within edges k e at_k)))
-        | inr above ↦ absurd (not_before_itself _ _ (k_is ∙ sym j_is) (up k j e above (slice_get_within edges j e at_j)))
-      ]
-    ]
-
 -- ---- binary search
 
-ascending_sorted : (edges : List Seg) → AreAscending edges → IsSorted seg_cmp edges
+ascending_sorted : (edges : List Seg) → IsAscending edges → IsSorted seg_cmp edges
 ascending_sorted edges up k d low within =
     is_lt-seg_cmp (get_or edges (k + 1) d) (get_or edges k d) ∙ is_seg_before-asymm (get_or edges k d) (get_or edges (k + 1) d) (up k (k + 1) d (omega arith) within)
 
@@ -69,7 +51,7 @@ unequal o e (inl h) = true≢false (ap is_lt (sym h ∙ e))
 unequal o e (inr h) = true≢false (ap is_gt (sym h ∙ e))
 
 -- the search finds an edge that is there, and only that edge
-pub search_finds : (edges : List Seg) (s : Seg) (r : Result ℕ ℕ) → AreAscending edges → Contains edges s → IsBinarySearchResult (λ t. seg_cmp t s) edges r → IsOk r
+pub search_finds : (edges : List Seg) (s : Seg) (r : Result ℕ ℕ) → IsAscending edges → Contains edges s → IsBinarySearchResult (λ t. seg_cmp t s) edges r → IsOk r
 search_finds edges s (Ok k) up has result = refl
 search_finds edges s (Err i) up (k, within, is) result =
     let split = result (searchable_from_sorted seg_cmp_total (λ (t : Seg). t) edges s (ascending_sorted edges up)) in

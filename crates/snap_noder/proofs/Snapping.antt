@@ -1,6 +1,6 @@
 -- The uses of chain edges.
 use mathlib.Core.List.{[], ◌∷◌}
-use Rattle.std.proofs.Common.{◌≡◌, ◌⊎◌, inl, inr, refl, sym, ◌∙◌, ap, subst, ℕ, ◌+◌, ◌<◌, ◌≤◌, ◌%◌, ◌==◌, ◌↔◌, Bool, true, false, cond, List, ◌++◌, get_or, length, take, map, Option, Some, None, arith}
+use Rattle.std.proofs.Common.{◌≡◌, inl, inr, refl, sym, ◌∙◌, ap, subst, ℕ, ◌+◌, ◌<◌, ◌≤◌, ◌%◌, ◌==◌, ◌↔◌, Bool, true, false, cond, List, ◌++◌, get_or, length, take, map, Option, Some, None, arith}
 use Rattle.std.specs.Prelude.{All, Contains, sum_by, flat_map, zip, option_to_list}
 use Rattle.std.specs.List.{AllZip}
 use Rattle.std.proofs.lemmas.List.{append-nil, append_assoc, map-append, take_more, take_all, get_or_default}
@@ -8,7 +8,7 @@ use Rattle.std.proofs.lemmas.List.Elements.{All-contains, All-map, Contains-get_
 use Rattle.std.proofs.lemmas.List.Concat.{flat_map-append}
 use Rattle.std.proofs.lemmas.List.Sums.{sum_by-append, sum_by-cons}
 use Rattle.cov_types.specs.Range.{IsSegInRange}
-use Rattle.cov_types.specs.Uses.{seg_between, ends_inside, ends_in, HasEvenEnds}
+use Rattle.cov_types.specs.Uses.{seg_between, ends_inside, HasEvenEnds}
 use Rattle.cov_types.specs.declared.coord.Coord.{Coord}
 use Rattle.cov_types.specs.declared.edge_use.EdgeUse.{EdgeUse}
 use Rattle.cov_types.specs.declared.seg.Seg.{Seg}
@@ -20,12 +20,11 @@ use Rattle.rounding.proofs.Edges.{chain_edge, edge_in_range}
 use Rattle.rounding.proofs.Ends.{even_ends}
 use Rattle.rounding.proofs.Noded.{list_fully_noded}
 use Rattle.rounding.proofs.Shadow.{half_unit}
-use Rattle.hot_pixel.specs.HotSet.{segs_of}
-use Rattle.snap_noder.specs.declared.odd_use.OddUse.{OddUse}
-use Rattle.snap_noder.specs.Edges.{AreEdgesOf, odd_uses}
-use Rattle.snap_noder.specs.Order.{AreAscending, AreOddAscending}
-use Rattle.snap_noder.specs.Snapped.{AreChains, chain_uses, snapped, IsNoded, IsNearSegments}
-use Rattle.snap_noder.proofs.ParityLemmas.{contains_mapped, mapped_contains, even_odd}
+use Rattle.overlay.specs.declared.odd_use.OddUse.{OddUse}
+use Rattle.overlay.specs.Noding.{segments, AreChains, snapped_uses, AreSnapped, AreEdges, IsNoded, odd_uses}
+use Rattle.snap_noder.specs.Snapped.{chain_uses, IsNearSegments}
+use Rattle.snap_noder.proofs.LiveUses.{even_odd}
+use Rattle.snap_noder.proofs.ParityLemmas.{contains_mapped, mapped_contains}
 use Rattle.snap_noder.proofs.Times.{contains_front, contains_behind}
 use Rattle.snap_noder.proofs.Zip.{zip_more, zipped_push}
 
@@ -33,17 +32,17 @@ use Rattle.snap_noder.proofs.Zip.{zip_more, zipped_push}
 
 -- the uses so far, each with its chain over all segments
 abbrev pub SnappedSoFar : List Seg → List EdgeUse → List EdgeUse → Type 0
-SnappedSoFar segs uses out = (chains : List (List Coord)) × (AllZip (λ u chain. IsChain segs u.seg chain) uses chains × (out ≡ snapped uses chains))
+SnappedSoFar segs uses out = (chains : List (List Coord)) × (AllZip (λ u chain. IsChain segs u.seg chain) uses chains × (out ≡ snapped_uses uses chains))
 
 pub snapped_start : (segs : List Seg) (out : List EdgeUse) → out ≡ [] → SnappedSoFar segs [] out
 snapped_start segs out empty = ([], (tt, empty))
 
 snapped_push : (segs : List Seg) (uses : List EdgeUse) (chains : List (List Coord)) (u : EdgeUse) (chain : List Coord) → AllZip (λ v c. IsChain segs v.seg c) uses chains
-    → snapped (uses ++ u ∷ []) (chains ++ chain ∷ []) ≡ snapped uses chains ++ chain_uses (u, chain)
+    → snapped_uses (uses ++ u ∷ []) (chains ++ chain ∷ []) ≡ snapped_uses uses chains ++ chain_uses (u, chain)
 snapped_push segs uses chains u chain each =
     ap (flat_map chain_uses) (zipped_push (λ v c. IsChain segs v.seg c) uses chains u chain each)
     ∙ flat_map-append chain_uses (zip uses chains) ((u, chain) ∷ [])
-    ∙ ap (λ us. snapped uses chains ++ us) (append-nil (chain_uses (u, chain)))
+    ∙ ap (λ us. snapped_uses uses chains ++ us) (append-nil (chain_uses (u, chain)))
 
 -- u is the use at i, and its chain follows
 pub snapped_more : (segs : List Seg) (list before after : List EdgeUse) (i : ℕ) (u : EdgeUse) (chain read : List Coord) → i < length list → u ≡ get_or list i u
@@ -55,12 +54,14 @@ snapped_more segs list before after i u chain read within is (chains, (each, so_
     pushed
         ∙ (λ j. so_far j ++ chain_uses (u, same j))
         ∙ sym (snapped_push segs (take i list) chains u chain each)
-        ∙ ap (λ us. snapped us (chains ++ chain ∷ [])) (ap (λ v. take i list ++ v ∷ []) is ∙ sym (take_more list i u within)),
+        ∙ ap (λ us. snapped_uses us (chains ++ chain ∷ [])) (ap (λ v. take i list ++ v ∷ []) is ∙ sym (take_more list i u within)),
   ),
 )
 
-pub snapped_all : (segs : List Seg) (list out : List EdgeUse) (i : ℕ) → length list ≤ i → SnappedSoFar segs (take i list) out → SnappedSoFar segs list out
-snapped_all segs list out i past h = subst (λ (us : List EdgeUse). SnappedSoFar segs us out) (take_all i list past) h
+pub snapped_all : (list out : List EdgeUse) (i : ℕ) → length list ≤ i → SnappedSoFar (segments list) (take i list) out → AreSnapped list out
+snapped_all list out i past h =
+    let all = subst (λ (us : List EdgeUse). SnappedSoFar (segments list) us out) (take_all i list past) h in
+    record { chains = all.0; are_chains = all.1.0; made = all.1.1 }
 
 -- ---- the loop along a chain
 
@@ -136,49 +137,49 @@ of_chain segs uses u v chain used is_chain h =
     let edge = contains_mapped (λ e. record { member = u.member; seg = e }) (chain_edges chain) v h in
     record { of = u; chain = chain; used = used; is_chain = is_chain; edge = subst (λ (e : Seg). Contains (chain_edges chain) e) (ap (λ (w : EdgeUse). w.seg) edge.1.1) edge.1.0 }
 
-snapped_along : (segs : List Seg) (uses : List EdgeUse) (chains : List (List Coord)) → AllZip (λ u c. IsChain segs u.seg c) uses chains → (v : EdgeUse) → Contains (snapped uses chains) v → IsAlong segs uses v
+snapped_along : (segs : List Seg) (uses : List EdgeUse) (chains : List (List Coord)) → AllZip (λ u c. IsChain segs u.seg c) uses chains → (v : EdgeUse) → Contains (snapped_uses uses chains) v → IsAlong segs uses v
 snapped_along segs [] [] each v (k, within, is) = absurd (omega arith)
 snapped_along segs [] (c ∷ chains) each v h = absurd each
 snapped_along segs (u ∷ uses) [] each v h = absurd each
 snapped_along segs (u ∷ uses) (c ∷ chains) each v h =
-    elim (Contains-append_cases (chain_uses (u, c)) (snapped uses chains) v h) [
+    elim (Contains-append_cases (chain_uses (u, c)) (snapped_uses uses chains) v h) [
       | inl here ↦ of_chain segs (u ∷ uses) u v c (contains_front u uses) each.0 here
       | inr later ↦ (let rest = snapped_along segs uses chains each.1 v later in
           record { of = rest.of; chain = rest.chain; used = contains_behind u rest.of uses rest.used; is_chain = rest.is_chain; edge = rest.edge })
     ]
 
 module _ (list : List EdgeUse) (in_range : All (λ u. IsSegInRange u.seg) list) (chains : List (List Coord)) (are : AreChains list chains) where
-  segs_in_range : All IsSegInRange (segs_of list)
+  segs_in_range : All IsSegInRange (segments list)
   segs_in_range = All-map IsSegInRange (λ (u : EdgeUse). u.seg) list in_range
 
-  edge_along : (e : Seg) → Contains (segs_of (snapped list chains)) e → (v : EdgeUse) × (IsAlong (segs_of list) list v × (v.seg ≡ e))
+  edge_along : (e : Seg) → Contains (segments (snapped_uses list chains)) e → (v : EdgeUse) × (IsAlong (segments list) list v × (v.seg ≡ e))
   edge_along e h =
-      let v = contains_mapped (λ (w : EdgeUse). w.seg) (snapped list chains) e h in
-      (v.0, (snapped_along (segs_of list) list chains are v.0 v.1.0, v.1.1))
+      let v = contains_mapped (λ (w : EdgeUse). w.seg) (snapped_uses list chains) e h in
+      (v.0, (snapped_along (segments list) list chains are v.0 v.1.0, v.1.1))
 
-  noded_edge : (e : Seg) → Contains (segs_of (snapped list chains)) e → IsNodedEdge (segs_of list) e
+  noded_edge : (e : Seg) → Contains (segments (snapped_uses list chains)) e → IsNodedEdge (segments list) e
   noded_edge e h =
       let v = edge_along e h in
       let along = v.1.0 in
       (along.of.seg, (along.chain, (mapped_contains (λ (w : EdgeUse). w.seg) list along.of along.used, along.is_chain, subst (λ (f : Seg). Contains (chain_edges along.chain) f) v.1.1 along.edge)))
 
-  module _ (edges : List Seg) (listed : (e : Seg) → Contains edges e ↔ Contains (segs_of (snapped list chains)) e) where
-    noded_all : All (IsNodedEdge (segs_of list)) edges
+  module _ (edges : List Seg) (listed : (e : Seg) → Contains edges e ↔ Contains (segments (snapped_uses list chains)) e) where
+    noded_all : All (IsNodedEdge (segments list)) edges
     noded_all k d within = noded_edge (get_or edges k d) ((listed (get_or edges k d)).0 (Contains-get_or edges k d within))
 
     pub edges_fully_noded : IsNodedFully edges
-    edges_fully_noded = list_fully_noded (segs_of list) segs_in_range edges noded_all
+    edges_fully_noded = list_fully_noded (segments list) segs_in_range edges noded_all
 
     pub edges_in_range : All IsSegInRange edges
     edges_in_range k d within =
         let noded = noded_all k d within in
-        let range = All-contains IsSegInRange (segs_of list) noded.0 segs_in_range noded.1.1.0 in
-        edge_in_range (segs_of list) noded.0 (get_or edges k d) range (chain_edge (segs_of list) noded.0 noded.1.0 (get_or edges k d) (rises-in_range noded.0 range) noded.1.1.1 noded.1.1.2)
+        let range = All-contains IsSegInRange (segments list) noded.0 segs_in_range noded.1.1.0 in
+        edge_in_range (segments list) noded.0 (get_or edges k d) range (chain_edge (segments list) noded.0 noded.1.0 (get_or edges k d) (rises-in_range noded.0 range) noded.1.1.1 noded.1.1.2)
 
 -- every point of a chain edge is near a point of its segment
 pub near_segments : (list : List EdgeUse) (edges : List Seg) → All (λ u. IsSegInRange u.seg) list → IsNearSegments list edges
 near_segments list edges in_range e listed u chain used along has =
-    half_unit (segs_of list) u.seg chain e (rises-in_range u.seg (All-contains (λ (v : EdgeUse). IsSegInRange v.seg) list u in_range used)) along has
+    half_unit (segments list) u.seg chain e (rises-in_range u.seg (All-contains (λ (v : EdgeUse). IsSegInRange v.seg) list u in_range used)) along has
 
 -- ---- even ends
 
@@ -210,38 +211,40 @@ module _ (segs : List Seg) (inside : Coord → Bool) (member : ℕ) where
       ∙ tested_parity (u.member == member) _ _ (even_ends segs u.seg chain (rises-in_range u.seg range) has along inside)
 
   snapped_parity : (uses : List EdgeUse) (chains : List (List Coord)) → ((u : EdgeUse) → Contains uses u → IsSegInRange u.seg × Contains segs u.seg) → AllZip (λ u c. IsChain segs u.seg c) uses chains
-      → sum_by ends (snapped uses chains) % 2 ≡ sum_by ends uses % 2
+      → sum_by ends (snapped_uses uses chains) % 2 ≡ sum_by ends uses % 2
   snapped_parity [] [] all each = refl
   snapped_parity [] (c ∷ chains) all each = absurd each
   snapped_parity (u ∷ uses) [] all each = absurd each
   snapped_parity (u ∷ uses) (c ∷ chains) all each =
       let here = all u (contains_front u uses) in
-      ap (λ n. n % 2) (sum_by-append ends (chain_uses (u, c)) (snapped uses chains))
+      ap (λ n. n % 2) (sum_by-append ends (chain_uses (u, c)) (snapped_uses uses chains))
       ∙ parity_of_sum _ _ _ _ (chain_even u c here.0 here.1 each.0) (snapped_parity uses chains (λ v h. all v (contains_behind u v uses h)) each.1)
       ∙ ap (λ n. n % 2) (sym (sum_by-cons ends u uses))
 
-pub snapped_even : (list : List EdgeUse) (chains : List (List Coord)) → All (λ u. IsSegInRange u.seg) list → AreChains list chains → HasEvenEnds list → HasEvenEnds (snapped list chains)
+pub snapped_even : (list : List EdgeUse) (chains : List (List Coord)) → All (λ u. IsSegInRange u.seg) list → AreChains list chains → HasEvenEnds list → HasEvenEnds (snapped_uses list chains)
 unfolding ends
 snapped_even list chains in_range are even inside member =
-    snapped_parity (segs_of list) inside member list chains
+    snapped_parity (segments list) inside member list chains
     (λ u h. (All-contains (λ (v : EdgeUse). IsSegInRange v.seg) list u in_range h, mapped_contains (λ (v : EdgeUse). v.seg) list u h)) are
     ∙ even inside member
 
 -- ---- what the code ends with: the edges of the snapped uses, which it read through a slice
 
-module _ (list uses read : List EdgeUse) (in_range : All (λ u. IsSegInRange u.seg) list) (made : (chains : List (List Coord)) × (AreChains list chains × (uses ≡ snapped list chains))) (same : read ≡ uses)
-    (edges : List Seg) (odd : List OddUse) (are : AreEdgesOf read edges odd) where
-  are_snapped : AreEdgesOf (snapped list made.0) edges odd
-  are_snapped = subst (λ (us : List EdgeUse). AreEdgesOf us edges odd) (same ∙ made.1.1) are
+module _ (list uses read : List EdgeUse) (in_range : All (λ u. IsSegInRange u.seg) list) (made : AreSnapped list uses) (same : read ≡ uses) (edges : List Seg) (odd : List OddUse) (are : AreEdges read edges odd) where
+  are_edges : AreEdges uses edges odd
+  are_edges = subst (λ (us : List EdgeUse). AreEdges us edges odd) same are
+
+  listed : (e : Seg) → Contains edges e ↔ Contains (segments (snapped_uses list made.chains)) e
+  listed = (subst (λ (us : List EdgeUse). AreEdges us edges odd) made.made are_edges).exact
 
   pub is_noded : IsNoded list edges odd
-  is_noded = (made.0, (made.1.0, are_snapped))
+  is_noded = record { snapped = uses; are_snapped = made; are_edges = are_edges }
 
   pub is_fully_noded : IsNodedFully edges
-  is_fully_noded = edges_fully_noded list in_range made.0 made.1.0 edges are_snapped.listed
+  is_fully_noded = edges_fully_noded list in_range made.chains made.are_chains edges listed
 
   pub is_in_range : All IsSegInRange edges
-  is_in_range = edges_in_range list in_range made.0 made.1.0 edges are_snapped.listed
+  is_in_range = edges_in_range list in_range made.chains made.are_chains edges listed
 
-  pub is_even : AreAscending edges → AreOddAscending odd → HasEvenEnds list → HasEvenEnds (odd_uses edges odd)
-  is_even up odd_up even = even_odd edges up (snapped list made.0) odd odd_up are_snapped (snapped_even list made.0 in_range made.1.0 even)
+  pub is_even : HasEvenEnds list → HasEvenEnds (odd_uses edges odd)
+  is_even even = even_odd uses edges odd are_edges (subst HasEvenEnds (sym made.made) (snapped_even list made.chains in_range made.are_chains even))

@@ -1,3 +1,3 @@
 pub mod Order
-pub mod Edges
+pub mod Places
 pub mod Snapped

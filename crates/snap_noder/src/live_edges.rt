@@ -1,14 +1,16 @@
-ghost use Rattle.snap_noder.specs.Order.{AreAscending, AreOddAscending, HavePlaces, AreAllUsed};
+ghost use Rattle.overlay.specs.Noding.{IsAscending};
+ghost use Rattle.snap_noder.specs.Order.{AreOddAscending};
+ghost use Rattle.snap_noder.specs.Places.{HavePlaces, AreAllUsed};
 
-use crate::odd_use::OddUse;
 use cov_types::Seg;
+use overlay::OddUse;
 
 /// Edges that some member has an odd number of times each, and for each member which.
 #[derive(Drop)]
 pub struct LiveEdges {
     pub edges: Vec<Seg>,
     pub odd: Vec<OddUse>,
-    pub ghost ascending: { AreAscending edges.items },
+    pub ghost ascending: { IsAscending edges.items },
     pub ghost odd_ascending: { AreOddAscending odd.items },
     pub ghost places: { HavePlaces edges.items odd.items },
     pub ghost used: { AreAllUsed edges.items odd.items },

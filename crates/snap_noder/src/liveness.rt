@@ -1,6 +1,7 @@
-ghost use Rattle.std.specs.Prelude.{◌≡◌, Any, Contains, IfOk, ◌↔◌};
+ghost use Rattle.std.specs.Prelude.{◌≡◌, Contains, IfOk, ◌↔◌};
 ghost use Rattle.cov_types.specs.Uses.{HasEvenEnds};
-ghost use Rattle.snap_noder.specs.Edges.{odd_uses};
+ghost use Rattle.overlay.specs.Noding.{AreLiveEdges, odd_uses};
+ghost use Rattle.sectors.specs.Sector.{AreDistinct, IsPlanar};
 
 use crate::live_edges::LiveEdges;
 use crate::noded::Noded;
@@ -10,8 +11,13 @@ use std::alloc::Global;
 
 /// The edges that are odd for some member, renumbered in their order, with the odd pairs.
 pub fn live(alloc: Global, n: &Noded) -> Result<LiveEdges, NoMemory>
-    ensures edges { IfOk result (λ l. (e : Seg) → Contains l.edges.items e ↔ Any (λ u. u.seg ≡ e) (odd_uses n.now.edges.items n.now.odd.items)) }
+    ensures exact { IfOk result (λ l. AreLiveEdges (odd_uses n.now.edges.items n.now.odd.items) l.edges.items l.odd.items) }
     ensures odd { IfOk result (λ l. (u : EdgeUse) → Contains (odd_uses l.edges.items l.odd.items) u ↔ Contains (odd_uses n.now.edges.items n.now.odd.items) u) }
+
+    // Each live edge is one of the edges, and so the live edges meet in ends alone where the edges do.
+    ensures fewer { IfOk result (λ l. (e : Seg) → Contains l.edges.items e → Contains n.now.edges.items e) }
+    ensures planar { IfOk result (λ l. IsPlanar n.now.edges.items → IsPlanar l.edges.items) }
+    ensures distinct { IfOk result (λ l. AreDistinct l.edges.items) }
     ensures even { IfOk result (λ l. HasEvenEnds (odd_uses n.now.edges.items n.now.odd.items) → HasEvenEnds (odd_uses l.edges.items l.odd.items)) }
 {
     let uses = uses_of_odd(alloc, n)?;
@@ -19,8 +25,8 @@ pub fn live(alloc: Global, n: &Noded) -> Result<LiveEdges, NoMemory>
     Ok(LiveEdges { edges, odd })
 }
 
-// The uses that the odd pairs stand for.
-fn uses_of_odd(alloc: Global, n: &Noded) -> Result<Vec<EdgeUse>, NoMemory>
+/// The uses that the odd pairs stand for: each member with each edge that it has an odd number of times.
+pub fn uses_of_odd(alloc: Global, n: &Noded) -> Result<Vec<EdgeUse>, NoMemory>
     ensures { IfOk result (λ uses. uses.items ≡ odd_uses n.now.edges.items n.now.odd.items) }
 {
     let mut uses = Vec::new(alloc);

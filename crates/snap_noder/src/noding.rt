@@ -2,9 +2,8 @@ ghost use Rattle.std.specs.Prelude.{◌≡◌, ◌++◌, All, IfOk, OnOk};
 ghost use Rattle.cov_types.specs.Range.{IsSegInRange};
 ghost use Rattle.cov_types.specs.Uses.{HasEvenEnds};
 ghost use Rattle.plane.specs.Noded.{IsNodedFully};
-ghost use Rattle.hot_pixel.specs.HotSet.{segs_of};
-ghost use Rattle.snap_noder.specs.Edges.{AreEdgesOf, odd_uses};
-ghost use Rattle.snap_noder.specs.Snapped.{AreChains, IsNearSegments, IsNoded, chain_uses, snapped};
+ghost use Rattle.overlay.specs.Noding.{AreEdges, AreSnapped, IsNoded, odd_uses, segments};
+ghost use Rattle.snap_noder.specs.Snapped.{IsNearSegments, chain_uses};
 
 use crate::noded::Noded;
 use crate::parity::edges_of;
@@ -33,8 +32,8 @@ pub fn node(alloc: Global, list: &[EdgeUse]) -> Result<Noded, NoMemory>
 /// The segments of the uses themselves, each once, and for each member those that it uses an odd number of times.
 pub fn plain(alloc: Global, list: &[EdgeUse]) -> Result<Noded, NoMemory>
     requires in_range { All (λ u. IsSegInRange u.seg) list.now }
-    requires noded { IsNodedFully (segs_of list.now) }
-    ensures exact { IfOk result (λ n. AreEdgesOf list.now n.edges.items n.odd.items) }
+    requires noded { IsNodedFully (segments list.now) }
+    ensures exact { IfOk result (λ n. AreEdges list.now n.edges.items n.odd.items) }
     ensures fully_noded { IfOk result (λ n. IsNodedFully n.edges.items) }
     ensures in_range { IfOk result (λ n. All IsSegInRange n.edges.items) }
     ensures even { IfOk result (λ n. HasEvenEnds list.now → HasEvenEnds (odd_uses n.edges.items n.odd.items)) }
@@ -45,8 +44,8 @@ pub fn plain(alloc: Global, list: &[EdgeUse]) -> Result<Noded, NoMemory>
 // The uses of all chain edges: of each use in turn, along its chain.
 fn snapped_uses(alloc: Global, hot: &HotSet, list: &[EdgeUse]) -> Result<Vec<EdgeUse>, NoMemory>
     requires in_range { All (λ u. IsSegInRange u.seg) list.now }
-    requires built { hot.now ≡ segs_of list.now }
-    ensures { IfOk result (λ uses. (chains : _) × (AreChains list.now chains × (uses.items ≡ snapped list.now chains))) }
+    requires built { hot.now ≡ segments list.now }
+    ensures { IfOk result (λ uses. AreSnapped list.now uses.items) }
 {
     let mut uses = Vec::new(alloc);
     for u in list {

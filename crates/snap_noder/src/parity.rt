@@ -1,16 +1,16 @@
 ghost use Rattle.std.specs.Prelude.{◌≡◌, ◌%◌, All, Contains, IfOk, IsSorted, IsTrue, ◌↔◌, slice_get};
-ghost use Rattle.hot_pixel.specs.HotSet.{segs_of};
-ghost use Rattle.snap_noder.specs.Edges.{AreEdgesOf, ArePlacesOf, IsLast, odd_times};
-ghost use Rattle.snap_noder.specs.Order.{AreAscending, AreOddAscending, odd_cmp};
+ghost use Rattle.overlay.specs.Noding.{AreEdges, IsAscending, segments};
+ghost use Rattle.snap_noder.specs.Order.{AreOddAscending, odd_cmp};
+ghost use Rattle.snap_noder.specs.Places.{ArePlacesOf, IsLast, odd_times};
 
 use crate::noded::Noded;
-use crate::odd_use::OddUse;
 use cov_types::{EdgeUse, NoMemory, Seg};
+use overlay::OddUse;
 use std::alloc::Global;
 
 /// The edges of a list of uses, and for each member those that it uses an odd number of times.
 pub(crate) fn edges_of(alloc: Global, uses: &[EdgeUse]) -> Result<Noded, NoMemory>
-    ensures { IfOk result (λ n. AreEdgesOf uses.now n.edges.items n.odd.items) }
+    ensures { IfOk result (λ n. AreEdges uses.now n.edges.items n.odd.items) }
 {
     let edges = distinct_edges(alloc, uses)?;
     let places = places_of(alloc, uses, edges.as_slice())?;
@@ -19,17 +19,17 @@ pub(crate) fn edges_of(alloc: Global, uses: &[EdgeUse]) -> Result<Noded, NoMemor
 }
 
 fn distinct_edges(alloc: Global, uses: &[EdgeUse]) -> Result<Vec<Seg>, NoMemory>
-    ensures exact { IfOk result (λ edges. (e : Seg) → Contains edges.items e ↔ Contains (segs_of uses.now) e) }
-    ensures ascending { IfOk result (λ edges. AreAscending edges.items) }
+    ensures exact { IfOk result (λ edges. (e : Seg) → Contains edges.items e ↔ Contains (segments uses.now) e) }
+    ensures ascending { IfOk result (λ edges. IsAscending edges.items) }
 {
-    let mut edges = segments(alloc, uses)?;
+    let mut edges = segments_of(alloc, uses)?;
     edges.sort_unstable();
     edges.dedup();
     Ok(edges)
 }
 
-fn segments(alloc: Global, uses: &[EdgeUse]) -> Result<Vec<Seg>, NoMemory>
-    ensures { IfOk result (λ segs. segs.items ≡ segs_of uses.now) }
+fn segments_of(alloc: Global, uses: &[EdgeUse]) -> Result<Vec<Seg>, NoMemory>
+    ensures { IfOk result (λ segs. segs.items ≡ segments uses.now) }
 {
     let segs = uses.iter().map(|u| u.seg).collect(alloc)?;
     Ok(segs)
@@ -37,7 +37,7 @@ fn segments(alloc: Global, uses: &[EdgeUse]) -> Result<Vec<Seg>, NoMemory>
 
 // The uses with the place of each edge, sorted.
 fn places_of(alloc: Global, uses: &[EdgeUse], edges: &[Seg]) -> Result<Vec<OddUse>, NoMemory>
-    requires ascending { AreAscending edges.now }
+    requires ascending { IsAscending edges.now }
     requires listed { All (λ u. Contains edges.now u.seg) uses.now }
     ensures exact { IfOk result (λ places. ArePlacesOf uses.now edges.now places.items) }
     ensures sorted { IfOk result (λ places. IsSorted odd_cmp places.items) }
@@ -54,7 +54,7 @@ fn places_of(alloc: Global, uses: &[EdgeUse], edges: &[Seg]) -> Result<Vec<OddUs
 }
 
 fn place_of(edges: &[Seg], s: Seg) -> usize
-    requires ascending { AreAscending edges.now }
+    requires ascending { IsAscending edges.now }
     requires listed { Contains edges.now s }
     ensures { slice_get edges.now result ≡ Some s }
 {

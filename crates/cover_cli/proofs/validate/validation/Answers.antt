@@ -1,7 +1,6 @@
 -- The text has the lists of the marked uses.
-use Rattle.std.proofs.Common.{◌≡◌, ◌∙◌, List, ap, sym, length, arith}
+use Rattle.std.proofs.Common.{◌≡◌, ◌∙◌, ap, sym, length, arith}
 use Rattle.cov_types.specs.Uses.{uses_of}
-use Rattle.cov_types.specs.declared.edge_use.EdgeUse.{EdgeUse}
 use Rattle.cov_write.specs.Written.{lines_text}
 use Rattle.cover_cli.proofs.Listing.{member_lists_are, lists_moved}
 use Rattle.cover_cli.specs.Lines.{marked_uses, AreMemberLists}

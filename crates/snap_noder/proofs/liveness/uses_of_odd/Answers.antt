@@ -1,4 +1,4 @@
-use Rattle.snap_noder.proofs.ParityLemmas.{odd_uses_more, odd_uses_all}
+use Rattle.snap_noder.proofs.LiveUses.{odd_uses_more, odd_uses_all}
 use Rattle.snap_noder.proofs.liveness.uses_of_odd.Goals as goal
 
 pub loop-o-init : goal.loop-o-init

@@ -23,4 +23,4 @@ returns-clause-in_range c =
 pub returns-clause-even : goal.returns-clause-even
 returns-clause-even c =
     IfOk-weaker c.edges_of.result _ _
-    (λ n are. is_even c.args.list.now c.in_ok-uses.uses.items c.as_slice.result.now c.requires c.in_ok-uses.ensures c.as_slice.ensures.value n.edges.items n.odd.items are n.ascending n.odd_ascending) c.edges_of.ensures
+    (λ n are. is_even c.args.list.now c.in_ok-uses.uses.items c.as_slice.result.now c.requires c.in_ok-uses.ensures c.as_slice.ensures.value n.edges.items n.odd.items are) c.edges_of.ensures

@@ -1,7 +1,7 @@
 use Rattle.std.proofs.Common.{take}
-use Rattle.hot_pixel.specs.HotSet.{segs_of}
+use Rattle.overlay.specs.Noding.{segments}
 use Rattle.snap_noder.proofs.Snapping.{SnappedSoFar}
 use Rattle.snap_noder.proofs.noding.snapped_uses.Given as goal
 
 abbrev pub invariant-loop-u : goal.invariant-loop-u
-invariant-loop-u l = SnappedSoFar (segs_of l.list) (take l.u-index l.list) l.uses.items
+invariant-loop-u l = SnappedSoFar (segments l.list) (take l.u-index l.list) l.uses.items

@@ -16,4 +16,4 @@ invariant_of-result c = record {
 pub returns : goal.returns
 returns c =
     found_edges c.in_ok-edges.edges.items c.as_slice.result.now c.args.uses.now c.in_ok-places.places.items c.as_slice-2.result.now c.in_ok-odd.odd.items c.in_ok-edges.ensures.ascending
-    c.as_slice.ensures.value c.as_slice-2.ensures.value c.in_ok-places.ensures.exact c.in_ok-odd.ensures.exact c.in_ok-edges.ensures.exact
+    c.as_slice.ensures.value c.as_slice-2.ensures.value c.in_ok-places.ensures.exact c.in_ok-odd.ensures.exact c.in_ok-odd.ensures.ascending c.in_ok-edges.ensures.exact

@@ -1,6 +1,6 @@
 use Rattle.std.proofs.Common.{take}
 use Rattle.std.specs.List.{AllZip}
-use Rattle.snap_noder.specs.Edges.{IsPlaced}
+use Rattle.snap_noder.specs.Places.{IsPlaced}
 use Rattle.snap_noder.proofs.parity.places_of.Given as goal
 
 abbrev pub invariant-loop-u : goal.invariant-loop-u

@@ -1,0 +1,30 @@
+-- The places of edges that uses and odd pairs name.
+use Rattle.std.specs.Prelude.{◌≡◌, ℕ, ◌<◌, ◌==◌, ◌&&◌, List, [], ◌∷◌, ◌++◌, length, count_by, All, IsTrue, IsPermutation, slice_get, Some}
+use Rattle.std.specs.List.{AllZip, list_any}
+use Rattle.cov_types.specs.declared.edge_use.EdgeUse.{EdgeUse}
+use Rattle.cov_types.specs.declared.seg.Seg.{Seg}
+use Rattle.overlay.specs.declared.odd_use.OddUse.{OddUse}
+
+-- each edge number is a place in the list of edges
+abbrev pub HavePlaces : List Seg → List OddUse → Type 0
+HavePlaces edges odd = All (λ o. o.edge < length edges) odd
+
+-- each edge is that of some pair
+abbrev pub AreAllUsed : List Seg → List OddUse → Type 0
+AreAllUsed edges odd = (k : ℕ) → k < length edges → IsTrue (list_any (λ o. o.edge == k) odd)
+
+-- how often the pair stands in the list
+abbrev pub odd_times : OddUse → List OddUse → ℕ
+odd_times o pairs = count_by (λ p. (p.member == o.member) && (p.edge == o.edge)) pairs
+
+-- o has the member of u, and the place of its segment
+abbrev pub IsPlaced : List Seg → EdgeUse → OddUse → Type 0
+IsPlaced edges u o = (o.member ≡ u.member) × (slice_get edges o.edge ≡ Some u.seg)
+
+-- the pairs are those of the uses, in some order
+abbrev pub ArePlacesOf : List EdgeUse → List Seg → List OddUse → Type 0
+ArePlacesOf uses edges pairs = (placed : List OddUse) × (AllZip (IsPlaced edges) uses placed × IsPermutation placed pairs)
+
+-- o is the last of the list
+abbrev pub IsLast : List OddUse → OddUse → Type 0
+IsLast list o = (front : List OddUse) × (list ≡ front ++ o ∷ [])

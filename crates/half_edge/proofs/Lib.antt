@@ -6,4 +6,5 @@ pub mod Reading
 pub mod Following
 pub mod Meeting
 pub mod Places
+pub mod Ascending
 pub mod Groups

@@ -1,7 +1,14 @@
--- Edges that stand once each in a list.
-use Rattle.std.specs.Prelude.{◌≡◌, ℕ, ◌<◌, List, slice_index_or}
+-- Lists of edges that an arena can be built of.
+use Rattle.std.specs.Prelude.{List, AllPairs, IsTrue}
+use Rattle.cov_types.specs.Seg.{is_seg_before}
 use Rattle.cov_types.specs.declared.seg.Seg.{Seg}
+use Rattle.sectors.specs.Sector.{IsPlanar}
 
--- the edge at a place is none of the first ones
-abbrev pub IsNewAt : List Seg → ℕ → ℕ → Type 0
-IsNewAt edges count place = (j : ℕ) (d : Seg) → j < count → ¬ (slice_index_or edges j d ≡ slice_index_or edges place d)
+-- each edge comes before those after it
+abbrev pub AreAscending : List Seg → Type 0
+AreAscending edges = AllPairs (λ s t. IsTrue (is_seg_before s t)) edges
+
+-- the edges are in range, meet in ends alone and ascend strictly
+pub record IsArranged (edges : List Seg) : Type 0 where
+  pub planar : IsPlanar edges
+  pub ascending : AreAscending edges

@@ -1,9 +1,9 @@
-ghost use Rattle.std.specs.Prelude.{◌≡◌, ℕ, ◌*◌, ◌+◌, ◌/◌, ◌<◌, ◌^◌, length, List, Some, slice_get, IfOk};
+ghost use Rattle.std.specs.Prelude.{◌≡◌, ℕ, ◌*◌, ◌+◌, ◌/◌, ◌<◌, ◌^◌, not, length, List, Some, slice_get, IfOk};
 ghost use Rattle.cov_types.specs.declared.seg.Seg.{Seg};
 ghost use Rattle.plane.specs.Joined.{Joined};
 ghost use Rattle.plane.specs.Point.{Point};
 ghost use Rattle.plane.specs.Region.{IsSide};
-ghost use Rattle.sectors.specs.Sector.{HalfEdge, origin, target, twin, IsHalfEdge, IsNextNumber, IsPlanar, AreDistinct};
+ghost use Rattle.sectors.specs.Sector.{HalfEdge, origin, target, twin, is_before_by_angle, IsHalfEdge, IsNext, IsNextNumber, IsPlanar, AreDistinct};
 ghost use Rattle.half_edge.specs.Arena.{IsArena, IsNextTable};
 ghost use Rattle.half_edge.specs.Departures.{AreDepartures};
 ghost use Rattle.half_edge.specs.declared.departure.Departure.{Departure};
@@ -47,7 +47,9 @@ impl Arena {
 
     /// How many half-edges there are.
     pub fn len(&self) -> usize
-        ensures { result ≡ 2 * length self.now }
+        ensures count { result ≡ 2 * length self.now }
+        ensures planar { IsPlanar self.now }
+        ensures distinct { AreDistinct self.now }
     {
         self.next.len()
     }
@@ -85,6 +87,16 @@ impl Arena {
         ensures joined { (p q : Point) → IsSide self.now h p → IsSide self.now result q → Joined self.now p q }
     {
         self.next[h].number
+    }
+
+    /// Whether the way straight down the ray is in the sector on the left, between the half-edge and the one that follows it.
+    pub fn opens_down(&self, h: usize) -> bool
+        requires within { h < 2 * length self.now }
+        ensures { (f g : HalfEdge) → IsHalfEdge self.now h f → IsNext self.now f g → result ≡ not (is_before_by_angle g (twin f)) }
+    {
+        let next = directed(&self.edges, self.next[h]);
+        let back = directed(&self.edges, twin_id(HalfEdgeId { number: h }));
+        !next.is_before(back)
     }
 
     /// The edge of the half-edge.

@@ -5,7 +5,6 @@
 #![tactic(auto)]
 
 mod arena;
-#[cfg(test)]
 mod arranged;
 mod departure;
 mod directed;
@@ -14,3 +13,4 @@ mod nearest;
 mod tests;
 
 pub use arena::Arena;
+pub use arranged::are_arranged;

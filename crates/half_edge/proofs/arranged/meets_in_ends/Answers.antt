@@ -1,8 +1,14 @@
+use Rattle.std.proofs.Common.{refl}
+use Rattle.half_edge.proofs.Ascending.{bad_meets_not}
 use Rattle.half_edge.proofs.Meeting.{meet_apart, meet_in_end}
+use Rattle.half_edge.proofs.Places.{iff_true, iff_false}
 use Rattle.half_edge.proofs.arranged.meets_in_ends.Goals as goal
 
 pub returns-in-Apart : goal.returns-in-Apart
-returns-in-Apart c = λ t. meet_apart c.args.e c.args.f c.in-Apart.ensures.exact
+returns-in-Apart c = iff_true (meet_apart c.args.e c.args.f c.in-Apart.ensures.exact)
 
 pub returns-in-CommonEnd : goal.returns-in-CommonEnd
-returns-in-CommonEnd c = λ t. meet_in_end c.args.e c.args.f c.in-CommonEnd.ensures.exact
+returns-in-CommonEnd c = iff_true (meet_in_end c.args.e c.args.f c.in-CommonEnd.ensures.exact)
+
+pub returns-in-Bad : goal.returns-in-Bad
+returns-in-Bad c = iff_false (bad_meets_not c.args.e c.args.f (c.in-Bad.ensures.bad.0 refl))

@@ -1,11 +1,11 @@
 -- Edges with their odd pairs, and the region of each side.
-use Rattle.std.specs.Prelude.{◌≡◌, ℕ, ◌+◌, ◌-◌, ◌*◌, ◌<◌, ◌%◌, ◌==◌, true, cond, IsTrue, List, length, All, AllPairs, slice_index}
+use Rattle.std.specs.Prelude.{◌≡◌, ℕ, ◌+◌, ◌-◌, ◌*◌, ◌<◌, ◌%◌, ◌==◌, true, cond, IsTrue, List, [], length, All, AllPairs, slice_index, Option, MatchOption}
 use Rattle.cov_types.specs.declared.edge_use.EdgeUse.{EdgeUse}
 use Rattle.cov_types.specs.declared.seg.Seg.{Seg}
 use Rattle.cov_types.specs.Uses.{HasEvenEnds}
 use Rattle.plane.specs.Parity.{member_holds}
 use Rattle.plane.specs.Point.{Point}
-use Rattle.plane.specs.Region.{IsSide, AreRegions}
+use Rattle.plane.specs.Region.{IsSide, IsOuterRegion, AreRegions}
 use Rattle.sectors.specs.Sector.{IsPlanar, AreDistinct}
 use Rattle.overlay.specs.declared.odd_use.OddUse.{OddUse}
 use Rattle.overlay.specs.Noding.{is_odd_before, odd_uses}
@@ -48,3 +48,7 @@ pub record IsLabelAt (uses : List EdgeUse) (p : Point) (label : List ℕ) : Type
 -- the label of each side point of the region
 abbrev pub IsRegionLabel : Sided → ℕ → List ℕ → Type 0
 IsRegionLabel s r label = (n : ℕ) (p : Point) → IsSide s.edges n p → region_at s n ≡ r → IsLabelAt (uses_of s) p label
+
+-- the number is that of the outer region, and there is none where there is no edge
+abbrev pub IsOuterOf : Sided → Option ℕ → Type 0
+IsOuterOf s outer = MatchOption outer (s.edges ≡ []) (λ r. IsOuterRegion s.edges r × (region_at s r ≡ r))

@@ -1,5 +1,5 @@
 -- What is known while labels spread from region to region.
-use Rattle.std.specs.Prelude.{◌≡◌, ℕ, ◌<◌, Bool, true, false, List, length, Contains, count_by, Some, slice_get, slice_index_or}
+use Rattle.std.specs.Prelude.{◌≡◌, ◌⊎◌, ℕ, ◌*◌, ◌<◌, Bool, true, false, List, [], length, Contains, count_by, Some, slice_get, slice_index_or}
 use Rattle.smallvec.specs.SmallVec.{SmallVec}
 use Rattle.owner_label.specs.declared.spread.Spread.{Spread}
 use Rattle.owner_label.specs.Sided.{Sided, across, region_at, IsRegionLabel}
@@ -29,3 +29,7 @@ AreCrossed s spread sides = (n : ℕ) → Contains sides n → IsReached spread 
 -- across each side of the region one was reached
 abbrev pub IsLeft : Sided → Spread → ℕ → Type 0
 IsLeft s spread r = (n : ℕ) → n < length s.regions → region_at s n ≡ r → IsReached spread (region_at s (across n))
+
+-- the region of some side was reached, or there is no edge
+abbrev pub IsBegun : Sided → Spread → Type 0
+IsBegun s spread = (s.edges ≡ []) ⊎ ((n : ℕ) × ((n < 2 * length s.edges) × IsReached spread (region_at s n)))

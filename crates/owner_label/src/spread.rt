@@ -1,6 +1,6 @@
-ghost use Rattle.std.specs.Prelude.{◌≡◌, ℕ, ◌*◌, ◌<◌, ◌++◌, ◌∷◌, [], false, length, All, IfOk, OnOk, slice_index_or, vec_len};
+ghost use Rattle.std.specs.Prelude.{◌≡◌, ℕ, ◌*◌, ◌<◌, ◌++◌, ◌∷◌, [], false, length, All, IfOk, OnOk, slice_index_or};
 ghost use Rattle.owner_label.specs.Lists.{AreEdgeMembers, AreRegionSides, AreRegionLabels};
-ghost use Rattle.owner_label.specs.Sided.{Sided, region_at, IsRegionLabel};
+ghost use Rattle.owner_label.specs.Sided.{Sided, region_at, IsRegionLabel, IsOuterOf};
 
 use crate::label::{Label, toggled};
 use crate::lists::{empty_labels, members_by_edge, sides_by_region};
@@ -17,12 +17,48 @@ pub struct Spread {
     pub queue: Vec<usize>,
 }
 
+/// The label of each region, by its number, spread from the outer region across the edges; an empty one at other numbers.
+pub fn labels_of_regions(
+    alloc: Global,
+    map: &SidedEdges,
+    outer: Option<usize>,
+) -> Result<Vec<Label>, NoMemory>
+    requires outer { IsOuterOf map.now outer }
+    ensures { IfOk result (λ v. AreRegionLabels map.now v.items) }
+{
+    let members = members_by_edge(alloc, map.len(), map.odd())?;
+    let sides = sides_by_region(alloc, map)?;
+    let mut spread = Spread::begin(alloc, map, outer)?;
+    let mut next = 0;
+    while next < spread.queue.len() {
+        let region = spread.queue[next];
+        spread.leave(alloc, map, &members, &sides[region])?;
+        next += 1;
+    }
+    Ok(spread.labels)
+}
+
 impl Spread {
-    ghost use Rattle.owner_label.specs.Spread.{IsReached, IsSpread, Grows, AreCrossed};
+    ghost use Rattle.owner_label.specs.Spread.{IsReached, IsSpread, IsBegun, Grows, AreCrossed};
+
+    // The outer region is reached.
+    fn begin(alloc: Global, map: &SidedEdges, outer: Option<usize>) -> Result<Spread, NoMemory>
+        requires outer { IsOuterOf map.now outer }
+        ensures spread { IfOk result (λ spread. IsSpread map.now spread) }
+        ensures begun { IfOk result (λ spread. IsBegun map.now spread) }
+    {
+        let mut spread = Spread::start(alloc, 2 * map.len())?;
+        let Some(region) = outer else {
+            return Ok(spread);
+        };
+        spread.reach(region, SmallVec::new(alloc))?;
+        Ok(spread)
+    }
 
     // No region is reached.
     fn start(alloc: Global, regions: usize) -> Result<Spread, NoMemory>
-        ensures { IfOk result (λ spread. (s : Sided) → length s.regions ≡ regions → IsSpread s spread) }
+        ensures spread { IfOk result (λ spread. (s : Sided) → length s.regions ≡ regions → IsSpread s spread) }
+        ensures none { IfOk result (λ spread. (r : ℕ) → slice_index_or spread.reached.items r false ≡ false) }
     {
         let labels = empty_labels(alloc, regions)?;
         let reached = vec![in alloc; false; regions]?;
@@ -35,8 +71,8 @@ impl Spread {
 
     // The region is reached, with its label.
     fn reach(&mut self, region: usize, label: Label) -> Result<(), NoMemory>
-        requires labels { region < vec_len self.old.labels }
-        requires reached { region < vec_len self.old.reached }
+        requires labels { region < length self.old.labels.items }
+        requires reached { region < length self.old.reached.items }
         requires fresh { slice_index_or self.old.reached.items region false ≡ false }
         ensures spread { OnOk result ((s : Sided) → IsSpread s self.old → IsRegionLabel s region label.items → IsSpread s self.new) }
         ensures grows { OnOk result (Grows self.old self.new) }

@@ -2,8 +2,8 @@
 use Rattle.std.proofs.Common.{◌≡◌, ◌↔◌, subst, ℕ, ◌+◌, ◌*◌, ◌<◌, ◌≤◌, inl, inr, arith}
 use Rattle.std.proofs.lemmas.Bool.{cases_order}
 use lib.Ieee.Root.{whole_part}
-use Rattle.overlay.specs.Measure.{root}
-use Rattle.overlay.specs.Laws.{IsRoot}
+use Rattle.plane.specs.Length.{root}
+use Rattle.plane.specs.Laws.{IsRoot}
 
 pub root_is : (n : ℕ) → IsRoot n (root n)
 unfolding root

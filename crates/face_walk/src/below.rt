@@ -87,7 +87,16 @@ fn rise(e: Seg) -> i128
     ensures exact { result ≡ sweep_rise e }
     ensures small { IsWithin (2 ^ 60) result }
 {
-    (1 << 30) * (e.hi.x as i128 - e.lo.x as i128) + (e.hi.y as i128 - e.lo.y as i128)
+    (1 << 30) * extent(e.lo.x, e.hi.x) + extent(e.lo.y, e.hi.y)
+}
+
+fn extent(a: i32, b: i32) -> i128
+    requires a_small { IsWithin (2 ^ 28) a }
+    requires b_small { IsWithin (2 ^ 28) b }
+    ensures exact { result ≡ b -ℤ a }
+    ensures small { IsWithin (2 ^ 29) result }
+{
+    (b - a) as i128
 }
 
 fn product(turn: i128, rise: i128) -> i128

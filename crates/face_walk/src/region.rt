@@ -7,7 +7,7 @@ ghost use Rattle.plane.specs.Region.{IsSide, IsOuter, IsRegionOf, IsOuterRegion,
 ghost use Rattle.sectors.specs.Sector.{IsPlanar, AreDistinct};
 ghost use Rattle.face_walk.specs.Numbers.{AreNumbered};
 
-use crate::links::{links, place_past_range};
+use crate::links::links;
 use connected::components;
 use cov_types::{NoMemory, Seg};
 use half_edge::Arena;
@@ -39,7 +39,8 @@ impl Regions {
     {
         let edges = edges_of(alloc, a)?;
         let links = links(alloc, a, &edges)?;
-        let least = components(alloc, place_past_range(a) + 1, &links)?;
+        // A node for each side, and one for the place past the range.
+        let least = components(alloc, a.len() + 1, &links)?;
         Ok(Regions { edges, least })
     }
 

@@ -1,8 +1,8 @@
 -- Ascending lists of numbers: two with the same numbers are one.
 use mathlib.Core.List.{[], ◌∷◌}
-use Rattle.std.proofs.Common.{◌≡◌, refl, sym, ◌∙◌, ap, subst, ℕ, zero, suc, ◌+◌, ◌≤◌, ◌<◌, ◌==◌, Bool, true, false, ◌||◌, ◌&&◌, cond, ltb, List, ◌++◌, filter, count_by, ◌⊎◌, inl, inr, zero-add, arith}
+use Rattle.std.proofs.Common.{◌≡◌, refl, sym, ◌∙◌, ap, subst, ℕ, zero, suc, ◌+◌, ◌≤◌, ◌<◌, ◌==◌, Bool, true, false, ◌||◌, ◌&&◌, cond, ltb, List, ◌++◌, filter, count_by, Contains, ◌↔◌, ◌⊎◌, inl, inr, zero-add, arith}
 use Rattle.std.specs.List.{list_any}
-use Rattle.std.proofs.lemmas.Bool.{false≢true, or_from, or_left, ne_eqb, eq-eqb, eqb-true, lt-ltb, le-ltb, cases_order, cases_Bool, cases_lt, and_left}
+use Rattle.std.proofs.lemmas.Bool.{false≢true, or_from, or_left, or_right, or_cases, and_parts, and_from, ltb-true, ne_eqb, eq-eqb, eqb-true, lt-ltb, le-ltb, cases_order, cases_Bool, cases_lt, and_left}
 use Rattle.std.proofs.lemmas.List.Elements.{filter-append}
 use Rattle.std.proofs.lemmas.List.Sums.{sum_by-cons}
 use Rattle.plane.specs.Label.{numbers_below}
@@ -121,6 +121,28 @@ chosen_has p (suc n) m =
     last (inr (inr more)) =
         or_false (ltb m n && p m) (has (filter p (n ∷ [])) m) (none (p n) (ne_eqb n m (λ e. omega arith)))
         ∙ ap (λ t. t && p m) (le-ltb m n (omega arith) ∙ sym (le-ltb m (suc n) (omega arith)))
+
+-- the numbers below the count that pass
+pub chosen_contains : (p : ℕ → Bool) (count m : ℕ) → Contains (filter p (numbers_below count)) m ↔ ((m < count) × (p m ≡ true))
+chosen_contains p count m = (there, back)
+  where
+    listed : (xs : List ℕ) → Contains xs m → has xs m ≡ true
+    listed [] c = absurd (omega (arith, c.1))
+    listed (x ∷ xs) (zero, within, is) = or_left (x == m) (has xs m) (eq-eqb x m is)
+    listed (x ∷ xs) (suc k, within, is) = or_right (x == m) (has xs m) (listed xs (k, omega arith, is))
+
+    found : (xs : List ℕ) → has xs m ≡ true → Contains xs m
+    found [] h = absurd (false≢true h)
+    found (x ∷ xs) h = elim (or_cases (x == m) (has xs m) h) [
+      | inl first ↦ (0, omega arith, eqb-true x m first)
+      | inr later ↦ (let rest = found xs later in (suc rest.0, omega (arith, rest.1), rest.2))
+    ]
+
+    there : Contains (filter p (numbers_below count)) m → (m < count) × (p m ≡ true)
+    there c = let both = and_parts (ltb m count) (p m) (sym (chosen_has p count m) ∙ listed (filter p (numbers_below count)) c) in (ltb-true m count both.0, both.1)
+
+    back : (m < count) × (p m ≡ true) → Contains (filter p (numbers_below count)) m
+    back h = found (filter p (numbers_below count)) (chosen_has p count m ∙ and_from (ltb m count) (p m) (lt-ltb m count h.0) h.1)
 
 -- ---- how often a number stands in an ascending list
 

@@ -3,15 +3,17 @@ use mathlib.Core.List.{[], ◌∷◌}
 use Rattle.std.proofs.Common.{◌≡◌, refl, sym, ◌∙◌, ap, subst, ℕ, zero, suc, ◌+◌, ◌<◌, ◌==◌, ◌↔◌, ◌⊎◌, Bool, true, false, cond, List, ◌++◌, map, set, filter, length, get_or, take, add-one, Contains, Some, slice_get, inl, inr, arith}
 use Rattle.std.specs.Global.{Vec}
 use Rattle.std.proofs.Math.Seq.{take-suc}
-use Rattle.std.proofs.lemmas.Bool.{cases_eq, cases_lt, cases_Bool, eq-eqb, ne_eqb}
+use Rattle.std.proofs.lemmas.Bool.{cases_eq, eqb-true, eq-eqb, ne_eqb}
 use Rattle.std.proofs.lemmas.List.{length-set, get_or-set_same, get_or-set_other, length_push, append-nil, map-append}
 use Rattle.std.proofs.lemmas.List.Elements.{filter-append, Contains-push, Contains-push_cases, Contains-append_left}
 use Rattle.std.proofs.lemmas.Option.{slice_get-get_or, get_or_from_slice_get, slice_get_within, same_Some, none-some}
 use Rattle.smallvec.specs.SmallVec.{SmallVec}
 use Rattle.overlay.specs.declared.odd_use.OddUse.{OddUse}
 use Rattle.owner_label.specs.Members.{members_of}
-use Rattle.owner_label.specs.Lists.{AreEdgeMembers, AreRegionSides}
+use Rattle.plane.specs.Label.{numbers_below}
+use Rattle.owner_label.specs.Lists.{sides_of, AreEdgeMembers, AreRegionSides}
 use Rattle.owner_label.specs.Sided.{Sided, region_at}
+use Rattle.owner_label.proofs.Ascending.{chosen_contains}
 
 -- ---- elements of a list that was written or grew
 
@@ -56,10 +58,7 @@ empty_end n m lists same are = subst (λ k. AreEmpty k lists) same are
 pub sides-none : (n : ℕ) (lists : List (Vec ℕ)) → AreEmpty n lists → (s : Sided) → length s.regions ≡ n → AreRegionSides s 0 lists
 sides-none n lists are s long = record {
   count = are.count ∙ sym long;
-  each = λ r v at k. (
-    (λ c. absurd (omega (arith, c.1, ap length (are.each r v at)))),
-    (λ h. absurd (omega (arith, h.0))),
-  );
+  each = are.each;
 }
 
 -- ---- one more odd pair
@@ -98,35 +97,32 @@ members-more odd i d count lists before after inside within here pushed are =
 
 -- ---- one more side
 
+sides_of-more : (s : Sided) (r n : ℕ) (b : Bool) → (region_at s n == r) ≡ b → sides_of s r (n + 1) ≡ sides_of s r n ++ cond b (n ∷ []) []
+sides_of-more s r n b h = rw add-one (filter-append (λ k. region_at s k == r) (numbers_below n) (n ∷ []) ∙ ap (λ t. sides_of s r n ++ cond t (n ∷ []) []) h)
+
 pub sides-push : (s : Sided) (n : ℕ) (lists : List (Vec ℕ)) (before after : Vec ℕ) → region_at s n < length lists → before ≡ get_or lists (region_at s n) before
     → after.items ≡ before.items ++ n ∷ [] → AreRegionSides s n lists → AreRegionSides s (n + 1) (set lists (region_at s n) after)
 sides-push s n lists before after within here pushed are = record {
   count = length-set lists (region_at s n) after ∙ are.count;
-  each = λ r v at k. elim (get-set lists (region_at s n) after r v at) [
+  each = λ r v at. elim (get-set lists (region_at s n) after r v at) [
     | inl written ↦ (
-        let items : v.items ≡ before.items ++ n ∷ [] = ap (λ (w : Vec ℕ). w.items) written.1 ∙ pushed in
-        let old = are.each (region_at s n) before (slice_get-get_or lists (region_at s n) before within ∙ ap (λ (w : Vec ℕ). Some w) (sym here)) k in (
-          (λ c. elim (Contains-push_cases before.items n k (subst (λ xs. Contains xs k) items c)) [
-            | inl there ↦ (let h = old.0 there in (omega (arith, h.0), h.1 ∙ sym written.0))
-            | inr last ↦ (omega (arith, last), ap (λ j. region_at s j) (sym last) ∙ sym written.0)
-          ]),
-          (λ h. subst (λ xs. Contains xs k) (sym items) (elim (cases_eq n k) [
-            | inl last ↦ subst (λ j. Contains (before.items ++ n ∷ []) j) last (Contains-push before.items n)
-            | inr other ↦ Contains-append_left before.items (n ∷ []) k (old.1 (below n k h.0 other, h.1 ∙ written.0))
-          ])),
+        let old = are.each (region_at s n) before (slice_get-get_or lists (region_at s n) before within ∙ ap (λ (w : Vec ℕ). Some w) (sym here)) in
+        ap (λ (w : Vec ℕ). w.items) written.1 ∙ pushed ∙ ap (λ xs. xs ++ n ∷ []) (old ∙ ap (λ k. sides_of s k n) (sym written.0))
+        ∙ sym (sides_of-more s r n true (eq-eqb (region_at s n) r (sym written.0)))
         )
-        )
-    | inr kept ↦ (
-        let old = are.each r v kept.1 k in (
-          (λ c. (let h = old.0 c in (omega (arith, h.0), h.1))),
-          (λ h. old.1 (below n k h.0 (λ e. kept.0 (sym h.1 ∙ ap (λ j. region_at s j) (sym e))), h.1)),
-        )
-        )
+    | inr kept ↦ are.each r v kept.1 ∙ sym (append-nil (sides_of s r n)) ∙ sym (sides_of-more s r n false (ne_eqb (region_at s n) r (λ e. kept.0 (sym e))))
   ];
 }
-  where
-    below : (n k : ℕ) → k < n + 1 → (n ≡ k → ⊥) → k < n
-    below n k less other = elim (cases_lt k n) [ inl h ↦ h | inr h ↦ absurd (other (omega arith)) ]
+
+-- the sides of a region
+pub region_sides : (s : Sided) (first : ℕ) (lists : List (Vec ℕ)) → AreRegionSides s first lists → (r : ℕ) (v : Vec ℕ) → slice_get lists r ≡ Some v
+    → (n : ℕ) → Contains v.items n ↔ ((n < first) × (region_at s n ≡ r))
+region_sides s first lists are r v at n =
+    let items = are.each r v at in
+    let chosen = chosen_contains (λ k. region_at s k == r) first n in (
+      (λ c. (let h = chosen.0 (subst (λ xs. Contains xs n) items c) in (h.0, eqb-true (region_at s n) r h.1))),
+      (λ h. subst (λ xs. Contains xs n) (sym items) (chosen.1 (h.0, eq-eqb (region_at s n) r h.1))),
+    )
 
 pub sides-more : (s : Sided) (n r : ℕ) (lists : List (Vec ℕ)) (before after : Vec ℕ) → r ≡ region_at s n → r < length s.regions → before ≡ get_or lists r before
     → after.items ≡ before.items ++ n ∷ [] → AreRegionSides s n lists → AreRegionSides s (n + 1) (set lists r after)

@@ -22,7 +22,7 @@ use Rattle.owner_label.specs.Lists.{AreEdgeMembers, AreRegionSides, AreRegionLab
 use Rattle.owner_label.specs.Members.{IsFrom, IsToggled, members_of}
 use Rattle.owner_label.specs.Sided.{Sided, AreSided, across, region_at, uses_of, IsLabelAt, IsRegionLabel}
 use Rattle.owner_label.specs.Spread.{IsReached, IsSpread, Grows, AreCrossed, IsLeft, IsBegun}
-use Rattle.owner_label.proofs.Listing.{get-set, get-push}
+use Rattle.owner_label.proofs.Listing.{get-set, get-push, region_sides}
 use Rattle.owner_label.proofs.Regions.{side_point, side_within, joined_region, label_across, region_within}
 use Rattle.owner_label.proofs.Sides.{index-twin}
 use Rattle.owner_label.proofs.Toggles.{members_ascend}
@@ -183,7 +183,7 @@ left-more s before after next r sides lists are at_sides in_lists within at_r le
       | inl here ↦ (
           let stays = grows.queue next r (slice_get-get_or before.queue.items next r within ∙ ap (λ j. Some j) (sym at_r)) in
           let is : k ≡ r = same_Some k r (sym at ∙ ap (λ j. slice_get after.queue.items j) here ∙ stays) in
-          crossed n ((are.each r sides (slice_get-get_or lists r sides in_lists ∙ ap (λ v. Some v) (sym at_sides)) n).1 (inside, same ∙ is))
+          crossed n ((region_sides s (length s.regions) lists are r sides (slice_get-get_or lists r sides in_lists ∙ ap (λ v. Some v) (sym at_sides)) n).1 (inside, same ∙ is))
           )
       | inr other ↦ (
           let old : i < next = omega arith in
@@ -197,7 +197,7 @@ left-more s before after next r sides lists are at_sides in_lists within at_r le
 pub sides_ready : (s : Sided) → AreSided s → (spread : Spread) → IsSpread s spread → (r : ℕ) (sides : Vec ℕ) (lists : List (Vec ℕ)) → AreRegionSides s (length s.regions) lists
     → sides ≡ get_or lists r sides → r < length lists → IsReached spread r → All (λ n. (n < 2 * length s.edges) × IsReached spread (region_at s n)) sides.items
 sides_ready s sided spread is r sides lists are at_sides in_lists reached k d within =
-    let each = (are.each r sides (slice_get-get_or lists r sides in_lists ∙ ap (λ v. Some v) (sym at_sides)) (get_or sides.items k d)).0 (Contains-get_or sides.items k d within) in
+    let each = (region_sides s (length s.regions) lists are r sides (slice_get-get_or lists r sides in_lists ∙ ap (λ v. Some v) (sym at_sides)) (get_or sides.items k d)).0 (Contains-get_or sides.items k d within) in
     (omega (arith, each.0, sided.sides), subst (λ j. IsReached spread j) (sym each.1) reached)
 
 -- ---- at the end

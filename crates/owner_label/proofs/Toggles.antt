@@ -133,8 +133,8 @@ module _ (edges : List Seg) (odd : List OddUse) (planar : IsPlanar edges) (disti
   member_below k e at m =
       let c : Contains edges e = (k, slice_get_within edges k e at, get_or_from_slice_get edges k e e at) in
       let meets : AllMeetInEnds e (map (λ (u : EdgeUse). u.seg) (odd_uses edges odd)) =
-          mapped (λ (u : EdgeUse). u.seg) (λ f. IsSegInRange f × MeetInEnds e f) (odd_uses edges odd)
-          (λ u i. (let listed = odd_use_listed edges odd u i in (in_range u.seg listed, planar.noded e u.seg c listed))) in
+      mapped (λ (u : EdgeUse). u.seg) (λ f. IsSegInRange f × MeetInEnds e f) (odd_uses edges odd)
+      (λ u i. (let listed = odd_use_listed edges odd u i in (in_range u.seg listed, planar.noded e u.seg c listed))) in
       changed (member_holds (odd_uses edges odd) m (lower e)) (member_holds (odd_uses edges odd) m (upper e)) (has (members_of odd k) m) (member_times e (odd_uses edges odd) m)
       (member_holds-across e (odd_uses edges odd) m (in_range e c) meets)
       (times_is edges distinct k e at m odd places ∙ count_from 0 m (members_of odd k) (members_ascend odd k ascending))

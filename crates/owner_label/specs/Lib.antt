@@ -3,3 +3,5 @@ pub mod Sided
 pub mod Labelled
 pub mod Lists
 pub mod Spread
+pub mod Sides
+pub mod Passes

@@ -5,7 +5,7 @@ use Rattle.cov_types.specs.declared.seg.Seg.{Seg}
 use Rattle.cov_types.specs.Uses.{HasEvenEnds}
 use Rattle.plane.specs.Parity.{member_holds}
 use Rattle.plane.specs.Point.{Point}
-use Rattle.plane.specs.Region.{IsSide, IsOuterRegion, AreRegions}
+use Rattle.plane.specs.Region.{IsSide, IsRegionOf, IsOuterRegion, AreRegions}
 use Rattle.sectors.specs.Sector.{IsPlanar, AreDistinct}
 use Rattle.overlay.specs.declared.odd_use.OddUse.{OddUse}
 use Rattle.overlay.specs.Noding.{is_odd_before, odd_uses}
@@ -52,3 +52,8 @@ IsRegionLabel s r label = (n : ℕ) (p : Point) → IsSide s.edges n p → regio
 -- the number is that of the outer region, and there is none where there is no edge
 abbrev pub IsOuterOf : Sided → Option ℕ → Type 0
 IsOuterOf s outer = MatchOption outer (s.edges ≡ []) (λ r. IsOuterRegion s.edges r × (region_at s r ≡ r))
+
+-- the regions of the first so many sides
+pub record AreFirstRegions (edges : List Seg) (count : ℕ) (regions : List ℕ) : Type 0 where
+  pub long : length regions ≡ count
+  pub each : (n : ℕ) (p : Point) → n < count → IsSide edges n p → IsRegionOf edges p (slice_index regions n)

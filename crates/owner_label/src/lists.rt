@@ -10,11 +10,7 @@ use smallvec::SmallVec;
 use std::alloc::Global;
 
 /// For each edge the members that it is odd for, ascending.
-pub fn members_by_edge(
-    alloc: Global,
-    edges: usize,
-    odd: &[OddUse],
-) -> Result<Vec<Label>, NoMemory>
+pub fn members_by_edge(alloc: Global, edges: usize, odd: &[OddUse]) -> Result<Vec<Label>, NoMemory>
     requires places { All (λ o. o.edge < edges) odd.now }
     ensures { IfOk result (λ v. AreEdgeMembers odd.now edges v.items) }
 {

@@ -1,8 +1,16 @@
-ghost use Rattle.std.specs.Prelude.{◌≡◌, ◌*◌, ◌<◌, ◌^◌, length, Some, slice_get};
-ghost use Rattle.owner_label.specs.Sided.{across, region_at, AreSided};
+ghost use Rattle.std.specs.Prelude.{◌≡◌, ◌*◌, ◌<◌, ◌^◌, length, List, Some, slice_get, IfOk};
+ghost use Rattle.cov_types.specs.Range.{IsSegInRange};
+ghost use Rattle.cov_types.specs.Uses.{HasEvenEnds};
+ghost use Rattle.cov_types.specs.declared.seg.Seg.{Seg};
+ghost use Rattle.overlay.specs.Noding.{odd_uses};
+ghost use Rattle.owner_label.specs.Sided.{across, region_at, AreSided, AreFirstRegions};
 
-use cov_types::Seg;
+use cov_types::{NoMemory, Seg};
+use face_walk::Regions;
+use half_edge::Arena;
 use overlay::OddUse;
+use snap_noder::LiveEdges;
+use std::alloc::Global;
 use std::marker::Model;
 
 /// Distinct edges that meet in ends alone, their odd pairs, and the region of each side.
@@ -24,6 +32,31 @@ impl Model for SidedEdges {
 }
 
 impl SidedEdges {
+    /// The live edges, with the regions between them.
+    pub fn build(
+        alloc: Global,
+        a: &Arena,
+        r: &Regions,
+        l: &LiveEdges,
+    ) -> Result<SidedEdges, NoMemory>
+        requires arena { a.now ≡ l.now.edges.items }
+        requires regions { r.now ≡ a.now }
+        requires even { HasEvenEnds (odd_uses l.now.edges.items l.now.odd.items) }
+        ensures edges { IfOk result (λ s. s.edges ≡ l.now.edges.items) }
+        ensures odd { IfOk result (λ s. s.odd ≡ l.now.odd.items) }
+    {
+        let regions = regions_of_sides(alloc, a.len(), r)?;
+        let mut edges = Vec::new(alloc);
+        edges.extend_from_slice(&l.edges)?;
+        let mut odd = Vec::new(alloc);
+        odd.extend_from_slice(&l.odd)?;
+        Ok(SidedEdges {
+            edges,
+            odd,
+            regions,
+        })
+    }
+
     /// How many edges there are.
     pub fn len(&self) -> usize
         ensures count { result ≡ length self.now.edges }
@@ -36,7 +69,8 @@ impl SidedEdges {
     /// The edge.
     pub fn edge(&self, k: usize) -> Seg
         requires within { k < length self.now.edges }
-        ensures { slice_get self.now.edges k ≡ Some result }
+        ensures edge { slice_get self.now.edges k ≡ Some result }
+        ensures in_range { IsSegInRange result }
     {
         self.edges[k]
     }
@@ -66,4 +100,16 @@ pub fn other_side(side: usize) -> usize
     ensures { result ≡ across side }
 {
     if side % 2 == 0 { side + 1 } else { side - 1 }
+}
+
+// The region of each side, in order.
+fn regions_of_sides(alloc: Global, sides: usize, r: &Regions) -> Result<Vec<usize>, NoMemory>
+    requires all { sides ≡ 2 * length r.now }
+    ensures { IfOk result (λ v. AreFirstRegions r.now sides v.items) }
+{
+    let mut regions = Vec::new(alloc);
+    for side in 0..sides {
+        regions.push(r.region_of(side))?;
+    }
+    Ok(regions)
 }

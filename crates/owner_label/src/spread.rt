@@ -3,7 +3,7 @@ ghost use Rattle.owner_label.specs.Lists.{AreEdgeMembers, AreRegionSides, AreReg
 ghost use Rattle.owner_label.specs.Sided.{Sided, region_at, IsRegionLabel, IsOuterOf};
 
 use crate::label::{Label, toggled};
-use crate::lists::{empty_labels, members_by_edge, sides_by_region};
+use crate::lists::{empty_labels, members_by_edge};
 use crate::sided::{SidedEdges, other_side};
 use cov_types::NoMemory;
 use smallvec::SmallVec;
@@ -21,13 +21,14 @@ pub struct Spread {
 pub fn labels_of_regions(
     alloc: Global,
     map: &SidedEdges,
+    sides: &[Vec<usize>],
     outer: Option<usize>,
 ) -> Result<Vec<Label>, NoMemory>
+    requires sides { AreRegionSides map.now (length map.now.regions) sides.now }
     requires outer { IsOuterOf map.now outer }
     ensures { IfOk result (λ v. AreRegionLabels map.now v.items) }
 {
     let members = members_by_edge(alloc, map.len(), map.odd())?;
-    let sides = sides_by_region(alloc, map)?;
     let mut spread = Spread::begin(alloc, map, outer)?;
     let mut next = 0;
     while next < spread.queue.len() {

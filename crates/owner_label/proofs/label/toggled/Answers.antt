@@ -19,6 +19,6 @@ loop-i-preserved c =
 pub returns : goal.returns
 returns c =
     let end : (length c.args.label.now ≤ c.loop-i.i) ⊎ (length c.args.members.now ≤ c.loop-i.j) =
-        elim c.loop-i-test.branch [ then-loop-i-test+else-j-members w ↦ inr w.if-j-members.false | else-loop-i-test w ↦ inl w.loop-i-test.false ] in
+    elim c.loop-i-test.branch [ then-loop-i-test+else-j-members w ↦ inr w.if-j-members.false | else-loop-i-test w ↦ inl w.loop-i-test.false ] in
     let all = left-end _ _ _ _ _ _ _ c.loop-i.invariant.2 end (rw rest-slice at c.in_ok-extend_from_slice.ensures.ok) (rw rest-slice at c.in_ok-extend_from_slice-2.ensures.ok) in
     subst (λ zs. IsToggled c.args.label.now c.args.members.now zs) (sym all) (merged_toggled _ _ c.requires.label c.requires.members)

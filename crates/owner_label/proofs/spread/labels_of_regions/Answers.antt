@@ -11,14 +11,14 @@ index-requires c =
 pub leave-requires-clause-within : goal.leave-requires-clause-within
 leave-requires-clause-within c =
     rw c.deref-in-loop-next.ensures.value (λ k d within. (sides_ready c.args.map.now c.len.ensures.sided c.loop-next.spread c.loop-next.invariant.spread _ _ _ c.in_ok-sides.ensures c.index.ensures
-        (omega (arith, c.in_ok-sides.ensures.count, queue_within c.args.map.now c.loop-next.spread c.loop-next.invariant.spread c.loop-next.next _ (omega (arith, c.loop-next-test.true)) c.index-region.ensures))
-        (queue_reached c.args.map.now c.loop-next.spread c.loop-next.invariant.spread c.loop-next.next _ (omega (arith, c.loop-next-test.true)) c.index-region.ensures) k d within).0)
+    (omega (arith, c.in_ok-sides.ensures.count, queue_within c.args.map.now c.loop-next.spread c.loop-next.invariant.spread c.loop-next.next _ (omega (arith, c.loop-next-test.true)) c.index-region.ensures))
+    (queue_reached c.args.map.now c.loop-next.spread c.loop-next.invariant.spread c.loop-next.next _ (omega (arith, c.loop-next-test.true)) c.index-region.ensures) k d within).0)
 
 pub leave-requires-clause-reached : goal.leave-requires-clause-reached
 leave-requires-clause-reached c =
     rw c.deref-in-loop-next.ensures.value (λ k d within. (sides_ready c.args.map.now c.len.ensures.sided c.loop-next.spread c.loop-next.invariant.spread _ _ _ c.in_ok-sides.ensures c.index.ensures
-        (omega (arith, c.in_ok-sides.ensures.count, queue_within c.args.map.now c.loop-next.spread c.loop-next.invariant.spread c.loop-next.next _ (omega (arith, c.loop-next-test.true)) c.index-region.ensures))
-        (queue_reached c.args.map.now c.loop-next.spread c.loop-next.invariant.spread c.loop-next.next _ (omega (arith, c.loop-next-test.true)) c.index-region.ensures) k d within).1)
+    (omega (arith, c.in_ok-sides.ensures.count, queue_within c.args.map.now c.loop-next.spread c.loop-next.invariant.spread c.loop-next.next _ (omega (arith, c.loop-next-test.true)) c.index-region.ensures))
+    (queue_reached c.args.map.now c.loop-next.spread c.loop-next.invariant.spread c.loop-next.next _ (omega (arith, c.loop-next-test.true)) c.index-region.ensures) k d within).1)
 
 pub loop-next-preserved : goal.loop-next-preserved
 loop-next-preserved c =

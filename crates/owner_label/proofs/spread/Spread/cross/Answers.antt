@@ -17,6 +17,6 @@ pub returns-clause-spread : goal.returns-clause-spread
 returns-clause-spread c =
     let toggled = rw (c.deref.ensures, c.deref-2.ensures) at c.in_ok-label.ensures in
     let over = label_over c.args.map.now c.len-edges.ensures.sided c.args.self.now c.requires.spread c.args.side c.requires.within c.requires.reached _ c.region-from.ensures.region _ c.index-2.ensures
-        _ _ c.requires.members c.index-members-side.is _ toggled in
+    _ _ c.requires.members c.index-members-side.is _ toggled in
     let place = c.region-over.ensures.region ∙ ap (region_at c.args.map.now) c.other_side.ensures in
     on_ok_weaker c.reach.result (λ spreads. spreads c.args.map.now c.requires.spread (rw place over)) c.reach.ensures.spread

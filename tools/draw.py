@@ -42,11 +42,12 @@ def rows(segments, regions, place):
         number, kind, label = row.split()[:3]
         if kind == "outer":
             continue
+        words = " ".join(word for word in (number, kind, label) if word != "-")
         (x, y), (u, v) = (map(float, place(end).split(",")) for end in live[int(number) // 2])
         turn = math.atan2(v - y, u - x)
         off = -9 if int(number) % 2 == 0 else 9
         where = f"translate({(x + u) / 2:.1f} {(y + v) / 2:.1f}) rotate({math.degrees(turn):.1f}) translate(0 {off})"
-        yield f'<text transform="{where}" text-anchor="middle" dy="0.35em">{number} {kind} {label.replace("-", "")}</text>'
+        yield f'<text transform="{where}" text-anchor="middle" dy="0.35em">{words}</text>'
 
 
 def main():

@@ -1,11 +1,12 @@
 -- The rows of the regions below a number, one more at a time.
-use Rattle.std.proofs.Common.{◌≡◌, ◌⊎◌, ◌↔◌, inl, inr, refl, sym, ◌∙◌, ap, subst, ℕ, zero, suc, ◌+◌, ◌*◌, ◌<◌, ◌==◌, Bool, true, false, cond, List, [], ◌∷◌, ◌++◌, length, add-one, append-nil, ℤ, Option, Some, None, IsNone, IfSome, arith}
+use Rattle.std.proofs.Common.{◌≡◌, ◌⊎◌, ◌↔◌, inl, inr, refl, sym, ◌∙◌, ap, subst, ℕ, zero, suc, ◌+◌, ◌*◌, ◌<◌, ◌==◌, Bool, true, false, cond, List, [], ◌∷◌, ◌++◌, length, add-one, append-nil, ℤ, Option, Some, None, IsNone, IfSome, arith, Result, OnOk}
 use Rattle.std.specs.Prelude.{filter}
 use Rattle.std.specs.Option.{option_eq}
 use Rattle.std.proofs.lemmas.Bool.{false≢true}
 use Rattle.std.proofs.lemmas.Bool.Decides.{eqb_tells, Decides-eqb}
 use Rattle.std.proofs.lemmas.List.Elements.{filter-append}
 use Rattle.std.proofs.lemmas.List.Folds.{concat-append}
+use Rattle.std.proofs.lemmas.Result.{on_ok_weaker}
 use Rattle.cov_types.specs.declared.seg.Seg.{Seg}
 use Rattle.plane.specs.Label.{numbers_below}
 use Rattle.plane.specs.Point.{Point}
@@ -14,6 +15,7 @@ use Rattle.plane.specs.Segment.{upper, lower}
 use Rattle.crossings.proofs.Located.{one_region}
 use Rattle.overlay.specs.Overlay.{Overlay, IsRegion, label_of}
 use Rattle.overlay.specs.Measure.{region_area2}
+use Rattle.owner_label.specs.Labelled.{Labelled, IsOverlay}
 use Rattle.snap_noder.proofs.Zip.{zip_push}
 use Rattle.cover_cli.specs.Regions.{IsRow, AreRows, region_numbers}
 use Rattle.cover_cli.specs.Rows.{outer_row, inner_row}
@@ -52,6 +54,17 @@ outer_is_row o r outer = inl (outer, refl)
 
 pub inner_is_row : (o : Overlay) (r : ℕ) (label : List ℕ) (area2 : ℤ) → ¬ IsOuterRegion o.edges r → label ≡ label_of o r → area2 ≡ region_area2 o r → IsRow o r (inner_row r label area2)
 inner_is_row o r label area2 inner l a = inr (inner, λ i. inner_row r (l i) (a i))
+
+-- the row of a region that is not outer was appended, and its label and area are those of each overlay
+pub inner_appended : {T E : Type 0} (r : Result T E) (l : Labelled) (edges : List Seg) (region : ℕ) (label : List ℕ) (area2 : ℤ) (before after : List ℕ) → l.edges ≡ edges → ¬ IsOuterRegion edges region
+    → ((o : Overlay) → IsOverlay l o → label ≡ label_of o region) → ((o : Overlay) → IsOverlay l o → area2 ≡ region_area2 o region) → OnOk r (after ≡ before ++ inner_row region label area2)
+    → OnOk r ((o : Overlay) → IsOverlay l o → (line : List ℕ) × (IsRow o region line × (after ≡ before ++ line)))
+inner_appended r l edges region label area2 before after same inner labels areas appended =
+    on_ok_weaker r
+    (λ (is : after ≡ before ++ inner_row region label area2) (o : Overlay) (is_overlay : IsOverlay l o). (
+      inner_row region label area2,
+      (inner_is_row o region label area2 (λ outer. inner (subst (λ (es : List Seg). IsOuterRegion es region) (is_overlay.edges ∙ same) outer)) (labels o is_overlay) (areas o is_overlay), is),
+    )) appended
 
 -- ---- the regions below a number
 

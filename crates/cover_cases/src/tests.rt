@@ -268,6 +268,38 @@ fn regions_lists_each_region_with_its_label_and_doubled_area(
 }
 
 #[test]
+fn regions_are_those_of_the_bent_and_odd_edges(rt: HostRuntime) -> Result<(), test::Fail> {
+    for (case, input, output) in [
+        (
+            "the inside of a triangle comes before the outer region",
+            "POLYGON ((0 0, 1 1, 0 1, 1 0, 0 0))",
+            "0 single 0 1 -\n1 outer - - -\n",
+        ),
+        (
+            "a bend through the pixel of a vertex gives a member area",
+            "POLYGON ((0 0, 10 1, 0 10, 0 0))\nPOLYGON ((5 0, 10 -10, 0 -10, 5 0))\n",
+            "0 outer - - -\n1 single 1 100 -\n5 single 0 105 -\n",
+        ),
+        (
+            "a hole touches its shell in a vertex",
+            "POLYGON ((0 0, 10 0, 10 10, 0 10, 0 0), (0 0, 3 6, 6 3, 0 0))",
+            "0 outer - - -\n1 single 0 173 -\n3 gap - 27 -\n",
+        ),
+        (
+            "two squares of one member that share a side have one region",
+            "MULTIPOLYGON (((0 0, 10 0, 10 10, 0 10, 0 0)), ((10 0, 20 0, 20 10, 10 10, 10 0)))",
+            "0 outer - - -\n1 single 0 400 -\n",
+        ),
+    ] {
+        let mut files = shelf_of(rt.alloc(), input.as_bytes(), &[], ROOM, ROOM)?;
+        let came = answer(rt.alloc(), "regions in out", &mut files)?;
+        assert_eq!(rt; came, Outcome::Done, "{case}");
+        expect_files(&rt, &files, input, output, case);
+    }
+    Ok(())
+}
+
+#[test]
 fn each_fault_of_a_text_is_answered_at_its_place(rt: HostRuntime) -> Result<(), test::Fail> {
     for (input, fault) in [
         ("POLYGON ((0 0, 1", TextFault::Syntax { at: 16 }),

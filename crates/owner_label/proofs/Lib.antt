@@ -5,3 +5,5 @@ pub mod Toggles
 pub mod Regions
 pub mod Listing
 pub mod Spreading
+pub mod Overlays
+pub mod Sums

@@ -7,3 +7,7 @@ pub mod Listing
 pub mod Spreading
 pub mod Overlays
 pub mod Sums
+pub mod Building
+pub mod Gains
+pub mod Trapezoids
+pub mod Borders

@@ -1,10 +1,11 @@
 -- The labels of regions as those of an overlay.
 use mathlib.Core.List.{[], ◌∷◌}
-use Rattle.std.proofs.Common.{◌≡◌, refl, sym, ◌∙◌, ap, subst, ℕ, zero, suc, ◌+◌, ◌*◌, ◌<◌, ◌≤◌, ◌%◌, ◌==◌, ◌&&◌, Bool, true, false, not, cond, ltb, List, ◌++◌, length, get_or, count_by, filter, map, Contains, Some, slice_get, inl, inr, ◌⊎◌, arith}
+use Rattle.std.proofs.Common.{◌≡◌, refl, sym, ◌∙◌, ap, subst, ℕ, zero, suc, ◌+◌, ◌*◌, ◌<◌, ◌≤◌, ◌%◌, ◌==◌, ◌&&◌, Bool, true, false, not, cond, ltb, List, ◌++◌, length, get_or, count_by, filter, map, Contains, Option, Some, None, slice_get, inl, inr, ◌⊎◌, arith}
+use Rattle.std.specs.Global.{Vec}
 use Rattle.std.specs.Prelude.{All, flat_map, option_to_list}
 use Rattle.std.proofs.lemmas.Bool.{cases_lt, cases_Bool, lt-ltb, le-ltb, ne_eqb, and_left, eqb-true, or_cases, both_ways}
 use Rattle.std.proofs.lemmas.List.{append-nil}
-use Rattle.std.proofs.lemmas.List.Elements.{All-head, All-tail, All-contains}
+use Rattle.std.proofs.lemmas.List.Elements.{All-head, All-tail, Contains-get_or}
 use Rattle.std.proofs.lemmas.List.Sums.{sum_by-cons}
 use Rattle.std.proofs.lemmas.Option.{slice_get-get_or, slice_get_within}
 use Rattle.smallvec.specs.SmallVec.{SmallVec}
@@ -23,10 +24,12 @@ use Rattle.overlay.specs.Noding.{odd_uses}
 use Rattle.overlay.specs.Overlay.{Overlay, IsRegion, label_of, AreBeside}
 use Rattle.overlay.proofs.Numberings.{upper_side, lower_side}
 use Rattle.owner_label.specs.Labelled.{Labelled, IsOverlay}
-use Rattle.owner_label.specs.Lists.{AreRegionLabels}
+use Rattle.owner_label.specs.Lists.{sides_of, AreRegionLabels, AreRegionSides}
 use Rattle.owner_label.specs.Members.{has, differs, members_of}
+use Rattle.owner_label.specs.Passes.{items_of}
 use Rattle.owner_label.specs.Sided.{Sided, AreSided, region_at, uses_of, IsLabelAt}
 use Rattle.owner_label.proofs.Ascending.{same_ascending, chosen_from, chosen_has}
+use Rattle.owner_label.proofs.Listing.{region_sides}
 use Rattle.owner_label.proofs.Regions.{label_joined, side_within, outer_label}
 use Rattle.owner_label.proofs.Toggles.{odd_uses-cons, member_below, members_chosen, members_skipped}
 
@@ -129,7 +132,20 @@ module _ (s : Sided) (sided : AreSided s) (o : Overlay) (overlay : IsOverlay (la
       not_itself true h = both_ways true h refl
       not_itself false h = both_ways false refl h
 
+  pub side_label_at : (n : ℕ) (p : Point) → IsSide s.edges n p → IsLabelAt (uses_of s) p (label_of o (o.number n))
+  side_label_at n p at = subst (λ xs. IsLabelAt (uses_of s) p xs) (side_label n p (label_at (uses_of s) o.members p) at (label_right p)) (label_right p)
+
+  pub labels_apart : (k : ℕ) → k < length s.edges → label_of o (o.number (2 * k)) ≡ label_of o (o.number (2 * k + 1)) → ⊥
+  labels_apart k inside same =
+      sides_apart k inside (label_of o (o.number (2 * k))) (label_of o (o.number (2 * k + 1)))
+      (λ e at. (side_label_at (2 * k) (upper e) (upper_side s.edges k e at), side_label_at (2 * k + 1) (lower e) (lower_side s.edges k e at))) same
+
 -- ---- the label of a region in the table
+
+not_past : (xs : List (SmallVec ℕ)) (i : ℕ) → i < length xs → slice_get xs i ≡ None → ⊥
+not_past [] i h is = absurd (omega arith)
+not_past (x ∷ xs) zero h is = cc
+not_past (x ∷ xs) (suc i) h is = not_past xs i (omega arith) is
 
 pub region_ready : (s : Sided) → AreSided s → (r : ℕ) → IsRegion s.edges r → region_at s r ≡ r
 region_ready s sided r is = one_region s.edges is.at (region_at s r) r (sided.numbered r is.at is.side) is.own
@@ -139,12 +155,18 @@ module _ (s : Sided) (sided : AreSided s) (lists : List (SmallVec ℕ)) (labels 
   pub label_at_side : (n : ℕ) (p : Point) → IsSide s.edges n p → (v : SmallVec ℕ) → slice_get lists (region_at s n) ≡ Some v → IsLabelAt (uses_of s) p v.items
   label_at_side n p at v here = labels.each n (omega (arith, side_within s sided n p at, sided.sides)) v here n p at refl
 
-  module _ (r : ℕ) (is : IsRegion s.edges r) (v : SmallVec ℕ) (here : v ≡ get_or lists r v) where
-    pub region_within : r < length lists
-    region_within = omega (arith, side_within s sided r is.at is.side, sided.sides, labels.count)
+  pub label_read : (n : ℕ) (p : Point) → IsSide s.edges n p → (r : ℕ) → r ≡ region_at s n → (v : SmallVec ℕ) → v ≡ get_or lists r v → IsLabelAt (uses_of s) p v.items
+  label_read n p at r same v here =
+      let region = (sided.numbered n p at).joined in
+      let within : r < length lists = omega (arith, side_within s sided (region_at s n) region.at region.side, sided.sides, labels.count) in
+      label_at_side n p at v (ap (λ k. slice_get lists k) (sym same) ∙ slice_get-get_or lists r v within ∙ ap (λ w. Some w) (sym here))
 
+  pub region_within : (r : ℕ) → IsRegion s.edges r → r < length lists
+  region_within r is = omega (arith, side_within s sided r is.at is.side, sided.sides, labels.count)
+
+  module _ (r : ℕ) (is : IsRegion s.edges r) (v : SmallVec ℕ) (here : v ≡ get_or lists r v) where
     found : slice_get lists (region_at s r) ≡ Some v
-    found = ap (λ k. slice_get lists k) (region_ready s sided r is) ∙ slice_get-get_or lists r v region_within ∙ ap (λ w. Some w) (sym here)
+    found = ap (λ k. slice_get lists k) (region_ready s sided r is) ∙ slice_get-get_or lists r v (region_within r is) ∙ ap (λ w. Some w) (sym here)
 
     label_here : IsLabelAt (uses_of s) is.at v.items
     label_here = label_at_side r is.at is.side v found
@@ -164,15 +186,33 @@ module _ (s : Sided) (sided : AreSided s) (lists : List (SmallVec ℕ)) (labels 
     pub label_differs : (o : Overlay) (other : ℕ) → IsOverlay (labelled_of s) o → AreBeside o r other → label_of o other ≡ v.items → ⊥
     label_differs o other overlay beside same =
         let inside : beside.edge < length s.edges = omega (arith, beside.listed, ap length overlay.edges) in
-        sides_apart s sided o overlay beside.edge inside (label_of o (o.number (2 * beside.edge))) (label_of o (o.number (2 * beside.edge + 1)))
-        (λ e at. (
-          side_label_at (2 * beside.edge) (upper e) (upper_side s.edges beside.edge e at),
-          side_label_at (2 * beside.edge + 1) (lower e) (lower_side s.edges beside.edge e at),
-        ))
+        labels_apart s sided o overlay beside.edge inside
         (elim beside.sides [
           | inl up ↦ ap (label_of o) up.0 ∙ sym (label_value o overlay) ∙ sym same ∙ ap (label_of o) (sym up.1)
           | inr down ↦ ap (label_of o) down.0 ∙ same ∙ label_value o overlay ∙ ap (label_of o) (sym down.1)
         ])
-      where
-        side_label_at : (n : ℕ) (p : Point) → IsSide s.edges n p → IsLabelAt (uses_of s) p (label_of o (o.number n))
-        side_label_at n p at = subst (λ xs. IsLabelAt (uses_of s) p xs) (side_label s sided o overlay n p (label_at (uses_of s) o.members p) at (label_right s sided o overlay p)) (label_right s sided o overlay p)
+
+  -- the label in the table is that of the definition
+  pub table_label : (o : Overlay) → IsOverlay (labelled_of s) o → (n : ℕ) (p : Point) → IsSide s.edges n p → items_of (slice_get lists (region_at s n)) ≡ label_of o (o.number n)
+  table_label o overlay n p at = by (slice_get lists (region_at s n)) refl
+    where
+      inside : region_at s n < length lists
+      inside = let region = (sided.numbered n p at).joined in omega (arith, side_within s sided (region_at s n) region.at region.side, sided.sides, labels.count)
+
+      by : (found : Option (SmallVec ℕ)) → slice_get lists (region_at s n) ≡ found → items_of found ≡ label_of o (o.number n)
+      by (Some v) is = side_label s sided o overlay n p v.items at (label_at_side n p at v is)
+      by None is = absurd (not_past lists (region_at s n) inside is)
+
+-- ---- the sides of a region in the table
+
+module _ (s : Sided) (sided : AreSided s) (lists : List (Vec ℕ)) (sides : AreRegionSides s (length s.regions) lists) (r : ℕ) (is : IsRegion s.edges r) where
+  pub sides_within : r < length lists
+  sides_within = omega (arith, side_within s sided r is.at is.side, sided.sides, sides.count)
+
+  pub sides_here : (v : Vec ℕ) → v ≡ get_or lists r v → v.items ≡ sides_of s r (length s.regions)
+  sides_here v here = sides.each r v (slice_get-get_or lists r v sides_within ∙ ap (λ w. Some w) (sym here))
+
+  pub sides_small : (v : Vec ℕ) → v ≡ get_or lists r v → All (λ n. n < 2 * length s.edges) v.items
+  sides_small v here k d within =
+      let listed = (region_sides s (length s.regions) lists sides r v (slice_get-get_or lists r v sides_within ∙ ap (λ w. Some w) (sym here)) (get_or v.items k d)).0 (Contains-get_or v.items k d within) in
+      omega (arith, listed.0, sided.sides)

@@ -1,8 +1,8 @@
 -- Sums over edges as sums over the sides of a region.
 use mathlib.Core.List.{[], ◌∷◌}
-use Rattle.std.proofs.Common.{◌≡◌, refl, sym, ◌∙◌, ap, subst, ℕ, zero, suc, ◌+◌, ◌*◌, ◌/◌, ◌%◌, ◌<◌, ◌==◌, ◌||◌, ◌&&◌, Bool, true, false, cond, List, ◌++◌, length, filter, sum_by, Some, slice_get, ℤ, pos, ◌+ℤ◌, ◌-ℤ◌, add-one, add-zero, arith}
+use Rattle.std.proofs.Common.{◌≡◌, refl, sym, ◌∙◌, ap, subst, ℕ, zero, suc, ◌+◌, ◌*◌, ◌/◌, ◌%◌, ◌-◌, ◌<◌, ◌==◌, ◌||◌, ◌&&◌, Bool, true, false, cond, List, ◌++◌, length, filter, sum_by, Some, slice_get, ℤ, pos, ◌+ℤ◌, ◌-ℤ◌, add-one, add-zero, arith}
 use Rattle.std.specs.List.{enumerate_from}
-use Rattle.std.proofs.lemmas.Bool.{cases_Bool, eq-eqb, ne_eqb, and_left, and_right}
+use Rattle.std.proofs.lemmas.Bool.{eq-eqb, ne_eqb, eqb-true, cond-true, cond-false}
 use Rattle.std.proofs.lemmas.Option.{none-some, slice_get_within}
 use Rattle.std.proofs.lemmas.List.Sums.{sum_by-cons, sum_by-append}
 use Rattle.exact.proofs.Ring.{lin}
@@ -11,6 +11,7 @@ use Rattle.crossings.specs.Crossing.{int_sum_by}
 use Rattle.plane.specs.Label.{numbers_below}
 use Rattle.plane.specs.Length.{edge_length}
 use Rattle.plane.specs.Point.{Point}
+use Rattle.plane.specs.Region.{IsSide}
 use Rattle.plane.specs.Segment.{upper, lower}
 use Rattle.overlay.specs.Measure.{trapezoid, area_gain, region_area2, is_border, border_with}
 use Rattle.overlay.specs.Overlay.{Overlay, IsRegion, label_of}
@@ -19,7 +20,7 @@ use Rattle.owner_label.specs.Labelled.{IsOverlay}
 use Rattle.owner_label.specs.Lists.{sides_of}
 use Rattle.owner_label.specs.Sided.{Sided, AreSided, across, region_at}
 use Rattle.owner_label.specs.Sides.{side_trapezoid, side_area, length_of, side_length}
-use Rattle.owner_label.proofs.Overlays.{labelled_of, number_is}
+use Rattle.owner_label.proofs.Overlays.{labelled_of, number_is, labels_apart}
 
 -- ---- sums over lists
 
@@ -147,3 +148,53 @@ module _ (s : Sided) (sided : AreSided s) (o : Overlay) (overlay : IsOverlay (la
       let chosen = ap (λ xs. int_sum_by (side_area s) xs) are ∙ int_sum-filter (λ n. region_at s n == r) (side_area s) (numbers_below (length s.regions)) ∙ ap (λ n. int_sum_by area_in (numbers_below n)) long in
       let same_edges = ap (λ es. int_sum_by (λ p. area_gain (o.number (2 * p.0 + 1) == r) (o.number (2 * p.0) == r) p.1) (enumerate_from 0 es)) (overlay.edges) in
       chosen ∙ omega (arith, lin, all, start) ∙ sym same_edges
+
+-- ---- lengths
+
+across-even : (k : ℕ) → across (2 * k) ≡ 2 * k + 1
+across-even k = cond-true ((2 * k) % 2 == 0) (2 * k + 1) (2 * k - 1) (eq-eqb ((2 * k) % 2) 0 (omega arith))
+
+across-odd : (k : ℕ) → across (2 * k + 1) ≡ 2 * k
+across-odd k = cond-false ((2 * k + 1) % 2 == 0) ((2 * k + 1) + 1) ((2 * k + 1) - 1) (ne_eqb ((2 * k + 1) % 2) 0 (λ h. omega arith)) ∙ omega arith
+
+length_above : (s : Sided) (test : ℕ → Bool) (k : ℕ) (e : Seg) → slice_get s.edges k ≡ Some e → side_length s test (2 * k) ≡ cond (test (region_at s (2 * k + 1))) (edge_length e) 0
+length_above s test k e at =
+    (λ i. cond (test (region_at s (across-even k i))) (length_of (slice_get s.edges (edge_number k i))) 0) ∙ ap (λ found. cond (test (region_at s (2 * k + 1))) (length_of found) 0) at
+
+length_below : (s : Sided) (test : ℕ → Bool) (k : ℕ) (e : Seg) → slice_get s.edges k ≡ Some e → side_length s test (2 * k + 1) ≡ cond (test (region_at s (2 * k))) (edge_length e) 0
+length_below s test k e at =
+    (λ i. cond (test (region_at s (across-odd k i))) (length_of (slice_get s.edges (edge_number_odd k i))) 0) ∙ ap (λ found. cond (test (region_at s (2 * k))) (length_of found) 0) at
+
+border_splits : (a b pa pb : Bool) (n : ℕ) → (a ≡ true → b ≡ true → ⊥) → cond ((a && pb) || (b && pa)) n 0 ≡ cond a (cond pb n 0) 0 + cond b (cond pa n 0) 0
+border_splits true true pa pb n apart = absurd (apart refl refl)
+border_splits true false pa true n apart = omega arith
+border_splits true false pa false n apart = omega arith
+border_splits false true true pb n apart = omega arith
+border_splits false true false pb n apart = omega arith
+border_splits false false pa pb n apart = omega arith
+
+module _ (s : Sided) (sided : AreSided s) (o : Overlay) (overlay : IsOverlay (labelled_of s) o) (r : ℕ) (passes test : ℕ → Bool)
+    (agree : (n : ℕ) (p : Point) → IsSide s.edges n p → passes (o.number n) ≡ test (region_at s n)) where
+  abbrev length_in : ℕ → ℕ
+  length_in n = cond (region_at s n == r) (side_length s test n) 0
+
+  length_splits : IsSplitLength (λ p. cond (is_border o r passes p.0) (edge_length p.1) 0) length_in 0 s.edges
+  length_splits j k e same at =
+      let here : slice_get s.edges k ≡ Some e = ap (λ i. slice_get s.edges i) (omega (arith, same)) ∙ at in
+      let inside : k < length s.edges = slice_get_within s.edges k e here in
+      let up = agree (2 * k) (upper e) (upper_side s.edges k e here) in
+      let down = agree (2 * k + 1) (lower e) (lower_side s.edges k e here) in
+      border_splits (o.number (2 * k) == r) (o.number (2 * k + 1) == r) (passes (o.number (2 * k))) (passes (o.number (2 * k + 1))) (edge_length e)
+      (λ h g. labels_apart s sided o overlay k inside (ap (label_of o) (eqb-true (o.number (2 * k)) r h ∙ sym (eqb-true (o.number (2 * k + 1)) r g))))
+      ∙ (λ i. cond (above_is s sided o overlay r k e here i == r) (cond (down i) (edge_length e) 0) 0 + cond (below_is s sided o overlay r k e here i == r) (cond (up i) (edge_length e) 0) 0)
+      ∙ (λ i. cond (region_at s (2 * k) == r) (sym (length_above s test k e here) i) 0 + cond (region_at s (2 * k + 1) == r) (sym (length_below s test k e here) i) 0)
+
+  -- the border of the region is the length of its sides that count
+  pub border_is : (sides : List ℕ) → sides ≡ sides_of s r (length s.regions) → sum_by (side_length s test) sides ≡ border_with o r passes
+  border_is sides are =
+      let all = by_sides (λ p. cond (is_border o r passes p.0) (edge_length p.1) 0) length_in 0 s.edges length_splits in
+      let start : sum_by length_in (numbers_below (2 * 0)) ≡ 0 = refl in
+      let long : length s.regions ≡ 2 * (0 + length s.edges) = omega (arith, sided.sides) in
+      let chosen = ap (λ xs. sum_by (side_length s test) xs) are ∙ sum-filter (λ n. region_at s n == r) (side_length s test) (numbers_below (length s.regions)) ∙ ap (λ n. sum_by length_in (numbers_below n)) long in
+      let same_edges = ap (λ es. sum_by (λ p. cond (is_border o r passes p.0) (edge_length p.1) 0) (enumerate_from 0 es)) (overlay.edges) in
+      chosen ∙ omega (arith, all, start) ∙ sym same_edges

@@ -8,6 +8,11 @@ bounds-sides-region c =
     let within = queue_within c.args.map.now c.loop-next.spread c.loop-next.invariant.spread c.loop-next.next _ (omega (arith, c.loop-next-test.true)) c.index-region.ensures in
     omega (arith, c.requires.sides.count)
 
+pub offset_bounds-sides-region : goal.offset_bounds-sides-region
+offset_bounds-sides-region c =
+    let within = queue_within c.args.map.now c.loop-next.spread c.loop-next.invariant.spread c.loop-next.next _ (omega (arith, c.loop-next-test.true)) c.index-region.ensures in
+    omega (arith, c.requires.sides.count, c.len.ensures.sided.sides, c.len.ensures.small, c.len.ensures.count)
+
 pub leave-requires-clause-within : goal.leave-requires-clause-within
 leave-requires-clause-within c =
     rw c.deref-in-loop-next.ensures.value (λ k d within. (sides_ready c.args.map.now c.len.ensures.sided c.loop-next.spread c.loop-next.invariant.spread _ _ _ c.requires.sides c.index-sides-region.is

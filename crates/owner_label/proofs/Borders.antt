@@ -1,6 +1,6 @@
 -- The borders of a region by the tests of the code.
 use mathlib.Core.List.{[], ◌∷◌}
-use Rattle.std.proofs.Common.{◌≡◌, refl, sym, ◌∙◌, ap, ℕ, ◌==◌, ◌&&◌, Bool, not, List, length, sum_by, Option}
+use Rattle.std.proofs.Common.{◌≡◌, sym, ap, ℕ, ◌==◌, ◌&&◌, not, List, length, sum_by, Option}
 use Rattle.std.specs.Cmp.Lexicographic.{pointwise}
 use Rattle.std.specs.Prelude.{nat_eq}
 use Rattle.smallvec.specs.SmallVec.{SmallVec}
@@ -9,7 +9,7 @@ use Rattle.overlay.specs.Overlay.{Overlay, label_of}
 use Rattle.owner_label.specs.Labelled.{IsOverlay, owner_in}
 use Rattle.owner_label.specs.Lists.{sides_of, AreRegionLabels}
 use Rattle.owner_label.specs.Passes.{is_single, is_owned}
-use Rattle.owner_label.specs.Sided.{Sided, AreSided, region_at}
+use Rattle.owner_label.specs.Sided.{Sided, AreSided}
 use Rattle.owner_label.specs.Sides.{side_length}
 use Rattle.owner_label.proofs.Overlays.{labelled_of, number_is, table_label}
 use Rattle.owner_label.proofs.Sums.{border_is}

@@ -1,6 +1,6 @@
 -- The sides of live edges, with their regions.
 use mathlib.Core.List.{[], ◌∷◌}
-use Rattle.std.proofs.Common.{◌≡◌, refl, sym, ◌∙◌, ap, subst, ℕ, ◌+◌, ◌*◌, ◌<◌, ◌==◌, ◌↔◌, Bool, true, false, List, ◌++◌, length, IsTrue, Option, Some, None, inl, inr, arith}
+use Rattle.std.proofs.Common.{◌≡◌, refl, sym, ◌∙◌, ap, subst, ℕ, ◌*◌, ◌<◌, ◌==◌, ◌↔◌, true, false, List, ◌++◌, length, IsTrue, Option, Some, None, inl, inr, arith}
 use Rattle.std.specs.Prelude.{All, IsNone, IfSome}
 use Rattle.std.specs.List.{list_any}
 use Rattle.std.proofs.lemmas.Bool.{both_ways, cases_Bool, or_cases}
@@ -8,7 +8,7 @@ use Rattle.std.proofs.lemmas.Option.{slice_get_within}
 use Rattle.cov_types.specs.declared.seg.Seg.{Seg}
 use Rattle.cov_types.specs.Uses.{HasEvenEnds}
 use Rattle.plane.specs.Point.{Point}
-use Rattle.plane.specs.Region.{side_points, IsSide, IsRegionOf, IsOuter, IsOuterRegion}
+use Rattle.plane.specs.Region.{side_points, IsRegionOf, IsOuter, IsOuterRegion}
 use Rattle.crossings.proofs.Located.{one_region}
 use Rattle.sectors.specs.Sector.{IsPlanar, AreDistinct}
 use Rattle.overlay.specs.declared.odd_use.OddUse.{OddUse}

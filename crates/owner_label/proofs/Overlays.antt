@@ -1,24 +1,23 @@
 -- The labels of regions as those of an overlay.
 use mathlib.Core.List.{[], ◌∷◌}
-use Rattle.std.proofs.Common.{◌≡◌, refl, sym, ◌∙◌, ap, subst, ℕ, zero, suc, ◌+◌, ◌*◌, ◌<◌, ◌≤◌, ◌%◌, ◌==◌, ◌&&◌, Bool, true, false, not, cond, ltb, List, ◌++◌, length, get_or, count_by, filter, map, Contains, Option, Some, None, slice_get, inl, inr, ◌⊎◌, arith}
+use Rattle.std.proofs.Common.{◌≡◌, refl, sym, ◌∙◌, ap, subst, ℕ, zero, suc, ◌+◌, ◌*◌, ◌<◌, ◌≤◌, ◌%◌, ◌==◌, ◌&&◌, Bool, true, false, not, cond, ltb, List, length, get_or, count_by, Option, Some, None, slice_get, inl, inr, arith}
 use Rattle.std.specs.Global.{Vec}
 use Rattle.std.specs.Prelude.{All, flat_map, option_to_list}
 use Rattle.std.proofs.lemmas.Bool.{cases_lt, cases_Bool, lt-ltb, le-ltb, ne_eqb, and_left, eqb-true, or_cases, both_ways}
 use Rattle.std.proofs.lemmas.List.{append-nil}
 use Rattle.std.proofs.lemmas.List.Elements.{All-head, All-tail, Contains-get_or}
 use Rattle.std.proofs.lemmas.List.Sums.{sum_by-cons}
-use Rattle.std.proofs.lemmas.Option.{slice_get-get_or, slice_get_within}
+use Rattle.std.proofs.lemmas.Option.{slice_get-get_or}
 use Rattle.smallvec.specs.SmallVec.{SmallVec}
 use Rattle.cov_types.specs.declared.edge_use.EdgeUse.{EdgeUse}
 use Rattle.cov_types.specs.declared.seg.Seg.{Seg}
-use Rattle.plane.specs.Label.{label_at, numbers_below}
+use Rattle.plane.specs.Label.{label_at}
 use Rattle.plane.specs.Parity.{member_holds}
 use Rattle.plane.specs.Point.{Point}
 use Rattle.plane.specs.Ray.{is_over}
 use Rattle.plane.specs.Region.{side_points, IsSide, IsRegionOf, IsOuterRegion, AreRegions}
 use Rattle.plane.specs.Segment.{upper, lower}
 use Rattle.crossings.proofs.Located.{one_region, same_region}
-use Rattle.sectors.specs.Sector.{AreDistinct}
 use Rattle.overlay.specs.declared.odd_use.OddUse.{OddUse}
 use Rattle.overlay.specs.Noding.{odd_uses}
 use Rattle.overlay.specs.Overlay.{Overlay, IsRegion, label_of, AreBeside}

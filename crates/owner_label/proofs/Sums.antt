@@ -1,9 +1,9 @@
 -- Sums over edges as sums over the sides of a region.
 use mathlib.Core.List.{[], ◌∷◌}
-use Rattle.std.proofs.Common.{◌≡◌, refl, sym, ◌∙◌, ap, subst, ℕ, zero, suc, ◌+◌, ◌*◌, ◌/◌, ◌%◌, ◌-◌, ◌<◌, ◌==◌, ◌||◌, ◌&&◌, Bool, true, false, cond, List, ◌++◌, length, filter, sum_by, Some, slice_get, ℤ, pos, ◌+ℤ◌, ◌-ℤ◌, add-one, add-zero, arith}
+use Rattle.std.proofs.Common.{◌≡◌, refl, sym, ◌∙◌, ap, ℕ, suc, ◌+◌, ◌*◌, ◌/◌, ◌%◌, ◌-◌, ◌<◌, ◌==◌, ◌||◌, ◌&&◌, Bool, true, false, cond, List, ◌++◌, length, filter, sum_by, Some, slice_get, ℤ, pos, ◌+ℤ◌, ◌-ℤ◌, arith}
 use Rattle.std.specs.List.{enumerate_from}
 use Rattle.std.proofs.lemmas.Bool.{eq-eqb, ne_eqb, eqb-true, cond-true, cond-false}
-use Rattle.std.proofs.lemmas.Option.{none-some, slice_get_within}
+use Rattle.std.proofs.lemmas.Option.{slice_get_within}
 use Rattle.std.proofs.lemmas.List.Sums.{sum_by-cons, sum_by-append}
 use Rattle.exact.proofs.Ring.{lin}
 use Rattle.cov_types.specs.declared.seg.Seg.{Seg}
@@ -14,7 +14,7 @@ use Rattle.plane.specs.Point.{Point}
 use Rattle.plane.specs.Region.{IsSide}
 use Rattle.plane.specs.Segment.{upper, lower}
 use Rattle.overlay.specs.Measure.{trapezoid, area_gain, region_area2, is_border, border_with}
-use Rattle.overlay.specs.Overlay.{Overlay, IsRegion, label_of}
+use Rattle.overlay.specs.Overlay.{Overlay, label_of}
 use Rattle.overlay.proofs.Numberings.{upper_side, lower_side}
 use Rattle.owner_label.specs.Labelled.{IsOverlay}
 use Rattle.owner_label.specs.Lists.{sides_of}

@@ -1,8 +1,8 @@
 -- Across an edge exactly the members change that are odd for it.
 use mathlib.Core.List.{[], ◌∷◌}
-use Rattle.std.proofs.Common.{◌≡◌, refl, sym, ◌∙◌, ap, subst, ℕ, zero, suc, ◌+◌, ◌/◌, ◌%◌, ◌≤◌, ◌<◌, ◌==◌, ◌↔◌, Bool, true, false, not, ◌&&◌, cond, List, ◌++◌, map, get_or, length, filter, count_by, Contains, IsTrue, Option, Some, slice_get, inl, inr, zero-add, arith}
+use Rattle.std.proofs.Common.{◌≡◌, refl, sym, ◌∙◌, ap, subst, ℕ, zero, suc, ◌+◌, ◌%◌, ◌≤◌, ◌<◌, ◌==◌, ◌↔◌, Bool, true, false, not, ◌&&◌, cond, List, ◌++◌, map, get_or, length, filter, count_by, Contains, IsTrue, Some, slice_get, inl, inr, zero-add, arith}
 use Rattle.std.specs.Prelude.{All, AllPairs, option_to_list}
-use Rattle.std.proofs.lemmas.Bool.{cases_Bool, false_from_ne_true, eqb-true, eqb-false, and_left, and_right}
+use Rattle.std.proofs.lemmas.Bool.{cases_Bool, false_from_ne_true, eqb-true, eqb-false, and_right}
 use Rattle.std.proofs.lemmas.Bool.Decides.{nat_tests}
 use Rattle.std.proofs.lemmas.List.Elements.{All-contains, All-head, All-tail}
 use Rattle.std.proofs.lemmas.List.Sums.{sum_by-cons}

@@ -1,7 +1,7 @@
 -- Trapezoids in 128 bits.
-use mir.Syntax.{w32, w128}
-use Rattle.std.proofs.Common.{◌≡◌, ◌∙◌, sym, ap, ◌≤◌, ◌^◌, ℤ, pos, ◌+ℤ◌, ◌-ℤ◌, ◌*ℤ◌, unsigned_abs, to_z, of_z, arith}
-use Rattle.std.proofs.lemmas.Int.{ints, to_z-of_z}
+use mir.Syntax.{w128}
+use Rattle.std.proofs.Common.{◌≡◌, ◌∙◌, ◌≤◌, ◌^◌, ℤ, pos, ◌+ℤ◌, ◌-ℤ◌, ◌*ℤ◌, unsigned_abs, to_z, of_z, arith}
+use Rattle.std.proofs.lemmas.Int.{ints}
 use Rattle.cov_types.specs.declared.seg.Seg.{Seg}
 use Rattle.overlay.specs.Measure.{trapezoid}
 

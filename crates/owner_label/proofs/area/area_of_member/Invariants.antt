@@ -1,5 +1,4 @@
 use Rattle.std.proofs.Common.{◌≡◌, ◌≤◌, ◌*◌, ◌^◌, take, unsigned_abs}
-use Rattle.owner_label.specs.Sided.{uses_of}
 use Rattle.owner_label.proofs.Gains.{gains_of}
 use Rattle.owner_label.proofs.area.area_of_member.Given as goal
 

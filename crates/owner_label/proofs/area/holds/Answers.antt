@@ -1,5 +1,4 @@
-use Rattle.std.proofs.Common.{Some, ◌∙◌, sym, ap, subst, arith}
-use Rattle.std.proofs.lemmas.Option.{slice_get-get_or}
+use Rattle.std.proofs.Common.{◌∙◌, ap}
 use Rattle.owner_label.specs.Members.{has}
 use Rattle.owner_label.proofs.Overlays.{label_read}
 use Rattle.owner_label.proofs.area.holds.Goals as goal

@@ -1,4 +1,3 @@
-use Rattle.std.proofs.Common.{arith}
 use Rattle.owner_label.proofs.Listing.{regions-push}
 use Rattle.owner_label.proofs.sided.regions_of_sides.Goals as goal
 

@@ -1,5 +1,4 @@
-use Rattle.std.proofs.Common.{◌<◌, ℕ, length, sym, subst, arith}
-use Rattle.owner_label.specs.Spread.{AreCrossed}
+use Rattle.std.proofs.Common.{◌<◌, length, arith}
 use Rattle.owner_label.proofs.Spreading.{queue_reached, queue_within, sides_ready, begun_stays, left-more, all_left, labels_right}
 use Rattle.owner_label.proofs.spread.labels_of_regions.Goals as goal
 

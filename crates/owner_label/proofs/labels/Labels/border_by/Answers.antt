@@ -1,4 +1,4 @@
-use Rattle.std.proofs.Common.{◌∙◌, ap, arith}
+use Rattle.std.proofs.Common.{◌∙◌, arith}
 use Rattle.owner_label.proofs.Borders.{owned_is}
 use Rattle.owner_label.proofs.Overlays.{sides_within, sides_here, sides_small}
 use Rattle.owner_label.proofs.labels.Labels.border_by.Goals as goal

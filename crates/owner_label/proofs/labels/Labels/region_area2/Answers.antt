@@ -1,5 +1,5 @@
 use mir.Syntax.{w128}
-use Rattle.std.proofs.Common.{FitsSigned, ◌∙◌, ap, rules, arith}
+use Rattle.std.proofs.Common.{FitsSigned, ◌∙◌, rules, arith}
 use Rattle.std.proofs.lemmas.Int.{to_z-of_z}
 use Rattle.owner_label.proofs.Overlays.{sides_within, sides_here, sides_small}
 use Rattle.owner_label.proofs.Sums.{area_is}

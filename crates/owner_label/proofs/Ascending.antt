@@ -1,8 +1,7 @@
 -- Ascending lists of numbers: two with the same numbers are one.
 use mathlib.Core.List.{[], ◌∷◌}
 use Rattle.std.proofs.Common.{◌≡◌, refl, sym, ◌∙◌, ap, subst, ℕ, zero, suc, ◌+◌, ◌≤◌, ◌<◌, ◌==◌, Bool, true, false, ◌||◌, ◌&&◌, cond, ltb, List, ◌++◌, filter, count_by, Contains, ◌↔◌, ◌⊎◌, inl, inr, zero-add, arith}
-use Rattle.std.specs.List.{list_any}
-use Rattle.std.proofs.lemmas.Bool.{false≢true, or_from, or_left, or_right, or_cases, and_parts, and_from, ltb-true, ne_eqb, eq-eqb, eqb-true, lt-ltb, le-ltb, cases_order, cases_Bool, cases_lt, and_left}
+use Rattle.std.proofs.lemmas.Bool.{false≢true, or_from, or_left, or_right, or_cases, and_parts, and_from, ltb-true, ne_eqb, eq-eqb, eqb-true, lt-ltb, le-ltb, cases_order, cases_Bool}
 use Rattle.std.proofs.lemmas.List.Elements.{filter-append}
 use Rattle.std.proofs.lemmas.List.Sums.{sum_by-cons}
 use Rattle.plane.specs.Label.{numbers_below}

@@ -5,3 +5,9 @@ pub mod Toggles
 pub mod Regions
 pub mod Listing
 pub mod Spreading
+pub mod Overlays
+pub mod Sums
+pub mod Building
+pub mod Gains
+pub mod Trapezoids
+pub mod Borders

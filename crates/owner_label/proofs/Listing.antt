@@ -4,15 +4,18 @@ use Rattle.std.proofs.Common.{◌≡◌, refl, sym, ◌∙◌, ap, subst, ℕ, z
 use Rattle.std.specs.Global.{Vec}
 use Rattle.std.proofs.Math.Seq.{take-suc}
 use Rattle.std.proofs.lemmas.Bool.{cases_eq, eqb-true, eq-eqb, ne_eqb}
-use Rattle.std.proofs.lemmas.List.{length-set, get_or-set_same, get_or-set_other, length_push, append-nil, map-append}
-use Rattle.std.proofs.lemmas.List.Elements.{filter-append, Contains-push, Contains-push_cases, Contains-append_left}
+use Rattle.std.proofs.lemmas.List.{length-set, get_or-set_same, get_or-set_other, get_or_push, get_or_append_left, length_push, append-nil, map-append}
+use Rattle.std.proofs.lemmas.List.Elements.{filter-append}
 use Rattle.std.proofs.lemmas.Option.{slice_get-get_or, get_or_from_slice_get, slice_get_within, same_Some, none-some}
 use Rattle.smallvec.specs.SmallVec.{SmallVec}
 use Rattle.overlay.specs.declared.odd_use.OddUse.{OddUse}
 use Rattle.owner_label.specs.Members.{members_of}
+use Rattle.cov_types.specs.declared.seg.Seg.{Seg}
+use Rattle.plane.specs.Point.{Point}
+use Rattle.plane.specs.Region.{IsSide, IsRegionOf}
 use Rattle.plane.specs.Label.{numbers_below}
 use Rattle.owner_label.specs.Lists.{sides_of, AreEdgeMembers, AreRegionSides}
-use Rattle.owner_label.specs.Sided.{Sided, region_at}
+use Rattle.owner_label.specs.Sided.{Sided, region_at, AreFirstRegions}
 use Rattle.owner_label.proofs.Ascending.{chosen_contains}
 
 -- ---- elements of a list that was written or grew
@@ -132,3 +135,18 @@ sides-more s n r lists before after same within here pushed are =
 
 pub sides_end : (s : Sided) (n : ℕ) (lists : List (Vec ℕ)) → n ≡ length s.regions → AreRegionSides s n lists → AreRegionSides s (length s.regions) lists
 sides_end s n lists same are = subst (λ k. AreRegionSides s k lists) same are
+
+-- ---- the region of one more side
+
+pub regions-push : (edges : List Seg) (n : ℕ) (regions after : List ℕ) (r : ℕ) → after ≡ regions ++ r ∷ [] → ((p : Point) → IsSide edges n p → IsRegionOf edges p r)
+    → AreFirstRegions edges n regions → AreFirstRegions edges (n + 1) after
+regions-push edges n regions after r pushed is are = subst (λ xs. AreFirstRegions edges (n + 1) xs) (sym pushed) (record {
+  long = length_push regions r ∙ ap (λ k. k + 1) are.long;
+  each = λ k p less at. elim (cases_eq k n) [
+    | inl last ↦ subst (λ t. IsRegionOf edges p t) (sym (get_or_push regions r 0 k (are.long ∙ sym last))) (is p (subst (λ j. IsSide edges j p) last at))
+    | inr other ↦ (
+        let old : k < n = omega arith in
+        subst (λ t. IsRegionOf edges p t) (sym (get_or_append_left regions (r ∷ []) 0 k (omega (arith, are.long)))) (are.each k p old at)
+        )
+  ];
+})

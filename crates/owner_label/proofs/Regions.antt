@@ -1,5 +1,5 @@
 -- The labels of regions: one for all their points, and toggled across each side.
-use Rattle.std.proofs.Common.{◌≡◌, refl, sym, ◌∙◌, ap, subst, ℕ, ◌*◌, ◌/◌, ◌<◌, Bool, true, false, not, List, [], length, get_or, Contains, arith}
+use Rattle.std.proofs.Common.{◌≡◌, sym, ◌∙◌, ap, subst, ℕ, ◌*◌, ◌/◌, ◌<◌, Bool, true, false, List, [], length, get_or, Contains, arith}
 use Rattle.std.proofs.lemmas.List.{get_or_read}
 use Rattle.std.proofs.lemmas.List.Elements.{All-contains, Contains-get_or}
 use Rattle.std.proofs.lemmas.Option.{slice_get_within, slice_get-get_or}
@@ -22,7 +22,7 @@ use Rattle.overlay.proofs.Labels.{far_free}
 use Rattle.overlay.proofs.OddUses.{odd_use_listed}
 use Rattle.owner_label.specs.Members.{has, differs, members_of, IsToggled}
 use Rattle.owner_label.specs.Sided.{Sided, AreSided, across, region_at, uses_of, IsLabelAt, IsRegionLabel}
-use Rattle.owner_label.proofs.Sides.{sides-length, edge_of, twin_at, one_side}
+use Rattle.owner_label.proofs.Sides.{sides-length, edge_of, twin_at}
 use Rattle.owner_label.proofs.Toggles.{mapped, member_turned}
 
 module _ (s : Sided) (sided : AreSided s) where

@@ -1,13 +1,13 @@
 -- The two sides of an edge, and their half-edges.
 use mathlib.Core.List.{[], ◌∷◌}
-use Rattle.std.proofs.Common.{◌≡◌, refl, sym, ◌∙◌, ap, subst, ℕ, zero, suc, ◌+◌, ◌-◌, ◌*◌, ◌/◌, ◌%◌, ◌<◌, ◌==◌, Bool, true, false, cond, List, length, Contains, Some, slice_get, option_map, inl, inr, arith}
+use Rattle.std.proofs.Common.{◌≡◌, refl, sym, ◌∙◌, ap, subst, ℕ, zero, suc, ◌+◌, ◌-◌, ◌*◌, ◌/◌, ◌%◌, ◌<◌, ◌==◌, true, List, length, Contains, Some, slice_get, option_map, inl, inr, arith}
 use Rattle.std.proofs.lemmas.Bool.{eq-eqb, ne_eqb, cond-true, cond-false, cases_eq}
 use Rattle.std.proofs.lemmas.Option.{none-some, same_Some}
 use Rattle.cov_types.specs.declared.seg.Seg.{Seg}
 use Rattle.plane.specs.Point.{Point}
 use Rattle.plane.specs.Region.{side_points, IsSide}
-use Rattle.sectors.specs.Sector.{HalfEdge, left, twin, half_edges, IsHalfEdge, AreDistinct}
-use Rattle.sectors.proofs.Numbers.{half_edge_side, one_number, forwards_number}
+use Rattle.sectors.specs.Sector.{HalfEdge, twin, half_edges, IsHalfEdge, AreDistinct}
+use Rattle.sectors.proofs.Numbers.{one_number, forwards_number}
 use Rattle.regions.proofs.Numbered.{index, index_is}
 use Rattle.owner_label.specs.Sided.{across}
 

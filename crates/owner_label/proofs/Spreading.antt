@@ -22,7 +22,7 @@ use Rattle.owner_label.specs.Lists.{AreEdgeMembers, AreRegionSides, AreRegionLab
 use Rattle.owner_label.specs.Members.{IsFrom, IsToggled, members_of}
 use Rattle.owner_label.specs.Sided.{Sided, AreSided, across, region_at, uses_of, IsLabelAt, IsRegionLabel}
 use Rattle.owner_label.specs.Spread.{IsReached, IsSpread, Grows, AreCrossed, IsLeft, IsBegun}
-use Rattle.owner_label.proofs.Listing.{get-set, get-push, region_sides}
+use Rattle.owner_label.proofs.Listing.{get-set, region_sides}
 use Rattle.owner_label.proofs.Regions.{side_point, side_within, joined_region, label_across, region_within}
 use Rattle.owner_label.proofs.Sides.{index-twin}
 use Rattle.owner_label.proofs.Toggles.{members_ascend}

@@ -1,8 +1,8 @@
 -- Across an edge exactly the members change that are odd for it.
 use mathlib.Core.List.{[], ◌∷◌}
-use Rattle.std.proofs.Common.{◌≡◌, refl, sym, ◌∙◌, ap, subst, ℕ, zero, suc, ◌+◌, ◌/◌, ◌%◌, ◌≤◌, ◌<◌, ◌==◌, ◌↔◌, Bool, true, false, not, ◌&&◌, cond, List, ◌++◌, map, get_or, length, filter, count_by, Contains, IsTrue, Option, Some, slice_get, inl, inr, zero-add, arith}
+use Rattle.std.proofs.Common.{◌≡◌, refl, sym, ◌∙◌, ap, subst, ℕ, zero, suc, ◌+◌, ◌%◌, ◌≤◌, ◌<◌, ◌==◌, ◌↔◌, Bool, true, false, not, ◌&&◌, cond, List, ◌++◌, map, get_or, length, filter, count_by, Contains, IsTrue, Some, slice_get, inl, inr, zero-add, arith}
 use Rattle.std.specs.Prelude.{All, AllPairs, option_to_list}
-use Rattle.std.proofs.lemmas.Bool.{cases_Bool, false_from_ne_true, eqb-true, eqb-false, and_left, and_right}
+use Rattle.std.proofs.lemmas.Bool.{cases_Bool, false_from_ne_true, eqb-true, eqb-false, and_right}
 use Rattle.std.proofs.lemmas.Bool.Decides.{nat_tests}
 use Rattle.std.proofs.lemmas.List.Elements.{All-contains, All-head, All-tail}
 use Rattle.std.proofs.lemmas.List.Sums.{sum_by-cons}
@@ -39,10 +39,10 @@ first_before o odd h p (k, within, is) = subst (λ q. IsTrue (is_odd_before o q)
 same_edge : (o p : OddUse) → IsTrue (is_odd_before o p) → o.edge ≡ p.edge → o.member < p.member
 same_edge o p before e = grind (arith, nat_tests)
 
-members_chosen : (o : OddUse) (odd : List OddUse) (k : ℕ) → (o.edge == k) ≡ true → members_of (o ∷ odd) k ≡ o.member ∷ members_of odd k
+pub members_chosen : (o : OddUse) (odd : List OddUse) (k : ℕ) → (o.edge == k) ≡ true → members_of (o ∷ odd) k ≡ o.member ∷ members_of odd k
 members_chosen o odd k h = ap (λ b. map (λ (p : OddUse). p.member) (cond b (o ∷ filter (λ (p : OddUse). p.edge == k) odd) (filter (λ (p : OddUse). p.edge == k) odd))) h
 
-members_skipped : (o : OddUse) (odd : List OddUse) (k : ℕ) → (o.edge == k) ≡ false → members_of (o ∷ odd) k ≡ members_of odd k
+pub members_skipped : (o : OddUse) (odd : List OddUse) (k : ℕ) → (o.edge == k) ≡ false → members_of (o ∷ odd) k ≡ members_of odd k
 members_skipped o odd k h = ap (λ b. map (λ (p : OddUse). p.member) (cond b (o ∷ filter (λ (p : OddUse). p.edge == k) odd) (filter (λ (p : OddUse). p.edge == k) odd))) h
 
 members_from : (n k : ℕ) (odd : List OddUse) → AreOddAscending odd → ((o : OddUse) → Contains odd o → o.edge ≡ k → n ≤ o.member) → IsFrom n (members_of odd k)
@@ -71,7 +71,7 @@ pub odd_uses-cons : (edges : List Seg) (o : OddUse) (odd : List OddUse) (f : Seg
     → odd_uses edges (o ∷ odd) ≡ record { member = o.member; seg = f } ∷ odd_uses edges odd
 odd_uses-cons edges o odd f at = ap (λ found. map (λ e. record { member = o.member; seg = e }) (option_to_list found) ++ odd_uses edges odd) at
 
-edge_at : (edges : List Seg) (odd : List OddUse) (o : OddUse) → All (λ p. p.edge < length edges) (o ∷ odd) → (e : Seg) → slice_get edges o.edge ≡ Some (get_or edges o.edge e)
+pub edge_at : (edges : List Seg) (odd : List OddUse) (o : OddUse) → All (λ p. p.edge < length edges) (o ∷ odd) → (e : Seg) → slice_get edges o.edge ≡ Some (get_or edges o.edge e)
 edge_at edges odd o places e = slice_get-get_or edges o.edge e (All-head (λ (p : OddUse). p.edge < length edges) o odd places)
 
 module _ (edges : List Seg) (distinct : AreDistinct edges) (k : ℕ) (e : Seg) (at : slice_get edges k ≡ Some e) (m : ℕ) where

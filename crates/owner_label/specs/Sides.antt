@@ -26,6 +26,6 @@ length_of (Some e) = edge_length e
 abbrev pub side_length : Sided → (ℕ → Bool) → ℕ → ℕ
 side_length s passes n = cond (passes (region_at s (across n))) (length_of (slice_get s.edges (n / 2))) 0
 
--- what an edge of a member adds to its doubled area
-abbrev pub use_gain : List EdgeUse → ℕ → Seg → ℤ
-use_gain uses member e = area_gain (member_holds uses member (lower e)) (member_holds uses member (upper e)) e
+-- what the use of an edge by one member adds to the doubled area of a member
+abbrev pub pair_gain : List EdgeUse → ℕ → ℕ → Seg → ℤ
+pair_gain uses member user e = cond (user == member) (area_gain (member_holds uses member (lower e)) (member_holds uses member (upper e)) e) (pos 0)

@@ -1,5 +1,5 @@
 -- What is known while labels spread from region to region.
-use Rattle.std.specs.Prelude.{◌≡◌, ◌⊎◌, ℕ, ◌*◌, ◌<◌, Bool, true, false, List, [], length, Contains, count_by, Some, slice_get, slice_index_or}
+use Rattle.std.specs.Prelude.{◌≡◌, ◌⊎◌, ℕ, ◌*◌, ◌<◌, true, false, List, [], length, Contains, count_by, Some, slice_get, slice_index_or}
 use Rattle.smallvec.specs.SmallVec.{SmallVec}
 use Rattle.owner_label.specs.declared.spread.Spread.{Spread}
 use Rattle.owner_label.specs.Sided.{Sided, across, region_at, IsRegionLabel}

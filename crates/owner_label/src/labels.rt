@@ -1,27 +1,22 @@
-ghost use Rattle.std.specs.Prelude.{◌≡◌, ℕ, ◌*◌, ◌^◌, ◌<◌, length, [], Some, slice_get, IfOk};
-ghost use Rattle.cov_types.specs.declared.seg.Seg.{Seg};
-ghost use Rattle.exact.specs.Bound.{IsWithin};
+ghost use Rattle.std.specs.Prelude.{◌≡◌, ℕ, ◌*◌, length, [], IfOk};
 ghost use Rattle.cov_types.specs.Uses.{HasEvenEnds};
 ghost use Rattle.plane.specs.Label.{label_at};
-ghost use Rattle.plane.specs.Parity.{member_holds};
 ghost use Rattle.plane.specs.Point.{Point};
-ghost use Rattle.plane.specs.Region.{IsSide, IsRegionOf, IsOuterRegion};
+ghost use Rattle.plane.specs.Region.{IsRegionOf, IsOuterRegion};
 ghost use Rattle.overlay.specs.Measure.{member_area2, region_area2, border, owned_border};
 ghost use Rattle.overlay.specs.Noding.{odd_uses};
 ghost use Rattle.overlay.specs.Overlay.{Overlay, IsRegion, label_of, AreBeside};
 ghost use Rattle.owner_label.specs.Labelled.{IsOverlay, owner_in};
-ghost use Rattle.owner_label.specs.Sides.{use_gain};
 
+use crate::area::{area_of_member, area_of_sides};
+use crate::border::{length_beside_owned, length_beside_single};
 use crate::label::Label;
 use crate::lists::sides_by_region;
-use crate::measure::{area_of_sides, trapezoid};
-use crate::sided::{SidedEdges, other_side};
+use crate::sided::SidedEdges;
 use crate::spread::labels_of_regions;
 use cov_types::NoMemory;
 use face_walk::Regions;
-use grid_pred::edge_len;
 use half_edge::Arena;
-use overlay::OddUse;
 use snap_noder::LiveEdges;
 use std::alloc::Global;
 use std::marker::Model;
@@ -74,17 +69,11 @@ impl Labels {
         &self.labels[region]
     }
 
-    /// The doubled area of a member, in square grid units, over its odd edges. Takes time in proportion to the odd pairs.
+    /// The doubled area of a member, in square grid units, over its odd edges. Takes time in proportion to all odd pairs.
     pub fn area2(&self, member: u32) -> i128
         ensures { result ≡ member_area2 (odd_uses self.now.edges self.now.odd) member }
     {
-        let mut area = 0;
-        for o in self.map.odd() {
-            if o.member == member {
-                area += self.gain(*o);
-            }
-        }
-        area
+        area_of_member(&self.map, &self.labels, member)
     }
 
     /// The doubled area of a region that is not outer, in square grid units. Takes time in proportion to its sides.
@@ -101,14 +90,7 @@ impl Labels {
         requires region { IsRegion self.now.edges region }
         ensures { (o : Overlay) → IsOverlay self.now o → result ≡ border o region member }
     {
-        let mut border = 0;
-        for side in &self.sides[region] {
-            let over = self.map.region(other_side(*side));
-            if self.labels[over].as_slice() == [member].as_slice() {
-                border += edge_len(self.map.edge(*side / 2)) as u128;
-            }
-        }
-        border
+        length_beside_single(&self.map, &self.labels, &self.sides[region], member)
     }
 
     /// The owned border of the region with a member, in 1/256 units: the length shared with the regions that have a label and are owned
@@ -119,41 +101,6 @@ impl Labels {
         requires owners { length owners.now ≡ 2 * length self.now.edges }
         ensures { (o : Overlay) → IsOverlay self.now o → result ≡ owned_border o (owner_in owners.now) region member }
     {
-        let mut border = 0;
-        for side in &self.sides[region] {
-            let over = self.map.region(other_side(*side));
-            if !self.labels[over].is_empty() && owners[over] == Some(member) {
-                border += edge_len(self.map.edge(*side / 2)) as u128;
-            }
-        }
-        border
-    }
-
-    // What an odd edge adds to the doubled area of its member.
-    fn gain(&self, o: OddUse) -> i128
-        requires within { o.edge < length self.now.edges }
-        ensures small { IsWithin (2 ^ 61) result }
-        ensures exact { (e : Seg) → slice_get self.now.edges o.edge ≡ Some e → result ≡ use_gain (odd_uses self.now.edges self.now.odd) o.member e }
-    {
-        let area = trapezoid(self.map.edge(o.edge));
-        let below = if self.holds(2 * o.edge + 1, o.member) {
-            area
-        } else {
-            0
-        };
-        let above = if self.holds(2 * o.edge, o.member) {
-            area
-        } else {
-            0
-        };
-        below - above
-    }
-
-    // Whether the member holds the side point of the side.
-    fn holds(&self, side: usize, member: u32) -> bool
-        requires within { side < 2 * length self.now.edges }
-        ensures { (p : Point) → IsSide self.now.edges side p → result ≡ member_holds (odd_uses self.now.edges self.now.odd) member p }
-    {
-        self.labels[self.map.region(side)].contains(&member)
+        length_beside_owned(&self.map, &self.labels, &self.sides[region], owners, member)
     }
 }

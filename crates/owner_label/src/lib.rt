@@ -5,10 +5,11 @@
 //! which exactly the members change that are odd for it.
 #![tactic(auto)]
 
+mod area;
+mod border;
 mod label;
 mod labels;
 mod lists;
-mod measure;
 mod sided;
 mod spread;
 

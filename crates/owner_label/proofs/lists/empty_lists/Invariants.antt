@@ -1,4 +1,3 @@
-use Rattle.std.proofs.Common.{◌≡◌, length}
 use Rattle.owner_label.proofs.Listing.{AreEmpty}
 use Rattle.owner_label.proofs.lists.empty_lists.Given as goal
 

@@ -1,4 +1,3 @@
-use Rattle.std.proofs.Common.{sym, arith}
 use Rattle.owner_label.proofs.Listing.{members-more}
 use Rattle.owner_label.proofs.lists.members_by_edge.Goals as goal
 

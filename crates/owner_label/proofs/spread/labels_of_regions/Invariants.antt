@@ -1,4 +1,4 @@
-use Rattle.std.proofs.Common.{◌≡◌, ◌-◌, ◌<◌, ◌≤◌, ℕ, Some, slice_get, length}
+use Rattle.std.proofs.Common.{◌≡◌, ◌-◌, ◌<◌, ℕ, Some, slice_get, length}
 use Rattle.owner_label.specs.Spread.{IsSpread, IsBegun, IsLeft}
 use Rattle.owner_label.proofs.spread.labels_of_regions.Given as goal
 

@@ -1,7 +1,6 @@
-use Rattle.std.proofs.Common.{sym, ap, subst, ◌∙◌, arith}
+use Rattle.std.proofs.Common.{ap, ◌∙◌, arith}
 use Rattle.std.proofs.lemmas.Result.{on_ok_weaker}
-use Rattle.owner_label.specs.Members.{IsFrom, IsToggled}
-use Rattle.owner_label.specs.Sided.{region_at, IsRegionLabel}
+use Rattle.owner_label.specs.Sided.{region_at}
 use Rattle.owner_label.proofs.Spreading.{label_ascends, label_over, members_from_lists}
 use Rattle.owner_label.proofs.spread.Spread.cross.Goals as goal
 

@@ -1,7 +1,9 @@
 mod Wide
 mod Vectors
 mod Small
-mod Order
+pub mod Order
 mod BySides
 mod Weighted
 mod MeetingPoint
+mod Heights
+mod Lengths

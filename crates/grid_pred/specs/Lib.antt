@@ -1,3 +1,4 @@
 pub mod Ray
+pub mod Along
 pub mod Sides
 pub mod Crossing

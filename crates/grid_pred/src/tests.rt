@@ -1,7 +1,10 @@
 ghost use Rattle.cov_types.specs.Range.{IsSegInRange};
 
-use crate::{Badness, Contact, crossing, over, over_mid, over_upper, relation, turn};
+use crate::{
+    Badness, Contact, below, crossing, edge_len, over, over_mid, over_upper, relation, root, turn,
+};
 use cov_types::{Coord, Seg};
+use std::cmp::Ordering;
 use std::process::Abort;
 
 #[test]
@@ -72,6 +75,61 @@ fn the_top_of_a_square_is_over_the_inner_side_points(rt: HostRuntime) {
     assert!(rt; !over_upper(top, top));
     assert!(rt; !over_upper(top, left));
     assert!(rt; !over_upper(bottom, bottom));
+}
+
+#[test]
+fn a_point_is_below_on_or_above_a_segment(rt: HostRuntime) {
+    let level = (0, 0, 10, 0);
+    let upright = (10, 0, 10, 10);
+    let rising = (3, 0, 10, 7);
+    let falling = (0, 10, 10, 0);
+    let cases = [
+        ((5, 5), level, Ordering::Greater),
+        ((5, 0), level, Ordering::Equal),
+        ((5, -1), level, Ordering::Less),
+        ((0, 0), level, Ordering::Equal),
+        ((0, 1), level, Ordering::Greater),
+        ((10, -1), level, Ordering::Less),
+        ((10, 3), upright, Ordering::Equal),
+        ((3, 4), rising, Ordering::Greater),
+        ((5, 2), rising, Ordering::Equal),
+        ((6, 2), rising, Ordering::Less),
+        ((5, 4), falling, Ordering::Less),
+        ((5, 6), falling, Ordering::Greater),
+    ];
+    for (point, ends, want) in cases {
+        let (x, y) = point;
+        assert_eq!(rt; height(Coord { x, y }, segment(&rt, ends)), Some(want));
+    }
+}
+
+/// How the point lies to the segment, where it is within the segment's sweep range.
+#[tactic(auto, using(crate::proofs::Order::le_from))]
+fn height(p: Coord, s: Seg) -> Option<Ordering>
+    requires { IsSegInRange s }
+{
+    if p.is_in_range() && s.lo <= p && p <= s.hi {
+        Some(below(p, s))
+    } else {
+        None
+    }
+}
+
+#[test]
+fn roots_and_lengths_are_rounded_down(rt: HostRuntime) {
+    assert_eq!(rt; root(0), 0);
+    assert_eq!(rt; root(164102144), 12810);
+    assert_eq!(rt; root(u128::MAX), u64::MAX as u128);
+    let cases = [
+        ((0, 0, 50, 1), 12802),
+        ((0, 0, 50, 2), 12810),
+        ((0, 0, 50, 3), 12823),
+        ((0, 0, 0, 10), 2560),
+        ((0, 0, 3, 4), 1280),
+    ];
+    for (ends, want) in cases {
+        assert_eq!(rt; edge_len(segment(&rt, ends)), want);
+    }
 }
 
 fn segment(rt: &impl Abort, ends: (i32, i32, i32, i32)) -> Seg

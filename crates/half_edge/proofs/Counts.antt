@@ -1,8 +1,9 @@
 -- The numbers of half-edges: how many there are, and those of twins.
 use mathlib.Core.List.{List, [], ◌∷◌}
-use Rattle.std.proofs.Common.{◌≡◌, refl, sym, ◌∙◌, ap, subst, ℕ, zero, suc, ◌+◌, ◌-◌, ◌*◌, ◌/◌, ◌%◌, ◌<◌, length, Some, slice_get, arith}
+use Rattle.std.proofs.Common.{◌≡◌, refl, sym, ◌∙◌, ap, subst, ℕ, ◌+◌, ◌-◌, ◌*◌, ◌/◌, ◌%◌, ◌<◌, length, arith}
 use Rattle.std.proofs.lemmas.Option.{slice_get_within}
 use Rattle.cov_types.specs.declared.seg.Seg.{Seg}
+use Rattle.half_edge.proofs.Tables.{some_at}
 use Rattle.sectors.specs.Sector.{HalfEdge, origin, target, twin, half_edges, IsHalfEdge, IsNextNumber}
 use Rattle.sectors.proofs.Next.{twin-twin}
 use Rattle.sectors.proofs.Numbers.{twin_number, one_half_edge}
@@ -17,11 +18,6 @@ number_within edges n h at =
     let below = slice_get_within (half_edges edges) n h at in
     let count = length-half_edges edges in
     omega (arith, below, count)
-
-some_at : {X : Type 0} (xs : List X) (i : ℕ) → i < length xs → (x : X) × (slice_get xs i ≡ Some x)
-some_at [] i below = absurd (omega (arith, below))
-some_at (x ∷ xs) zero below = (x, refl)
-some_at (x ∷ xs) (suc i) below = some_at xs i (omega (arith, below))
 
 pub some_half_edge : (edges : List Seg) (n : ℕ) → n < 2 * length edges → (h : HalfEdge) × IsHalfEdge edges n h
 some_half_edge edges n below = (let count = length-half_edges edges in some_at (half_edges edges) n (omega (arith, below, count)))

@@ -1,25 +1,30 @@
--- From what follows the twin of a twin to the next of a number.
+-- Whether the way straight down the ray is between a half-edge and the next.
 use mathlib.Core.List.{List}
-use Rattle.std.proofs.Common.{◌≡◌, ◌∙◌, subst, ℕ, ◌*◌, ◌<◌, length}
+use Rattle.std.proofs.Common.{◌≡◌, refl, sym, ◌∙◌, ap, subst, ℕ, not}
+use Rattle.std.specs.Ordering.{is_lt, is_ge}
+use Rattle.std.specs.declared.cmp.Ordering.{Ordering}
+use Rattle.std.specs.declared.cmp.Ordering.TheVariants.{Less, Equal, Greater}
 use Rattle.cov_types.specs.declared.seg.Seg.{Seg}
-use Rattle.half_edge.proofs.Counts.{some_half_edge}
+use Rattle.directions.specs.Direction.{direction_cmp}
+use Rattle.directions.proofs.AtVertex.{at_vertex}
 use Rattle.sectors.specs.Sector.{HalfEdge, twin, is_before_by_angle, IsHalfEdge, IsNext, IsNextNumber, IsPlanar}
 use Rattle.sectors.proofs.Next.{one_next}
 use Rattle.sectors.proofs.Numbers.{one_half_edge}
+use Rattle.sectors.proofs.Sectors.{twin_leaves}
 
-pub follows_next : (edges : List Seg) (n last m : ℕ) → n < 2 * length edges
-    → ((g : HalfEdge) → IsHalfEdge edges n g → IsHalfEdge edges last (twin g))
-    → ((k : ℕ) (h : HalfEdge) → IsHalfEdge edges k h → IsHalfEdge edges last (twin h) → IsNextNumber edges k m)
-    → IsNextNumber edges n m
-follows_next edges n last m below opposite follows = (let (h, at) = some_half_edge edges n below in follows n h at (opposite h at))
+pub ge-not_lt : (o : Ordering) → is_ge o ≡ not (is_lt o)
+ge-not_lt Less = refl
+ge-not_lt Equal = refl
+ge-not_lt Greater = refl
 
--- the test that the next begins after the way back
+-- the test that the next does not come before the way back
 pub opens : (edges : List Seg) → IsPlanar edges → (n m k : ℕ) (next back : HalfEdge) → IsNextNumber edges n m → IsHalfEdge edges m next
     → ((g : HalfEdge) → IsHalfEdge edges n g → IsHalfEdge edges k (twin g)) → IsHalfEdge edges k back
-    → (f g : HalfEdge) → IsHalfEdge edges n f → IsNext edges f g → is_before_by_angle next back ≡ is_before_by_angle g (twin f)
+    → (f g : HalfEdge) → IsHalfEdge edges n f → IsNext edges f g → is_ge (direction_cmp next back) ≡ not (is_before_by_angle g (twin f))
 opens edges planar n m k next back numbered at_next opposite at_back f g at_f follows =
     let from : numbered.from ≡ f = one_half_edge edges n numbered.from f numbered.from_is at_f in
     let to : numbered.to ≡ g = one_next edges planar f numbered.to g (subst (λ x. IsNext edges x numbered.to) from numbered.follows) follows in
     let first : next ≡ g = one_half_edge edges m next numbered.to at_next numbered.to_is ∙ to in
     let second : back ≡ twin f = one_half_edge edges k back (twin f) at_back (opposite f at_f) in
-    λ i. is_before_by_angle (first i) (second i)
+    let met = follows.leaves.from ∙ sym (twin_leaves edges planar f follows.among).from in
+    ge-not_lt (direction_cmp next back) ∙ ap not ((λ i. is_lt (direction_cmp (first i) (second i))) ∙ sym (at_vertex g (twin f) met))

@@ -1,10 +1,12 @@
 pub mod Counts
 pub mod Tables
-pub mod Sectors
-pub mod Choosing
 pub mod Reading
-pub mod Following
 pub mod Meeting
 pub mod Places
 pub mod Ascending
-pub mod Groups
+pub mod Following
+pub mod Numbering
+pub mod InOrder
+pub mod Latest
+pub mod Round
+pub mod Linking

@@ -1,6 +1,6 @@
 -- What holds of the elements before a place, and of the one there.
 use mathlib.Core.List.{List}
-use Rattle.std.proofs.Common.{IsTrue, true, false, true≢false, ◌↔◌, ◌≡◌, refl, sym, subst, ℕ, ◌+◌, ◌<◌, length, get_or, inl, inr, arith}
+use Rattle.std.proofs.Common.{Bool, ap, Some, slice_get, ◌∙◌, IsTrue, true, false, true≢false, ◌↔◌, ◌≡◌, refl, sym, subst, ℕ, ◌+◌, ◌<◌, length, get_or, inl, inr, arith}
 use Rattle.std.proofs.lemmas.Bool.{cases_lt}
 use Rattle.std.proofs.lemmas.Option.{slice_get_read, get_or_from_slice_get}
 use Rattle.std.specs.List.{AllWithin}
@@ -25,3 +25,14 @@ iff_true p = (λ t. p, λ q. refl)
 
 pub iff_false : {P : Type 0} → ¬ P → IsTrue false ↔ P
 iff_false fails = (λ t. absurd (true≢false (sym t)), λ p. absurd (fails p))
+
+-- and what a test that tells it says of it
+pub by_true : {P : Type 0} (t : Bool) → (IsTrue t ↔ P) → t ≡ true → P
+by_true t told is = told.0 is
+
+pub by_false : {P : Type 0} (t : Bool) → (IsTrue t ↔ P) → t ≡ false → ¬ P
+by_false t told is p = true≢false (sym (told.1 p) ∙ is)
+
+-- the element of a list that another name shows
+pub item_at : {X : Type 0} (shown xs : List X) (i : ℕ) (x : X) → shown ≡ xs → i < length shown → x ≡ get_or shown i x → slice_get xs i ≡ Some x
+item_at shown xs i x same below is = ap (λ l. slice_get l i) (sym same) ∙ slice_get_read shown (length shown) i x refl below is

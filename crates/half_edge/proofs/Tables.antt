@@ -1,13 +1,7 @@
 -- Lists that say something of each of the first numbers.
 use mathlib.Core.List.{List, [], ◌∷◌}
-use Rattle.std.proofs.Common.{◌≡◌, refl, sym, ◌∙◌, ap, subst, ℕ, zero, suc, ◌+◌, ◌*◌, ◌<◌, ◌≤◌, ◌++◌, length, Some, slice_get, inl, inr, ◌⊎◌, arith}
+use Rattle.std.proofs.Common.{◌≡◌, refl, sym, ◌∙◌, ap, subst, ℕ, zero, suc, ◌+◌, ◌<◌, ◌++◌, length, Some, slice_get, inl, inr, ◌⊎◌, arith}
 use Rattle.std.proofs.lemmas.Option.{none-some, same_Some}
-use Rattle.cov_types.specs.declared.seg.Seg.{Seg}
-use Rattle.half_edge.proofs.Counts.{number_within}
-use Rattle.half_edge.specs.Departures.{IsDeparture, AreDepartures}
-use Rattle.half_edge.specs.declared.departure.Departure.{Departure}
-use Rattle.sectors.specs.Sector.{IsHalfEdge}
-use Rattle.sectors.proofs.Numbers.{some_number}
 
 -- the list has n elements, and each is in the relation with its place
 pub record IsTable {X : Type 0} (P : ℕ → X → Type 0) (xs : List X) (n : ℕ) : Type 0 where
@@ -37,30 +31,8 @@ table-push P xs n y table is =
       ];
     }
 
--- ---- departures by number
-
-pub record IsDepartureOf (edges : List Seg) (n : ℕ) (d : Departure) : Type 0 where
-  pub number : d.id.number ≡ n
-  pub is : IsDeparture edges d
-
-some_at : {X : Type 0} (xs : List X) (i : ℕ) → i < length xs → (x : X) × (slice_get xs i ≡ Some x)
+-- there is an element at each place
+pub some_at : {X : Type 0} (xs : List X) (i : ℕ) → i < length xs → (x : X) × (slice_get xs i ≡ Some x)
 some_at [] i below = absurd (omega (arith, below))
 some_at (x ∷ xs) zero below = (x, refl)
 some_at (x ∷ xs) (suc i) below = some_at xs i (omega (arith, below))
-
-pub table-departures : (edges : List Seg) (list : List Departure) (n : ℕ) → 2 * length edges ≤ n → IsTable (IsDepartureOf edges) list n → AreDepartures edges list
-table-departures edges list n all table =
-    record {
-      each = λ i d at. (table.each i d at).is;
-      all = λ h among.
-          let (m, at) = some_number edges h among in
-          let below = number_within edges m h at in
-          let count = table.count in
-          let (d, here) = some_at list m (omega (arith, below, all, count)) in
-          record {
-            place = m;
-            departure = d;
-            at_place = here;
-            numbered = subst (λ k. IsHalfEdge edges k h) (sym (table.each m d here).number) at;
-          };
-    }

@@ -1,17 +1,15 @@
-ghost use Rattle.std.specs.Prelude.{◌≡◌, ℕ, ◌*◌, ◌+◌, ◌/◌, ◌<◌, ◌^◌, not, length, List, Some, slice_get, IfOk};
+ghost use Rattle.std.specs.Prelude.{◌≡◌, ℕ, ◌*◌, ◌+◌, ◌/◌, ◌<◌, not, length, List, Some, slice_get, IfOk};
 ghost use Rattle.cov_types.specs.declared.seg.Seg.{Seg};
 ghost use Rattle.plane.specs.Joined.{Joined};
 ghost use Rattle.plane.specs.Point.{Point};
 ghost use Rattle.plane.specs.Region.{IsSide};
 ghost use Rattle.sectors.specs.Sector.{HalfEdge, origin, target, twin, is_before_by_angle, IsHalfEdge, IsNext, IsNextNumber, IsPlanar, AreDistinct};
-ghost use Rattle.half_edge.specs.Arena.{IsArena, IsNextTable};
-ghost use Rattle.half_edge.specs.Departures.{AreDepartures};
-ghost use Rattle.half_edge.specs.declared.departure.Departure.{Departure};
-ghost use Rattle.std.specs.List.Sorted.{IsNonDecreasingBy};
+ghost use Rattle.half_edge.specs.Arena.{IsArena};
 
-use crate::departure::{Departure, departures_by_vertex, vertex_key, with_key};
-use crate::directed::{HalfEdgeId, directed};
-use crate::nearest::nearest_clockwise;
+use crate::departure::departures_in_order;
+use crate::directed::{HalfEdgeId, directed, twin_id};
+use crate::direction::Direction;
+use crate::next::next_table;
 use cov_types::{Coord, NoMemory, Seg};
 use std::alloc::Global;
 use std::marker::Model;
@@ -33,14 +31,14 @@ impl Model for Arena {
 }
 
 impl Arena {
-    /// The arena of the edges, in linear memory. It sorts the half-edges by vertex, and looks for the next of each among those that
-    /// leave one vertex: its time grows as n log n, and with the square of how many edges meet in one vertex.
+    /// The arena of the edges, in n log n time and linear memory: it sorts the half-edges by direction, and links those that leave one
+    /// vertex in that order.
     pub fn build(alloc: Global, edges: Vec<Seg>) -> Result<Arena, NoMemory>
         requires planar { IsPlanar edges.items }
         requires distinct { AreDistinct edges.items }
         ensures { IfOk result (λ a. a ≡ edges.items) }
     {
-        let departures = departures_by_vertex(alloc, &edges)?;
+        let departures = departures_in_order(alloc, &edges)?;
         let next = next_table(alloc, &edges, &departures)?;
         Ok(Arena { edges, next })
     }
@@ -94,9 +92,13 @@ impl Arena {
         requires within { h < 2 * length self.now }
         ensures { (f g : HalfEdge) → IsHalfEdge self.now h f → IsNext self.now f g → result ≡ not (is_before_by_angle g (twin f)) }
     {
-        let next = directed(&self.edges, self.next[h]);
-        let back = directed(&self.edges, twin_id(HalfEdgeId { number: h }));
-        !next.is_before(back)
+        let next = Direction {
+            of: directed(&self.edges, self.next[h]),
+        };
+        let back = Direction {
+            of: directed(&self.edges, twin_id(HalfEdgeId { number: h })),
+        };
+        next >= back
     }
 
     /// The edge of the half-edge.
@@ -106,41 +108,4 @@ impl Arena {
     {
         self.edges[h / 2]
     }
-}
-
-fn twin_id(h: HalfEdgeId) -> HalfEdgeId
-    requires small { h.number < 2 ^ 63 }
-    ensures opposite { (edges : List Seg) (g : HalfEdge) → IsHalfEdge edges h.number g → IsHalfEdge edges result.number (twin g) }
-    ensures within { (n : ℕ) → h.number < 2 * n → result.number < 2 * n }
-{
-    if h.number % 2 == 0 {
-        HalfEdgeId {
-            number: h.number + 1,
-        }
-    } else {
-        HalfEdgeId {
-            number: h.number - 1,
-        }
-    }
-}
-
-// For each half-edge the one that follows it.
-fn next_table(
-    alloc: Global,
-    edges: &[Seg],
-    departures: &[Departure],
-) -> Result<Vec<HalfEdgeId>, NoMemory>
-    requires planar { IsPlanar edges.now }
-    requires departures { AreDepartures edges.now departures.now }
-    requires sorted { IsNonDecreasingBy (λ (d : Departure). d.key) departures.now }
-    ensures { IfOk result (λ v. IsNextTable edges.now v.items) }
-{
-    let mut table = Vec::new(alloc);
-    for number in 0..2 * edges.len() {
-        let last = twin_id(HalfEdgeId { number });
-        let vertex = directed(edges, last).origin();
-        let group = with_key(departures, vertex_key(vertex));
-        table.push(nearest_clockwise(edges, group, last))?;
-    }
-    Ok(table)
 }

@@ -1,9 +1,9 @@
-ghost use Rattle.std.specs.Prelude.{◌≡◌, ◌*◌, ◌<◌, length};
-ghost use Rattle.sectors.specs.Sector.{origin, target, twin, is_left_of, is_before_by_angle, is_in_sector, IsHalfEdge};
+ghost use Rattle.std.specs.Prelude.{◌≡◌, ℕ, ◌*◌, ◌<◌, ◌^◌, length, List};
+ghost use Rattle.cov_types.specs.declared.seg.Seg.{Seg};
+ghost use Rattle.sectors.specs.Sector.{HalfEdge, origin, twin, IsHalfEdge};
 ghost use Rattle.half_edge.specs.Directed.{half_edge_of};
 
 use cov_types::{Coord, Seg};
-use grid_pred::turn;
 
 /// The number of a half-edge: 2k runs along edge k from lo to hi, 2k + 1 back.
 #[derive(Clone, Copy)]
@@ -40,44 +40,21 @@ impl DirectedEdge {
             self.edge.hi
         }
     }
+}
 
-    /// The vertex where it ends.
-    pub fn target(self) -> Coord
-        ensures { result ≡ target (half_edge_of self) }
-    {
-        if self.forwards {
-            self.edge.hi
-        } else {
-            self.edge.lo
+/// The number of the half-edge of the same edge in the other direction.
+pub fn twin_id(h: HalfEdgeId) -> HalfEdgeId
+    requires small { h.number < 2 ^ 63 }
+    ensures opposite { (edges : List Seg) (g : HalfEdge) → IsHalfEdge edges h.number g → IsHalfEdge edges result.number (twin g) }
+    ensures within { (n : ℕ) → h.number < 2 * n → result.number < 2 * n }
+{
+    if h.number % 2 == 0 {
+        HalfEdgeId {
+            number: h.number + 1,
         }
-    }
-
-    /// Of two that leave one vertex, whether it turns to the left of the other.
-    pub fn is_left_of(self, other: DirectedEdge) -> bool
-        ensures { result ≡ is_left_of (half_edge_of self) (half_edge_of other) }
-    {
-        turn(other.origin(), other.target(), self.target()) > 0
-    }
-
-    /// Of two that leave one vertex, whether it comes before the other counter-clockwise.
-    pub fn is_before(self, other: DirectedEdge) -> bool
-        ensures { result ≡ is_before_by_angle (half_edge_of self) (half_edge_of other) }
-    {
-        if self.forwards {
-            !other.forwards || other.is_left_of(self)
-        } else {
-            !other.forwards && other.is_left_of(self)
-        }
-    }
-
-    /// Whether it leaves strictly inside the sector from `from` counter-clockwise to `to`.
-    pub fn is_in_sector(self, from: DirectedEdge, to: DirectedEdge) -> bool
-        ensures { result ≡ is_in_sector (half_edge_of from) (half_edge_of to) (half_edge_of self) }
-    {
-        if from.is_before(to) {
-            from.is_before(self) && self.is_before(to)
-        } else {
-            from.is_before(self) || self.is_before(to)
+    } else {
+        HalfEdgeId {
+            number: h.number - 1,
         }
     }
 }

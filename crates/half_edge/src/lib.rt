@@ -8,7 +8,8 @@ mod arena;
 mod arranged;
 mod departure;
 mod directed;
-mod nearest;
+mod direction;
+mod next;
 #[cfg(test)]
 mod tests;
 

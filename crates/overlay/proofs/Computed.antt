@@ -2,7 +2,8 @@
 use Rattle.std.proofs.Common.{refl}
 use Rattle.plane.specs.Segment.{side, turn_of}
 use Rattle.plane.specs.Ray.{sweep}
-use Rattle.overlay.specs.Measure.{root, edge_length, trapezoid}
+use Rattle.plane.specs.Length.{root, edge_length}
+use Rattle.overlay.specs.Measure.{trapezoid}
 use Rattle.overlay.specs.Examples.{LengthExamples, SnappedExamples, OverlapExamples, RuleExamples, MoatExamples, NotchedExamples, AngleExamples, StateExamples}
 
 pub length_examples : LengthExamples

@@ -1,4 +1,3 @@
-pub mod Roots
 pub mod Picks
 pub mod Clearances
 pub mod Owners

@@ -14,7 +14,8 @@ use Rattle.crossings.specs.Crossing.{int_sum_by}
 use Rattle.crossings.proofs.Lists.{contains_here, contains_there}
 use Rattle.crossings.proofs.Located.{one_region}
 use Rattle.overlay.specs.Overlay.{Overlay, numbered_edges, label_of}
-use Rattle.overlay.specs.Measure.{area_gain, edge_length, border_with, region_area2, is_member}
+use Rattle.plane.specs.Length.{edge_length}
+use Rattle.overlay.specs.Measure.{area_gain, border_with, region_area2, is_member}
 use Rattle.overlay.specs.Laws.{HaveSameMeasures}
 
 pub same_numbers : (edges : List Seg) (f g : ℕ → ℕ) → AreRegions edges f → AreRegions edges g → (n : ℕ) (p : Point) → IsSide edges n p → f n ≡ g n

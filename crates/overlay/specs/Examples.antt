@@ -13,7 +13,8 @@ use Rattle.overlay.specs.declared.candidate.Candidate.{Candidate}
 use Rattle.overlay.specs.declared.odd_use.OddUse.{OddUse}
 use Rattle.overlay.specs.Noding.{segments, odd_uses, snapped_uses}
 use Rattle.overlay.specs.Overlay.{Overlay, label_of}
-use Rattle.overlay.specs.Measure.{root, edge_length, member_area2, region_area2, border, owned_border}
+use Rattle.plane.specs.Length.{root, edge_length}
+use Rattle.overlay.specs.Measure.{member_area2, region_area2, border, owned_border}
 use Rattle.overlay.specs.Owner.{Rule, rule_by, least_index, greatest_area, least_area, longest_border, shared_regions, last_state, label_owner, neighbour_of}
 use Rattle.overlay.specs.Lines.{is_same_coord, degree, point_before, point_after, ring_without}
 use Rattle.overlay.specs.Parts.{is_counter_clockwise, is_clockwise, is_in_angle, corners, is_free_corner, boundary, is_in_polygon}

@@ -1,5 +1,5 @@
 -- The laws that make the definitions of overlays believable.
-use Rattle.std.specs.Prelude.{◌≡◌, ℕ, ◌+◌, ◌*◌, ◌<◌, ◌≤◌, ◌↔◌, nat_lt, int_lt, List, length, Option, Some, All, Contains, false}
+use Rattle.std.specs.Prelude.{◌≡◌, ℕ, ◌<◌, ◌↔◌, nat_lt, int_lt, List, length, Option, Some, All, Contains, false}
 use Rattle.std.specs.List.{IsFirstBest}
 use Rattle.cov_types.specs.declared.coord.Coord.{Coord}
 use Rattle.cov_types.specs.declared.edge_use.EdgeUse.{EdgeUse}
@@ -14,21 +14,10 @@ use Rattle.overlay.specs.declared.candidate.Candidate.{Candidate}
 use Rattle.overlay.specs.declared.odd_use.OddUse.{OddUse}
 use Rattle.overlay.specs.Noding.{segments, AreEdges, AreLiveEdges, odd_uses, IsNoded}
 use Rattle.overlay.specs.Overlay.{Overlay}
-use Rattle.overlay.specs.Measure.{root, region_area2, border, owned_border}
+use Rattle.overlay.specs.Measure.{region_area2, border, owned_border}
 use Rattle.overlay.specs.Gap.{IsClearance, IsNarrow}
 use Rattle.overlay.specs.Owner.{Rule, least_index, greatest_area, least_area, longest_border, IsOwner}
 use Rattle.overlay.specs.Parts.{InOnePart, is_in_angle}
-
--- ---- lengths
-
--- r is the whole part of the square root of n
-pub record IsRoot (n r : ℕ) : Type 0 where
-  pub at_most : r * r ≤ n
-  pub next_more : n < (r + 1) * (r + 1)
-
--- the root is the one number that is
-abbrev pub RootLaw : Type 0
-RootLaw = (n r : ℕ) → (root n ≡ r) ↔ IsRoot n r
 
 -- ---- odd edges
 

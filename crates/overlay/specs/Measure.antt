@@ -1,27 +1,13 @@
--- Lengths in 1/256 units, doubled areas, and borders as sums over the edges of an overlay.
-use Rattle.std.specs.Prelude.{ℕ, ◌+◌, ◌*◌, ◌==◌, Bool, false, ◌&&◌, ◌||◌, not, cond, nat_eq, List, [], ◌∷◌, length, sum_by, Option, Some, None, ℤ, pos, ◌+ℤ◌, ◌-ℤ◌, ◌*ℤ◌, unsigned_abs}
+-- Doubled areas, and borders in 1/256 units, as sums over the edges of an overlay.
+use Rattle.std.specs.Prelude.{ℕ, ◌==◌, Bool, false, ◌&&◌, ◌||◌, not, cond, nat_eq, List, [], ◌∷◌, length, sum_by, Option, Some, None, ℤ, pos, ◌+ℤ◌, ◌-ℤ◌, ◌*ℤ◌}
 use Rattle.std.specs.Cmp.Lexicographic.{pointwise}
-use lib.Ieee.{size, root_below}
 use Rattle.cov_types.specs.declared.edge_use.EdgeUse.{EdgeUse}
 use Rattle.cov_types.specs.declared.seg.Seg.{Seg}
+use Rattle.plane.specs.Length.{edge_length}
 use Rattle.plane.specs.Parity.{member_holds}
 use Rattle.plane.specs.Segment.{upper, lower}
 use Rattle.crossings.specs.Crossing.{int_sum_by}
 use Rattle.overlay.specs.Overlay.{Overlay, numbered_edges, region_above, region_below, label_of}
-
--- ---- lengths
-
--- the square root, rounded down: a binary digit of it for each binary digit of n
-unfoldable pub root : ℕ → ℕ
-unfolding root_below size
-root n = root_below (size n) n
-
--- the length of an edge in 1/256 units, rounded down
-unfoldable pub edge_length : Seg → ℕ
-edge_length e =
-    let dx = unsigned_abs (e.hi.x -ℤ e.lo.x) in
-    let dy = unsigned_abs (e.hi.y -ℤ e.lo.y) in
-    root (65536 * (dx * dx + dy * dy))
 
 -- ---- doubled areas
 

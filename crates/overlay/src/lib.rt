@@ -2,14 +2,14 @@
 //!
 //! It has definitions, laws and examples, and no code but two structs that contracts speak of. Its promise: each definition
 //! counts crossings, asks for lists of points or adds up over edges, and none knows a half-edge, a cycle, a sweep, a heap or an
-//! index. The laws are the public functions `root_law` to `angle_law`; `vectors` has examples with numbers, and `instances` has
+//! index. The laws are the public functions `odd_uses_law` to `angle_law`; `vectors` has examples with numbers, and `instances` has
 //! small cases of what does not compute, up to one square that clean leaves as it is.
 //!
 //! The files of `specs/`, lowest first:
 //!
 //! - `Noding`: the distinct, odd and live edges of any list of uses, and the snapped members, which are such a list.
 //! - `Overlay`: edges, uses and a numbering of the regions in one record, with the labels of regions.
-//! - `Measure`: lengths, doubled areas and borders, as sums over the edges of an overlay.
+//! - `Measure`: doubled areas and borders, as sums over the edges of an overlay; lengths are those of `plane`.
 //! - `Gap`: gaps, the room of a grid point, the clearance of a region.
 //! - `Owner`: the four rules, a rule with a state over the shared regions, and who owns a region.
 //! - `Lines`: nodes, lines, removable points and the greedy run of the simplifier.
@@ -19,7 +19,6 @@
 //!
 //! A crate above takes a lemma by `use Rattle.overlay.proofs.FILE.{NAME}` in its `proofs/`. The files:
 //!
-//! - `Roots`: the root is the whole part of the square root (`root_is`), and the only such number (`root_unique`).
 //! - `OddUses`: where all uses are held, the odd ones are (`odd_uses_law`, `live_uses_law`); an odd edge is used (`odd_used`); the
 //!   odd uses are distinct (`distinct_uses`), and any sum over them has the parity of that over all uses (`same_parity`).
 //! - `OneNoding`: uses in range have one noding (`one_noding`); two lists in order with the same elements are one (`same_ordered`).
@@ -41,6 +40,6 @@ pub use candidate::Candidate;
 pub use examples::{instances, vectors};
 pub use laws::{
     angle_law, clearance_law, label_law, noding_law, numbering_law, odd_uses_law, owner_law,
-    part_law, pick_law, root_law,
+    part_law, pick_law,
 };
 pub use odd_use::OddUse;

@@ -1,4 +1,5 @@
 pub mod Points
+pub mod Roots
 pub mod Forms
 pub mod Sides
 pub mod Sweeps

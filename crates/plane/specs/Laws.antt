@@ -1,5 +1,5 @@
 -- The laws that make the definitions of the plane believable.
-use Rattle.std.specs.Prelude.{◌≡◌, ℕ, List, pos, ◌*ℤ◌, ◌<ℤ◌, ◌≤ℤ◌, IsTrue, ◌↔◌}
+use Rattle.std.specs.Prelude.{◌≡◌, ℕ, ◌+◌, ◌*◌, ◌<◌, ◌≤◌, List, pos, ◌*ℤ◌, ◌<ℤ◌, ◌≤ℤ◌, IsTrue, ◌↔◌}
 use Rattle.cov_types.specs.declared.coord.Coord.{Coord}
 use Rattle.cov_types.specs.declared.seg.Seg.{Seg}
 use Rattle.cov_types.specs.declared.edge_use.EdgeUse.{EdgeUse}
@@ -11,6 +11,7 @@ use Rattle.plane.specs.Segment.{IsOn, side}
 use Rattle.plane.specs.Ray.{sweep, Rises, is_over, MeetsRay}
 use Rattle.plane.specs.Parity.{holds, member_holds}
 use Rattle.plane.specs.Contact.{IsContact}
+use Rattle.plane.specs.Length.{root}
 
 -- in range the sweep value orders grid points as they are ordered
 abbrev pub SweepLaw : Type 0
@@ -45,3 +46,12 @@ pub record AreAlike (p q : Point) : Type 0 where
 -- the definitions speak of points and not of the fractions that write them
 abbrev pub SamePointLaw : Type 0
 SamePointLaw = (p q : Point) → SamePoint p q → AreAlike p q
+
+-- r is the whole part of the square root of n
+pub record IsRoot (n r : ℕ) : Type 0 where
+  pub at_most : r * r ≤ n
+  pub next_more : n < (r + 1) * (r + 1)
+
+-- the root is the one number that is
+abbrev pub RootLaw : Type 0
+RootLaw = (n r : ℕ) → (root n ≡ r) ↔ IsRoot n r

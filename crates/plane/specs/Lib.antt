@@ -3,6 +3,7 @@ pub mod Segment
 pub mod Ray
 pub mod Parity
 pub mod Contact
+pub mod Length
 pub mod Snapping
 pub mod Noded
 pub mod Laws

@@ -1,4 +1,4 @@
-ghost use Rattle.plane.specs.Laws.{SweepLaw, RisesLaw, OverLaw, OnLaw, ContactLaw, SamePointLaw};
+ghost use Rattle.plane.specs.Laws.{SweepLaw, RisesLaw, OverLaw, OnLaw, ContactLaw, SamePointLaw, RootLaw};
 ghost use Rattle.plane.specs.Examples.{OverExamples, SquareExamples, ContactExamples};
 
 /// The order of grid points is that of their sweep values. A call does nothing.
@@ -25,6 +25,11 @@ pub fn contact_law()
 /// The definitions speak of points, and not of the fractions that write them. A call does nothing.
 pub fn same_point_law()
     ensures { SamePointLaw }
+{}
+
+/// The root of a number is the whole part of its square root. A call does nothing.
+pub fn root_law()
+    ensures { RootLaw }
 {}
 
 /// Examples with numbers, by computation. A call does nothing.

@@ -1,8 +1,8 @@
-//! The plane: rational points, segments, the leaning ray and what it crosses.
+//! The plane: rational points, segments and their lengths, the leaning ray and what it crosses.
 //!
 //! Its promise: each definition stands with a law that makes it believable, and none of them knows an
 //! index, a sweep or a graph. The laws are the public functions `sweep_law`, `over_law`, `on_law`,
-//! `contact_law` and `same_point_law`, and `vectors` has examples with numbers.
+//! `contact_law`, `same_point_law` and `root_law`, and `vectors` has examples with numbers.
 //!
 //! A crate above takes a lemma by `use Rattle.plane.proofs.FILE.{NAME}` in its `proofs/`. The files, lowest first:
 //!
@@ -16,10 +16,11 @@
 //! - `Contacts`: a contact is the only one (`contact_unique`).
 //! - `Meeting`, `Along`, `Middle`, `MeetsBadly`: segments with opposite sides meet in one point, segments on one
 //!   line, the middle of two common points, and when a contact is a bad one.
+//! - `Roots`: the root is the whole part of the square root (`root_is`), and the only such number (`root_unique`).
 #![tactic(auto)]
 
 mod contact;
 mod laws;
 
 pub use contact::{Badness, Contact};
-pub use laws::{contact_law, on_law, over_law, same_point_law, sweep_law, vectors};
+pub use laws::{contact_law, on_law, over_law, root_law, same_point_law, sweep_law, vectors};

@@ -3,6 +3,7 @@ pub mod Edge
 pub mod Links
 pub mod Balance
 pub mod Nearest
+pub mod Outwards
 pub mod Kept
 pub mod Numbered
 pub mod Exists

@@ -11,6 +11,7 @@ use Rattle.regions.specs.Below.{IsNearestBelow, HasNoneBelow}
 use Rattle.crossings.specs.Crossing.{IsBalanced}
 use Rattle.regions.specs.Weights.{weigh_sides}
 use Rattle.regions.specs.Linked.{LeavesOverRay, IsLinkOut, IsLinked, IsKept}
+use Rattle.regions.specs.Crossed.{IsCrossed}
 
 -- ---- the edge below
 
@@ -60,6 +61,13 @@ KeptLaw = (edges : List Seg) → IsPlanar edges → AreDistinct edges → (passe
 abbrev pub JoinedNumberLaw : Type 0
 JoinedNumberLaw = (edges : List Seg) → IsPlanar edges → AreDistinct edges → (number : ℕ → ℕ) → ((n m : ℕ) → IsLinked edges n m → number n ≡ number m)
     → (n m : ℕ) (p q : Point) → IsSide edges n p → IsSide edges m q → Joined edges p q → number n ≡ number m
+
+-- ---- tests that a crossing keeps
+
+-- each region is reached from each other one over edges: a test that is the same across each edge and at joined points is the same on all sides
+abbrev pub CrossedLaw : Type 0
+CrossedLaw = (edges : List Seg) → IsPlanar edges → (passes : HalfEdge → Bool) → IsCrossed edges passes
+    → (h g : HalfEdge) → Contains edges h.edge → Contains edges g.edge → passes h ≡ passes g
 
 -- ---- the numbers of the regions
 

@@ -2,7 +2,7 @@
 //!
 //! Its promise, for any list of edges in range that meet in ends alone: a point off the edges is joined with the upper side point of the
 //! nearest edge below it, and is outer where there is none; and, where no edge stands twice, two sides have joined side points exactly
-//! where links tie them. It has laws and no code: each is what a call that does nothing ensures.
+//! where links tie them; and each region is reached from each other one over edges. It has laws and no code: each is what a call that does nothing ensures.
 //!
 //! A side is linked to the side that follows it round the region, and, where the sector at its vertex has the way straight down the ray
 //! in it, to the upper side of the nearest edge below the vertex, or past the range.
@@ -16,6 +16,8 @@
 //! - `Nearest`: edges below a point are ordered, so there is a nearest one or none (`nearest_or_none`).
 //! - `Balance`: for a test on sides that next keeps, what lower sides weigh more than upper ones is balanced, by renumbering along next
 //!   (`balanced_sides`).
+//! - `Outwards`: from each half-edge twins, next half-edges and links down lead to a link past the range (`some_out`), so a test that
+//!   crossings keep is the same on all sides (`crossed_same`).
 //! - `Kept`: so the crossing sum less a side's own weight is one number on all sides, down to a link past the range, and a test that links
 //!   keep is the same on joined sides (`kept_joined`).
 //! - `Numbered`: the same for numbers (`joined_number`), and when they are the numbers of the regions (`walk_regions`, `one_numbering`).

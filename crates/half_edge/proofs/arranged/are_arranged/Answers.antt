@@ -1,4 +1,4 @@
-use Rattle.half_edge.proofs.Choosing.{by_true}
+use Rattle.half_edge.proofs.Places.{by_true}
 use Rattle.half_edge.proofs.Ascending.{arranged, ascend_distinct}
 use Rattle.half_edge.specs.Arranged.{IsArranged}
 use Rattle.half_edge.proofs.arranged.are_arranged.Goals as goal

@@ -1,6 +1,6 @@
 use Rattle.std.proofs.Common.{All}
 use Rattle.half_edge.proofs.Places.{all_more, iff_false}
-use Rattle.half_edge.proofs.Choosing.{by_true, by_false}
+use Rattle.half_edge.proofs.Places.{by_true, by_false}
 use Rattle.cov_types.specs.declared.seg.Seg.{Seg}
 use Rattle.half_edge.proofs.Ascending.{noded_fails}
 use Rattle.plane.specs.Noded.{MeetInEnds}

@@ -1,5 +1,5 @@
 use Rattle.half_edge.proofs.Places.{all_more}
-use Rattle.half_edge.proofs.Choosing.{by_true}
+use Rattle.half_edge.proofs.Places.{by_true}
 use Rattle.plane.specs.Noded.{MeetInEnds}
 use Rattle.half_edge.proofs.arranged.meets_all_in_ends.Goals as goal
 

@@ -1,4 +1,5 @@
 use Rattle.regions.proofs.Balance.{balanced_sides}
+use Rattle.regions.proofs.Outwards.{crossed_same}
 use Rattle.regions.proofs.Kept.{kept_joined}
 use Rattle.regions.proofs.Numbered.{joined_number}
 use Rattle.regions.proofs.side.side_law.Goals as goal
@@ -11,3 +12,6 @@ returns-clause-kept c = kept_joined
 
 pub returns-clause-number : goal.returns-clause-number
 returns-clause-number c = joined_number
+
+pub returns-clause-crossed : goal.returns-clause-crossed
+returns-clause-crossed c = crossed_same

@@ -1,0 +1,5 @@
+pub mod Ways
+pub mod Numbers
+mod Visiting
+mod Completing
+mod Ties

@@ -1,0 +1,10 @@
+pub mod Nearer
+pub mod Depth
+pub mod Places
+pub mod Lowest
+pub mod Numbering
+pub mod Under
+pub mod Scan
+pub mod LinksDown
+pub mod LinksSoFar
+pub mod Reading

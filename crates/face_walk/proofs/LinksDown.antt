@@ -1,0 +1,130 @@
+-- The link down the ray from a side, and what the code tells of it.
+use mathlib.Core.List.{List}
+use Rattle.std.proofs.Common.{◌≡◌, refl, sym, ◌∙◌, ap, subst, ℕ, ◌*◌, ◌<◌, length, Contains, Bool, true, false, true≢false, not, Some, None, ◌↔◌, inl, inr}
+use Rattle.std.proofs.lemmas.Option.{none-some, same_Some}
+use Rattle.cov_types.specs.declared.coord.Coord.{Coord}
+use Rattle.cov_types.specs.declared.seg.Seg.{Seg}
+use Rattle.cov_types.specs.Range.{IsInRange}
+use Rattle.connected.specs.declared.link.Link.{Link}
+use Rattle.plane.specs.Point.{at_coord}
+use Rattle.sectors.specs.Sector.{HalfEdge, origin, twin, is_before_by_angle, IsHalfEdge, IsNext, IsNextNumber, IsPlanar, AreDistinct}
+use Rattle.sectors.proofs.Next.{next_of_one}
+use Rattle.sectors.proofs.Numbers.{forwards_number, half_edge_among, one_half_edge, one_number}
+use Rattle.regions.specs.Below.{IsNearestBelow, HasNoneBelow}
+use Rattle.regions.specs.Linked.{IsNumberOverRay}
+use Rattle.face_walk.specs.Links.{IsOver, IsLinkBelow, IsLinkAfter}
+use Rattle.face_walk.specs.Nearest.{IsNearestAt}
+use Rattle.face_walk.proofs.Nearer.{in_range_of, one_nearest}
+use Rattle.face_walk.proofs.Places.{some_half_edge}
+
+-- v is where the half-edge begins
+abbrev pub BeginsAt : List Seg → ℕ → Coord → Type 0
+BeginsAt edges h v = (g : HalfEdge) → IsHalfEdge edges h g → v ≡ origin g
+
+pub origin_in_range : (edges : List Seg) → IsPlanar edges → (h : ℕ) (v : Coord) → h < 2 * length edges → BeginsAt edges h v → IsInRange v
+origin_in_range edges planar h v below begins =
+    let (g, at) = some_half_edge edges h below in
+    subst (λ c. IsInRange c) (sym (begins g at)) (by_direction g.forwards g.edge (half_edge_among edges h g at))
+  where
+    by_direction : (b : Bool) (e : Seg) → Contains edges e → IsInRange (origin (record { edge = e; forwards = b }))
+    by_direction true e c = (in_range_of edges planar e c).lo
+    by_direction false e c = (in_range_of edges planar e c).hi
+
+-- ---- the place below
+
+vertex_is : (edges : List Seg) (h : ℕ) (v w : Coord) → BeginsAt edges h v → IsNumberOverRay edges h w → v ≡ w
+vertex_is edges h v w begins over = begins over.half_edge over.is ∙ over.leaves.from
+
+pub below_some : (edges : List Seg) → IsPlanar edges → AreDistinct edges → (h : ℕ) (v : Coord) → BeginsAt edges h v → IsOver edges h
+    → (k : ℕ) → IsNearestAt edges (at_coord v) k → (place : ℕ) → IsLinkBelow edges h place ↔ (place ≡ 2 * k)
+below_some edges planar distinct h v begins over k found place =
+    let number = forwards_number edges k found.edge found.at_place in (
+      λ link. elim link [
+        | inl down ↦ (
+            let here = sym (vertex_is edges h v down.vertex begins down.from) in
+            let same = one_nearest edges planar (at_coord v) down.edge found.edge (subst (λ c. IsNearestBelow edges (at_coord c) down.edge) here down.nearest) found.nearest in
+            one_number edges distinct place (2 * k) (record { edge = found.edge; forwards = true })
+            (subst (λ e. IsHalfEdge edges place (record { edge = e; forwards = true })) same down.to) number
+            )
+        | inr out ↦ (
+            let here = sym (vertex_is edges h v out.0.vertex begins out.0.from) in
+            absurd (subst (λ c. HasNoneBelow edges (at_coord c)) here out.0.none found.edge found.nearest.below)
+            )
+      ],
+      λ same. inl (record {
+        vertex = over.0;
+        from = over.1;
+        edge = found.edge;
+        nearest = subst (λ c. IsNearestBelow edges (at_coord c) found.edge) (vertex_is edges h v over.0 begins over.1) found.nearest;
+        to = subst (λ n. IsHalfEdge edges n (record { edge = found.edge; forwards = true })) (sym same) number;
+      }),
+    )
+
+pub below_none : (edges : List Seg) (h : ℕ) (v : Coord) → BeginsAt edges h v → IsOver edges h
+    → HasNoneBelow edges (at_coord v) → (place : ℕ) → IsLinkBelow edges h place ↔ (place ≡ 2 * length edges)
+below_none edges h v begins over none place = (
+  λ link. elim link [
+    | inl down ↦ (
+        let here = sym (vertex_is edges h v down.vertex begins down.from) in
+        absurd (none down.edge (subst (λ c. IsNearestBelow edges (at_coord c) down.edge) here down.nearest).below)
+        )
+    | inr out ↦ out.1
+  ],
+  λ same. inr (record { vertex = over.0; from = over.1; none = subst (λ c. HasNoneBelow edges (at_coord c)) (vertex_is edges h v over.0 begins over.1) none }, same),
+)
+
+-- ---- where the sector has the way straight down the ray in it
+
+-- what the code tells of the half-edge h
+abbrev pub Opens : List Seg → ℕ → Bool → Type 0
+Opens edges h opens = (f g : HalfEdge) → IsHalfEdge edges h f → IsNext edges f g → opens ≡ not (is_before_by_angle g (twin f))
+
+not_false : (b : Bool) → b ≡ false → not b ≡ true
+not_false b h = ap not h
+
+false_from_not : (b : Bool) → not b ≡ true → b ≡ false
+false_from_not true h = absurd (true≢false (sym h))
+false_from_not false h = refl
+
+pub over_next : (edges : List Seg) (h m : ℕ) (opens : Bool) → Opens edges h opens → opens ≡ true → IsNextNumber edges h m → IsOver edges m
+over_next edges h m opens tells wide next = (
+  origin next.to,
+  record {
+    half_edge = next.to;
+    is = next.to_is;
+    leaves = record {
+      before = next.from;
+      over = record { follows = next.follows; past_down = false_from_not (is_before_by_angle next.to (twin next.from)) (sym (tells next.from next.to next.from_is next.follows) ∙ wide) };
+      from = refl;
+    };
+  },
+)
+
+over_opens : (edges : List Seg) → IsPlanar edges → (h m : ℕ) (opens : Bool) → Opens edges h opens → IsNextNumber edges h m → (v : Coord) → IsNumberOverRay edges m v → opens ≡ true
+over_opens edges planar h m opens tells next v over =
+    let to = one_half_edge edges m next.to over.half_edge next.to_is over.is in
+    let follows = subst (λ g. IsNext edges next.from g) to next.follows in
+    let from = next_of_one edges planar next.from over.leaves.before over.half_edge follows over.leaves.over.follows in
+    tells next.from over.half_edge next.from_is follows
+    ∙ not_false (is_before_by_angle over.half_edge (twin next.from)) (ap (λ f. is_before_by_angle over.half_edge (twin f)) from ∙ over.leaves.over.past_down)
+
+pub none_after : (edges : List Seg) → IsPlanar edges → (h : ℕ) (opens : Bool) → Opens edges h opens → opens ≡ false → (link : Link) → (None ≡ Some link) ↔ IsLinkAfter edges h link
+none_after edges planar h opens tells shut link = (
+  λ none. absurd (none-some link none),
+  λ after. absurd (true≢false (sym (elim after.1 [
+    | inl down ↦ over_opens edges planar h link.from opens tells after.0 down.vertex down.from
+    | inr out ↦ over_opens edges planar h link.from opens tells after.0 out.0.vertex out.0.from
+  ]) ∙ shut)),
+)
+
+-- the link from the one that follows h to the place below
+pub link_after : (edges : List Seg) (h from to : ℕ) → IsNextNumber edges h from → ((m : ℕ) → IsNextNumber edges h m → m ≡ from)
+    → ((place : ℕ) → IsLinkBelow edges from place ↔ (place ≡ to)) → (link : Link) → (Some (record { from = from; to = to }) ≡ Some link) ↔ IsLinkAfter edges h link
+link_after edges h from to next only places link = (
+  λ same. subst (λ l. IsLinkAfter edges h l) (same_Some (record { from = from; to = to }) link same) (next, (places to).1 refl),
+  λ after. (
+      let first : link.from ≡ from = only link.from after.0 in
+      let second : link.to ≡ to = (places link.to).0 (subst (λ n. IsLinkBelow edges n link.to) first after.1) in
+      λ i. Some (record { from = sym first i; to = sym second i })
+      ),
+)

@@ -1,0 +1,20 @@
+use Rattle.std.proofs.Common.{sym, ◌∙◌, true≢false}
+use Rattle.face_walk.proofs.Under.{under_is, not_under_before, not_under_after}
+use Rattle.face_walk.proofs.below.is_under.Goals as goal
+use Rattle.face_walk.proofs.below.is_under.Goals.{then-le, else-le}
+
+pub returns-then-lt : goal.returns-then-lt
+returns-then-lt c =
+    elim c.if-le.branch [
+      | then-le w ↦
+          under_is c.args.e c.args.v c.turn.result c.requires.edge_in_range c.requires.in_range
+          (sym c.le.ensures ∙ w.if-le.true) (sym w.lt.ensures ∙ sym w.value-is ∙ c.if-lt.true) c.turn.ensures
+      | else-le w ↦ absurd (true≢false (sym c.if-lt.true ∙ w.value-is ∙ w.if-le.false))
+    ]
+
+pub returns-else-lt : goal.returns-else-lt
+returns-else-lt c =
+    elim c.if-le.branch [
+      | then-le w ↦ c.if-lt.false ∙ sym (not_under_after c.args.e c.args.v c.requires.edge_in_range c.requires.in_range (sym w.lt.ensures ∙ sym w.value-is ∙ c.if-lt.false))
+      | else-le w ↦ c.if-lt.false ∙ sym (not_under_before c.args.e c.args.v c.requires.edge_in_range c.requires.in_range (sym c.le.ensures ∙ w.if-le.false))
+    ]

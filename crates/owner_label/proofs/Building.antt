@@ -1,0 +1,72 @@
+-- The sides of live edges, with their regions.
+use mathlib.Core.List.{[], ◌∷◌}
+use Rattle.std.proofs.Common.{◌≡◌, refl, sym, ◌∙◌, ap, subst, ℕ, ◌*◌, ◌<◌, ◌==◌, ◌↔◌, true, false, List, ◌++◌, length, IsTrue, Option, Some, None, inl, inr, arith}
+use Rattle.std.specs.Prelude.{All, IsNone, IfSome}
+use Rattle.std.specs.List.{list_any}
+use Rattle.std.proofs.lemmas.Bool.{both_ways, cases_Bool, or_cases}
+use Rattle.std.proofs.lemmas.Option.{slice_get_within}
+use Rattle.cov_types.specs.declared.seg.Seg.{Seg}
+use Rattle.cov_types.specs.Uses.{HasEvenEnds}
+use Rattle.plane.specs.Point.{Point}
+use Rattle.plane.specs.Region.{side_points, IsRegionOf, IsOuter, IsOuterRegion}
+use Rattle.crossings.proofs.Located.{one_region}
+use Rattle.sectors.specs.Sector.{IsPlanar, AreDistinct}
+use Rattle.overlay.specs.declared.odd_use.OddUse.{OddUse}
+use Rattle.overlay.specs.Noding.{odd_uses}
+use Rattle.owner_label.specs.Members.{has, members_of}
+use Rattle.owner_label.specs.Sided.{Sided, AreSided, region_at, IsOuterOf, AreFirstRegions}
+use Rattle.owner_label.proofs.Ascending.{has_first}
+use Rattle.owner_label.proofs.Sides.{sides-length}
+use Rattle.owner_label.proofs.Toggles.{AreOddAscending, members_chosen, members_skipped}
+
+-- an edge that some odd pair names is odd for its member
+used_member : (odd : List OddUse) (k : ℕ) → list_any (λ o. o.edge == k) odd ≡ true → (m : ℕ) × (has (members_of odd k) m ≡ true)
+used_member [] k h = absurd (both_ways false refl h)
+used_member (o ∷ odd) k h =
+    elim (cases_Bool (o.edge == k)) [
+      | inl is ↦ (o.member, ap (λ xs. has xs o.member) (members_chosen o odd k is) ∙ has_first o.member (members_of odd k))
+      | inr other ↦ elim (or_cases (o.edge == k) (list_any (λ p. p.edge == k) odd) h) [
+        | inl is ↦ absurd (both_ways (o.edge == k) other is)
+        | inr later ↦ (let (m, in_rest) = used_member odd k later in (m, ap (λ xs. has xs m) (members_skipped o odd k other) ∙ in_rest))
+      ]
+    ]
+
+pub built : (edges : List Seg) (odd : List OddUse) (regions : List ℕ) (count : ℕ) → IsPlanar edges → AreDistinct edges → AreOddAscending odd → All (λ o. o.edge < length edges) odd
+    → ((k : ℕ) → k < length edges → IsTrue (list_any (λ o. o.edge == k) odd)) → HasEvenEnds (odd_uses edges odd) → count ≡ 2 * length edges → AreFirstRegions edges count regions
+    → AreSided (record { edges = edges; odd = odd; regions = regions })
+built edges odd regions count planar distinct ascending places used even all are = record {
+  planar = planar;
+  distinct = distinct;
+  ascending = ascending;
+  places = places;
+  used = λ k inside. used_member odd k (used k inside);
+  even = even;
+  sides = are.long ∙ all;
+  numbered = λ n p at. are.each n p (omega (arith, slice_get_within (side_points edges) n p at, sides-length edges)) at;
+}
+
+-- a list that was empty, after another one was put behind it
+pub copied : {X : Type 0} (after before part items : List X) → after ≡ before ++ part → before ≡ [] → part ≡ items → after ≡ items
+copied after before part items put empty same = put ∙ (λ i. empty i ++ same i)
+
+-- the same of copies
+pub built_from : (edges copy arena walked : List Seg) (odd odd_copy : List OddUse) (regions : List ℕ) (count : ℕ) → copy ≡ edges → odd_copy ≡ odd → arena ≡ edges → walked ≡ arena
+    → IsPlanar arena → AreDistinct arena → AreOddAscending odd → All (λ o. o.edge < length edges) odd → ((k : ℕ) → k < length edges → IsTrue (list_any (λ o. o.edge == k) odd))
+    → HasEvenEnds (odd_uses edges odd) → count ≡ 2 * length arena → AreFirstRegions walked count regions → AreSided (record { edges = copy; odd = odd_copy; regions = regions })
+built_from edges copy arena walked odd odd_copy regions count same_edges same_odd is_arena is_walked planar distinct ascending places used even all are =
+    subst (λ es. AreSided (record { edges = es; odd = odd_copy; regions = regions })) (sym same_edges)
+    (subst (λ os. AreSided (record { edges = edges; odd = os; regions = regions })) (sym same_odd)
+    (built edges odd regions count (subst (λ es. IsPlanar es) is_arena planar) (subst (λ es. AreDistinct es) is_arena distinct) ascending places used even
+    (all ∙ ap (λ es. 2 * length es) is_arena) (subst (λ es. AreFirstRegions es count regions) (is_walked ∙ is_arena) are)))
+
+-- the outer region of the regions
+pub outer_of : (s : Sided) → AreSided s → (outer : Option ℕ) → (IsNone outer ↔ (s.edges ≡ [])) → IfSome outer (λ r. IsOuterRegion s.edges r)
+    → IfSome outer (λ r. (p : Point) → IsOuter s.edges p → IsRegionOf s.edges p r) → IsOuterOf s outer
+outer_of s sided None none outer region = none.0 refl
+outer_of s sided (Some r) none outer region = (outer, one_region s.edges outer.at (region_at s r) r (sided.numbered r outer.at outer.side) (region outer.at outer.outer))
+
+pub outer_from : (s : Sided) → AreSided s → (edges : List Seg) → edges ≡ s.edges → (outer : Option ℕ) → (IsNone outer ↔ (edges ≡ [])) → IfSome outer (λ r. IsOuterRegion edges r)
+    → IfSome outer (λ r. (p : Point) → IsOuter edges p → IsRegionOf edges p r) → IsOuterOf s outer
+outer_from s sided edges same outer none is region =
+    outer_of s sided outer (subst (λ es. IsNone outer ↔ (es ≡ [])) same none) (subst (λ es. IfSome outer (λ r. IsOuterRegion es r)) same is)
+    (subst (λ es. IfSome outer (λ r. (p : Point) → IsOuter es p → IsRegionOf es p r)) same region)

@@ -1,0 +1,13 @@
+pub mod Ascending
+pub mod Merging
+pub mod Sides
+pub mod Toggles
+pub mod Regions
+pub mod Listing
+pub mod Spreading
+pub mod Overlays
+pub mod Sums
+pub mod Building
+pub mod Gains
+pub mod Trapezoids
+pub mod Borders

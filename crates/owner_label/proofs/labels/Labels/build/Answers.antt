@@ -1,0 +1,8 @@
+use Rattle.std.proofs.Common.{sym, ◌∙◌}
+use Rattle.owner_label.proofs.Building.{outer_from}
+use Rattle.owner_label.proofs.labels.Labels.build.Goals as goal
+
+pub labels_of_regions-requires-clause-outer : goal.labels_of_regions-requires-clause-outer
+labels_of_regions-requires-clause-outer c =
+    let sided = rw c.map.view_is at c.map.invariant in
+    outer_from c.in_ok-map.map sided c.args.r.now (c.requires.regions ∙ c.requires.arena ∙ sym c.in_ok-map.ensures.edges) c.outer.result c.outer.ensures.none c.outer.ensures.outer c.outer.ensures.region

@@ -1,0 +1,7 @@
+pub mod Members
+pub mod Sided
+pub mod Labelled
+pub mod Lists
+pub mod Spread
+pub mod Sides
+pub mod Passes

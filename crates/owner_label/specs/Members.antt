@@ -1,0 +1,27 @@
+-- Ascending lists of members, and the members that are odd for an edge.
+use Rattle.std.specs.Prelude.{◌≡◌, ℕ, suc, ◌≤◌, ◌==◌, Bool, true, false, not, List, [], ◌∷◌, map, filter, ⊤}
+use Rattle.std.specs.List.{list_any}
+use Rattle.overlay.specs.declared.odd_use.OddUse.{OddUse}
+
+-- whether the list has the member
+abbrev pub has : List ℕ → ℕ → Bool
+has members member = list_any (λ m. m == member) members
+
+-- the members ascend, and are not below n
+abbrev pub IsFrom : ℕ → List ℕ → Type 0
+IsFrom n [] = ⊤
+IsFrom n (m ∷ members) = (n ≤ m) × IsFrom (suc m) members
+
+-- just one of the two is true
+abbrev pub differs : Bool → Bool → Bool
+differs true b = not b
+differs false b = b
+
+-- the label after these members are toggled: it has those that just one of the two lists has
+pub record IsToggled (label members after : List ℕ) : Type 0 where
+  pub ascending : IsFrom 0 after
+  pub exact : (member : ℕ) → has after member ≡ differs (has label member) (has members member)
+
+-- the members for which edge k is odd
+abbrev pub members_of : List OddUse → ℕ → List ℕ
+members_of odd k = map (λ o. o.member) (filter (λ o. o.edge == k) odd)

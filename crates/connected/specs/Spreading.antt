@@ -4,10 +4,23 @@ use Rattle.std.specs.Global.{Vec}
 use Rattle.connected.specs.declared.link.Link.{Link}
 use Rattle.connected.specs.Connected.{IsTied, IsConnected}
 
+-- ---- neighbours
+
+-- each link ties two of so many nodes
+abbrev pub AreWithin : ℕ → List Link → Type 0
+AreWithin nodes links = All (λ l. (l.from < nodes) × (l.to < nodes)) links
+
 -- each of so many nodes has the list of the nodes that it is tied with
 pub record AreNeighbours (nodes : ℕ) (links : List Link) (lists : List (Vec ℕ)) : Type 0 where
   pub count : length lists ≡ nodes
   pub each : (x : ℕ) (list : Vec ℕ) → slice_get lists x ≡ Some list → (y : ℕ) → Contains list.items y ↔ IsTied links x y
+
+-- so many lists of nodes, each node one of so many
+pub record AreListsWithin (nodes : ℕ) (lists : List (Vec ℕ)) : Type 0 where
+  pub count : length lists ≡ nodes
+  pub each : (x : ℕ) (list : Vec ℕ) → slice_get lists x ≡ Some list → All (λ y. y < nodes) list.items
+
+-- ---- numbers
 
 -- components with numbers below the first bound are complete, and nodes with numbers from the second bound on have their own
 pub record AreNumbered (nodes : ℕ) (links : List Link) (complete own : ℕ) (numbers : List ℕ) : Type 0 where
@@ -21,6 +34,8 @@ pub record AreNumbered (nodes : ℕ) (links : List Link) (complete own : ℕ) (n
 pub record AreWaiting (nodes : ℕ) (links : List Link) (number : ℕ) (numbers waiting : List ℕ) : Type 0 where
   pub each : (x : ℕ) → Contains waiting x → (x < nodes) × (slice_index numbers x ≡ number)
   pub others : (x y : ℕ) → x < nodes → slice_index numbers x ≡ number → IsTied links x y → Contains waiting x ⊎ (slice_index numbers y ≡ number)
+
+-- ---- one visit
 
 -- the node has got the number in place of a greater one, and waits
 pub record HasGot (seen : List ℕ) (number : ℕ) (before after waiting : List ℕ) (x : ℕ) : Type 0 where
@@ -38,19 +53,7 @@ pub record AreVisited (seen : List ℕ) (number : ℕ) (before after waited wait
   pub added : (x : ℕ) → Contains waiting x → Contains waited x ⊎ HasGot seen number before after waiting x
   pub work : count_by (nat_lt number) after + length waiting ≡ count_by (nat_lt number) before + length waited
 
--- each link ties two of so many nodes
-abbrev pub AreWithin : ℕ → List Link → Type 0
-AreWithin nodes links = All (λ l. (l.from < nodes) × (l.to < nodes)) links
-
--- whatever links the neighbour lists are of: where components below the start were complete, those up to it are
-abbrev pub IsSpread : List (Vec ℕ) → ℕ → List ℕ → List ℕ → Type 0
-IsSpread lists start before after = (links : List Link) → AreWithin (length before) links → AreNeighbours (length before) links lists
-    → AreNumbered (length before) links start start before → AreNumbered (length before) links (start + 1) (start + 1) after
-
--- so many lists of nodes, each node one of so many
-pub record AreListsWithin (nodes : ℕ) (lists : List (Vec ℕ)) : Type 0 where
-  pub count : length lists ≡ nodes
-  pub each : (x : ℕ) (list : Vec ℕ) → slice_get lists x ≡ Some list → All (λ y. y < nodes) list.items
+-- ---- one component
 
 -- while one component is numbered: whatever links the lists are of, the nodes that wait are those with work left
 pub record IsSpreading (lists : List (Vec ℕ)) (start : ℕ) (before after waiting : List ℕ) : Type 0 where
@@ -58,3 +61,8 @@ pub record IsSpreading (lists : List (Vec ℕ)) (start : ℕ) (before after wait
   pub within : (x : ℕ) → Contains waiting x → x < length before
   pub so_far : (links : List Link) → AreWithin (length before) links → AreNeighbours (length before) links lists → AreNumbered (length before) links start start before
       → AreNumbered (length before) links start (start + 1) after × AreWaiting (length before) links start after waiting
+
+-- whatever links the neighbour lists are of: where components below the start were complete, those up to it are
+abbrev pub IsSpread : List (Vec ℕ) → ℕ → List ℕ → List ℕ → Type 0
+IsSpread lists start before after = (links : List Link) → AreWithin (length before) links → AreNeighbours (length before) links lists
+    → AreNumbered (length before) links start start before → AreNumbered (length before) links (start + 1) (start + 1) after

@@ -51,7 +51,8 @@ fn visit(
     waiting: &mut Vec<usize>,
 ) -> Result<(), NoMemory>
     requires within { All (λ x. x < length least.old) nodes.now }
-    ensures { OnOk result (AreVisited nodes.now number least.old least.new waiting.old.items waiting.new.items) }
+    ensures { OnOk result
+        (AreVisited nodes.now number least.old least.new waiting.old.items waiting.new.items) }
 {
     for node in nodes {
         if number < least[*node] {

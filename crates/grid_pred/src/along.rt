@@ -10,7 +10,8 @@ use crate::orientation::turn;
 use cov_types::{Coord, Seg};
 use std::cmp::Ordering;
 
-/// How a grid point lies to a segment along the ray, at a point within the segment's sweep range: below it, on it, or above it.
+/// How a grid point lies to a segment along the ray, at a point within the segment's sweep range: Less
+/// below it, Equal on it, Greater above it.
 pub fn below(p: Coord, s: Seg) -> Ordering
     requires point_in_range { IsInRange p }
     requires segment_in_range { IsSegInRange s }
@@ -21,7 +22,10 @@ pub fn below(p: Coord, s: Seg) -> Ordering
     ensures greater { (result ≡ Ordering.Greater) ↔ IsAbove (at_coord p) s }
 
     // The side of the point is negative, zero or positive.
-    ensures side { MatchOrdering result (side s (at_coord p) <ℤ pos 0) (side s (at_coord p) ≡ pos 0) (pos 0 <ℤ side s (at_coord p)) }
+    ensures side { MatchOrdering result
+        (side s (at_coord p) <ℤ pos 0)
+        (side s (at_coord p) ≡ pos 0)
+        (pos 0 <ℤ side s (at_coord p)) }
 {
     turn(s.lo, s.hi, p).cmp(&0)
 }

@@ -1,2 +1,3 @@
 pub mod Direction
 pub mod Laws
+pub mod Examples

@@ -1,21 +1,18 @@
--- Lists of edges that ascend, and those that meet in ends alone.
+-- Lists of edges that ascend.
 use mathlib.Core.List.{List}
-use Rattle.std.proofs.Common.{◌≡◌, refl, sym, ◌∙◌, ap, subst, ℕ, ◌+◌, ◌-◌, ◌<◌, ◌≤◌, length, get_or, Some, Bool, true, false, not, IsTrue, All, true≢false, inl, inr, arith}
+use Rattle.std.proofs.Common.{◌≡◌, refl, sym, ◌∙◌, ap, subst, ℕ, ◌+◌, ◌-◌, ◌<◌, ◌≤◌, length, get_or, Some, Bool, true, false, not, IsTrue, true≢false, inl, inr, arith}
 use Rattle.std.proofs.lemmas.Bool.{cases_lt, cases_eq}
-use Rattle.std.proofs.lemmas.Option.{slice_get-get_or, get_or_from_slice_get}
-use Rattle.std.specs.Ordering.{is_lt, is_ge, is_some_and, partial_ge, int_cmp, ordering_then, partial_ordering_then}
+use Rattle.std.specs.Ordering.{is_ge, is_some_and, partial_ge, int_cmp, ordering_then, partial_ordering_then}
 use Rattle.std.specs.declared.cmp.Ordering.{Ordering}
 use Rattle.std.specs.declared.cmp.Ordering.TheVariants.{Less, Equal, Greater}
+use Rattle.half_edge.proofs.Deciding.{ge-not_lt}
 use Rattle.cov_types.specs.Coord.{coord_cmp}
 use Rattle.cov_types.specs.contracts.seg.SegPartialOrd.TheImpl.{partial_cmp-value}
 use Rattle.cov_types.specs.Seg.{is_seg_before, seg_cmp}
 use Rattle.cov_types.specs.declared.seg.Seg.{Seg}
 use Rattle.cov_types.proofs.SegOrder.{is_lt-seg_cmp, is_seg_before-irrefl, is_seg_before-trans}
 use Rattle.half_edge.proofs.Places.{read_at}
-use Rattle.half_edge.specs.Arranged.{IsArranged, AreAscending}
-use Rattle.plane.specs.Noded.{MeetInEnds, IsNodedFully}
-use Rattle.plane.specs.Contact.{MeetsBadly}
-use Rattle.cov_types.specs.Range.{IsSegInRange}
+use Rattle.half_edge.specs.Arranged.{AreAscending}
 use Rattle.sectors.specs.Sector.{AreDistinct}
 
 -- the test that an edge does not come before another one
@@ -28,11 +25,6 @@ partial_is : (s t : Seg) → partial_cmp-value.it s t ≡ Some (seg_cmp s t)
 partial_is s t =
     (λ i. partial_ordering_then (then_is (int_cmp s.lo.x t.lo.x) (int_cmp s.lo.y t.lo.y) i) (then_is (int_cmp s.hi.x t.hi.x) (int_cmp s.hi.y t.hi.y) i))
     ∙ then_is (coord_cmp s.lo t.lo) (coord_cmp s.hi t.hi)
-
-ge-not_lt : (o : Ordering) → is_ge o ≡ not (is_lt o)
-ge-not_lt Less = refl
-ge-not_lt Equal = refl
-ge-not_lt Greater = refl
 
 ge_is : (s t : Seg) → partial_ge partial_cmp-value.it s t ≡ not (is_seg_before s t)
 ge_is s t = ap (λ o. is_some_and is_ge o) (partial_is s t) ∙ ge-not_lt (seg_cmp s t) ∙ ap not (is_lt-seg_cmp s t)
@@ -80,22 +72,3 @@ ascend_fails edges i e f from below at_e at_f not_up up =
 pub ascend_distinct : (edges : List Seg) → AreAscending edges → AreDistinct edges
 ascend_distinct edges up = λ i j d lt below same.
     true≢false (sym (up i j d lt below) ∙ ap (λ s. is_seg_before s (get_or edges j d)) same ∙ is_seg_before-irrefl (get_or edges j d))
-
--- edges that meet badly do not meet in ends alone
-pub bad_meets_not : (e f : Seg) → MeetsBadly e f → ¬ MeetInEnds e f
-bad_meets_not e f (apart, (r, (common, not_ends))) meet =
-    elim meet [
-      | inl same ↦ apart same
-      | inr ends ↦ not_ends (ends r common)
-    ]
-
-pub noded_from_all : (edges : List Seg) → All (λ (e : Seg). All (MeetInEnds e) edges) edges → IsNodedFully edges
-noded_from_all edges all = λ e f (i, below, at_e) (j, within, at_f).
-    subst (λ s. MeetInEnds s f) at_e (subst (λ s. MeetInEnds (get_or edges i e) s) at_f (all i e below j f within))
-
-pub arranged : (edges : List Seg) → All IsSegInRange edges → AreAscending edges → IsNodedFully edges → IsArranged edges
-arranged edges in_range up noded = record { planar = record { in_range = in_range; noded = noded }; ascending = up }
-
-pub noded_fails : (edges : List Seg) (i : ℕ) (e : Seg) → i < length edges → e ≡ get_or edges i e → ¬ All (MeetInEnds e) edges → ¬ IsNodedFully edges
-noded_fails edges i e below at_e not_all noded =
-    not_all (λ j d within. noded e (get_or edges j d) (i, below, sym at_e) (j, within, get_or_from_slice_get edges j (get_or edges j d) (get_or edges j d) (slice_get-get_or edges j d within)))

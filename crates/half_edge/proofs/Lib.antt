@@ -1,10 +1,11 @@
+pub mod Deciding
 pub mod Counts
 pub mod Tables
 pub mod Reading
 pub mod Meeting
 pub mod Places
 pub mod Ascending
-pub mod Following
+pub mod Opening
 pub mod Numbering
 pub mod InOrder
 pub mod Latest

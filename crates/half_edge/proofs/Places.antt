@@ -1,6 +1,6 @@
 -- What holds of the elements before a place, and of the one there.
 use mathlib.Core.List.{List}
-use Rattle.std.proofs.Common.{Bool, ap, Some, slice_get, ◌∙◌, IsTrue, true, false, true≢false, ◌↔◌, ◌≡◌, refl, sym, subst, ℕ, ◌+◌, ◌<◌, length, get_or, inl, inr, arith}
+use Rattle.std.proofs.Common.{ap, Some, slice_get, ◌∙◌, ◌≡◌, refl, sym, subst, ℕ, ◌+◌, ◌<◌, length, get_or, inl, inr, arith}
 use Rattle.std.proofs.lemmas.Bool.{cases_lt}
 use Rattle.std.proofs.lemmas.Option.{slice_get_read, get_or_from_slice_get}
 use Rattle.std.specs.List.{AllWithin}
@@ -18,20 +18,6 @@ all_more P xs i x before below is p =
           subst (λ n. P (get_or xs n d)) (sym same) (subst P (sym (read_at xs i x d below is)) p)
           )
     ]
-
--- a test that is true, or false, and what it tells
-pub iff_true : {P : Type 0} → P → IsTrue true ↔ P
-iff_true p = (λ t. p, λ q. refl)
-
-pub iff_false : {P : Type 0} → ¬ P → IsTrue false ↔ P
-iff_false fails = (λ t. absurd (true≢false (sym t)), λ p. absurd (fails p))
-
--- and what a test that tells it says of it
-pub by_true : {P : Type 0} (t : Bool) → (IsTrue t ↔ P) → t ≡ true → P
-by_true t told is = told.0 is
-
-pub by_false : {P : Type 0} (t : Bool) → (IsTrue t ↔ P) → t ≡ false → ¬ P
-by_false t told is p = true≢false (sym (told.1 p) ∙ is)
 
 -- the element of a list that another name shows
 pub item_at : {X : Type 0} (shown xs : List X) (i : ℕ) (x : X) → shown ≡ xs → i < length shown → x ≡ get_or shown i x → slice_get xs i ≡ Some x

@@ -8,6 +8,8 @@ use cov_types::Seg;
 use grid_pred::{Contact, relation};
 
 /// Whether the edges are in range, ascend strictly, and meet in ends alone, so that an arena can be built of them.
+///
+/// Each edge is compared with those after it that begin before its end, so the time is linear where few overlap from left to right.
 pub fn are_arranged(edges: &[Seg]) -> bool
     ensures exact { IsTrue result ↔ IsArranged edges.now }
     ensures planar { IsTrue result → IsPlanar edges.now }
@@ -43,22 +45,28 @@ fn are_ascending(edges: &[Seg]) -> bool
 
 fn are_noded(edges: &[Seg]) -> bool
     requires in_range { All IsSegInRange edges.now }
+    requires ascending { AreAscending edges.now }
     ensures { IsTrue result ↔ IsNodedFully edges.now }
 {
-    for e in edges {
-        if !meets_all_in_ends(*e, edges) {
+    for (i, e) in edges.iter().enumerate() {
+        if !meets_later_in_ends(*e, &edges[i + 1..]) {
             return false;
         }
     }
     true
 }
 
-fn meets_all_in_ends(e: Seg, edges: &[Seg]) -> bool
+// Whether the edge meets the later ones in ends alone. From the first one on that begins past its end all are apart from it.
+fn meets_later_in_ends(e: Seg, later: &[Seg]) -> bool
     requires edge_in_range { IsSegInRange e }
-    requires in_range { All IsSegInRange edges.now }
-    ensures { IsTrue result ↔ All (MeetInEnds e) edges.now }
+    requires in_range { All IsSegInRange later.now }
+    requires ascending { AreAscending later.now }
+    ensures { IsTrue result ↔ All (MeetInEnds e) later.now }
 {
-    for f in edges {
+    for f in later {
+        if e.hi < f.lo {
+            return true;
+        }
         if !meets_in_ends(e, *f) {
             return false;
         }

@@ -64,6 +64,8 @@ fn a_dead_end_turns_back(rt: HostRuntime) -> Result<(), Fail> {
     assert_eq!(rt; arena.next(2), 3);
     assert_eq!(rt; arena.next(3), 1);
     assert_eq!(rt; arena.next(1), 0);
+    assert!(rt; arena.opens_down(2));
+    assert!(rt; arena.opens_down(1));
     Ok(())
 }
 
@@ -97,6 +99,157 @@ fn round_a_fan_of_eight_directions_each_half_edge_goes_on_clockwise(
         assert!(rt; ways_in[i] < arena.len());
         assert_eq!(rt; arena.next(ways_in[i]), before);
         before = fan[i];
+    }
+    Ok(())
+}
+
+/// The edges of two unit squares that share the point (1, 1).
+const TOUCHING_SQUARES: [(i32, i32, i32, i32); 8] = [
+    (0, 0, 0, 1),
+    (0, 0, 1, 0),
+    (0, 1, 1, 1),
+    (1, 0, 1, 1),
+    (1, 1, 1, 2),
+    (1, 1, 2, 1),
+    (1, 2, 2, 2),
+    (2, 1, 2, 2),
+];
+
+#[test]
+fn two_squares_that_touch_have_one_boundary_on_the_outside(rt: HostRuntime) -> Result<(), Fail> {
+    let alloc = rt.alloc();
+    let edges = edges_between(alloc, &rt, &TOUCHING_SQUARES)?;
+    assert!(rt; are_arranged(&edges));
+    let arena = Arena::build(alloc, edges)?;
+    // Inside 2 6 5 1 and 10 14 13 9, outside 0 4 8 12 15 11 7 3.
+    let next: [usize; 16] = [4, 2, 6, 0, 8, 1, 5, 3, 12, 10, 14, 7, 15, 9, 13, 11];
+    assert_eq!(rt; arena.len(), 16);
+    for h in 0..arena.len() {
+        assert!(rt; h < 16);
+        assert_eq!(rt; arena.next(h), next[h], "after {h}");
+    }
+    // Down from (1, 0) is outside, and not between the bottom and the right side.
+    assert!(rt; arena.opens_down(7));
+    assert!(rt; !arena.opens_down(2));
+    Ok(())
+}
+
+/// The edges of the squares (0..9) x (0..9) and (3..6) x (3..6).
+const RING_AND_ISLAND: [(i32, i32, i32, i32); 8] = [
+    (0, 0, 0, 9),
+    (0, 0, 9, 0),
+    (0, 9, 9, 9),
+    (3, 3, 3, 6),
+    (3, 3, 6, 3),
+    (3, 6, 6, 6),
+    (6, 3, 6, 6),
+    (9, 0, 9, 9),
+];
+
+#[test]
+fn a_ring_round_an_island_has_a_boundary_on_each_side(rt: HostRuntime) -> Result<(), Fail> {
+    let alloc = rt.alloc();
+    let edges = edges_between(alloc, &rt, &RING_AND_ISLAND)?;
+    assert!(rt; are_arranged(&edges));
+    let arena = Arena::build(alloc, edges)?;
+    // The island 8 12 11 7 and round it 6 10 13 9, the ring 2 14 5 1 and round it 0 4 15 3.
+    let next: [usize; 16] = [4, 2, 14, 0, 15, 1, 10, 8, 12, 6, 13, 7, 11, 9, 5, 3];
+    assert_eq!(rt; arena.len(), 16);
+    for h in 0..arena.len() {
+        assert!(rt; h < 16);
+        assert_eq!(rt; arena.next(h), next[h], "after {h}");
+    }
+    Ok(())
+}
+
+#[test]
+fn edges_that_cross_or_descend_or_lie_out_of_range_are_not_arranged(
+    rt: HostRuntime,
+) -> Result<(), Fail> {
+    let alloc = rt.alloc();
+    let crossing = edges_between(alloc, &rt, &[(0, 0, 4, 4), (0, 4, 4, 0)])?;
+    let touching = edges_between(alloc, &rt, &[(0, 0, 4, 0), (1, 5, 3, 5), (2, 0, 2, 3)])?;
+    let descending = edges_between(alloc, &rt, &[(1, 0, 2, 0), (0, 0, 0, 1)])?;
+    let repeated = edges_between(alloc, &rt, &[(0, 0, 0, 1), (0, 0, 0, 1)])?;
+    let far = edges_between(alloc, &rt, &[(0, 0, 16_777_217, 1)])?;
+    assert!(rt; !are_arranged(&crossing));
+    assert!(rt; !are_arranged(&touching));
+    assert!(rt; !are_arranged(&descending));
+    assert!(rt; !are_arranged(&repeated));
+    assert!(rt; !are_arranged(&far));
+    Ok(())
+}
+
+/// The edges of 50,000 unit squares side by side, with a gap of one between any two.
+fn separate_squares(alloc: Global, rt: &impl Abort) -> Result<Vec<Seg>, NoMemory> {
+    let mut edges = Vec::new(alloc);
+    for k in 0..50_000_u16 {
+        let x = 2 * i32::from(k);
+        let corners = [
+            (x, 0, x, 1),
+            (x, 0, x + 1, 0),
+            (x, 1, x + 1, 1),
+            (x + 1, 0, x + 1, 1),
+        ];
+        for (a, b, c, d) in corners {
+            let edge = Seg::between(Coord { x: a, y: b }, Coord { x: c, y: d });
+            edges.push(edge.expect(rt, "two points"))?;
+        }
+    }
+    Ok(edges)
+}
+
+#[test]
+fn an_arena_of_two_hundred_thousand_edges_is_built(rt: HostRuntime) -> Result<(), Fail> {
+    let alloc = rt.alloc();
+    let edges = separate_squares(alloc, &rt)?;
+    assert!(rt; are_arranged(&edges));
+    let arena = Arena::build(alloc, edges)?;
+    assert_eq!(rt; arena.len(), 400_000);
+    let next: [usize; 8] = [4, 2, 6, 0, 7, 1, 5, 3];
+    for first in [0, 200_000, 399_992] {
+        for h in 0..8 {
+            assert!(rt; first + h < arena.len());
+            assert_eq!(rt;
+                arena.next(first + h),
+                first + next[h],
+                "after {h} from {first}"
+            );
+        }
+    }
+    Ok(())
+}
+
+/// The edges from (0, 0) to a thousand points of the line x = 1, upwards.
+fn star(alloc: Global, rt: &impl Abort) -> Result<Vec<Seg>, NoMemory> {
+    let centre = Coord { x: 0, y: 0 };
+    let mut edges = Vec::new(alloc);
+    for k in 0..1000_u16 {
+        let tip = Coord {
+            x: 1,
+            y: i32::from(k),
+        };
+        edges.push(Seg::between(centre, tip).expect(rt, "two points"))?;
+    }
+    Ok(edges)
+}
+
+#[test]
+fn round_a_star_each_edge_goes_on_to_the_one_below_it(rt: HostRuntime) -> Result<(), Fail> {
+    let alloc = rt.alloc();
+    let edges = star(alloc, &rt)?;
+    assert!(rt; are_arranged(&edges));
+    let arena = Arena::build(alloc, edges)?;
+    assert_eq!(rt; arena.len(), 2000);
+    assert_eq!(rt; arena.next(1), 1998);
+    for k in 1..1000 {
+        assert!(rt; 2 * k + 1 < arena.len());
+        assert_eq!(rt; arena.next(2 * k), 2 * k + 1, "at the tip of {k}");
+        assert_eq!(rt;
+            arena.next(2 * k + 1),
+            2 * k - 2,
+            "back from the tip of {k}"
+        );
     }
     Ok(())
 }

@@ -1,5 +1,6 @@
-use Rattle.half_edge.proofs.Places.{by_true}
-use Rattle.half_edge.proofs.Ascending.{arranged, ascend_distinct}
+use Rattle.half_edge.proofs.Deciding.{by_true}
+use Rattle.half_edge.proofs.Ascending.{ascend_distinct}
+use Rattle.half_edge.proofs.Meeting.{arranged}
 use Rattle.half_edge.specs.Arranged.{IsArranged}
 use Rattle.half_edge.proofs.arranged.are_arranged.Goals as goal
 

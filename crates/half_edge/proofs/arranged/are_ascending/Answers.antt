@@ -1,4 +1,4 @@
-use Rattle.half_edge.proofs.Places.{iff_false}
+use Rattle.half_edge.proofs.Deciding.{iff_false}
 use Rattle.half_edge.proofs.Ascending.{ascend_more, ascend_fails, before_from_test, not_before_from_test}
 use Rattle.half_edge.proofs.arranged.are_ascending.Goals as goal
 

@@ -1,5 +1,5 @@
 use Rattle.half_edge.proofs.Places.{all_more}
-use Rattle.half_edge.proofs.Places.{by_true}
+use Rattle.half_edge.proofs.Deciding.{by_true}
 use Rattle.cov_types.specs.Range.{IsSegInRange}
 use Rattle.half_edge.proofs.arranged.are_in_range.Goals as goal
 

@@ -1,16 +1,21 @@
-use Rattle.std.proofs.Common.{All}
-use Rattle.half_edge.proofs.Places.{all_more, iff_false}
-use Rattle.half_edge.proofs.Places.{by_true, by_false}
-use Rattle.cov_types.specs.declared.seg.Seg.{Seg}
-use Rattle.half_edge.proofs.Ascending.{noded_fails}
-use Rattle.plane.specs.Noded.{MeetInEnds}
+use Rattle.std.proofs.Common.{◌+◌, ◌≤◌, length, arith}
+use Rattle.half_edge.proofs.Meeting.{meet_more, rest-meets, rest-fails, noded_from_pairs, noded_fails}
+use Rattle.half_edge.proofs.Deciding.{iff_true, iff_false, by_true, by_false}
 use Rattle.half_edge.proofs.arranged.are_noded.Goals as goal
 
-pub loop-e-preserved : goal.loop-e-preserved
-loop-e-preserved c =
-    all_more (λ (e : Seg). All (MeetInEnds e) c.args.edges.now) c.args.edges.now c.loop-e.e-index c.e-item.result c.loop-e.invariant c.loop-e-test.true c.e-item.is
-    (by_true c.meets_all_in_ends.result c.meets_all_in_ends.ensures c.if-not-meets_all_in_ends.false)
+pub returns-then-not-meets_later_in_ends : goal.returns-then-not-meets_later_in_ends
+returns-then-not-meets_later_in_ends c =
+    iff_false (noded_fails c.args.edges.now c.loop-i.i c.index-edges-i.result c.loop-i-test.true c.index-edges-i.is
+    (rest-fails c.index-edges-i.result c.args.edges.now (c.loop-i.i + 1) (by_false c.meets_later_in_ends.result c.meets_later_in_ends.ensures c.if-not-meets_later_in_ends.true)))
 
-pub returns-then-not-meets_all_in_ends : goal.returns-then-not-meets_all_in_ends
-returns-then-not-meets_all_in_ends c =
-    iff_false (noded_fails c.args.edges.now c.loop-e.e-index c.e-item.result c.loop-e-test.true c.e-item.is (by_false c.meets_all_in_ends.result c.meets_all_in_ends.ensures c.if-not-meets_all_in_ends.true))
+pub loop-i-preserved : goal.loop-i-preserved
+loop-i-preserved c =
+    meet_more c.args.edges.now c.loop-i.i c.index-edges-i.result c.loop-i-test.true c.index-edges-i.is
+    (rest-meets c.index-edges-i.result c.args.edges.now (c.loop-i.i + 1) (by_true c.meets_later_in_ends.result c.meets_later_in_ends.ensures c.if-not-meets_later_in_ends.false))
+    c.loop-i.invariant
+
+pub returns : goal.returns
+returns c =
+    let stop = c.loop-i-test.false in
+    let long : length c.args.edges.now ≤ c.loop-i.i = omega (arith, stop) in
+    iff_true (noded_from_pairs c.args.edges.now c.loop-i.i long c.loop-i.invariant)

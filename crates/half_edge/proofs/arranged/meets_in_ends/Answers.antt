@@ -1,7 +1,7 @@
 use Rattle.std.proofs.Common.{refl}
-use Rattle.half_edge.proofs.Ascending.{bad_meets_not}
+use Rattle.half_edge.proofs.Meeting.{bad_meets_not}
 use Rattle.half_edge.proofs.Meeting.{meet_apart, meet_in_end}
-use Rattle.half_edge.proofs.Places.{iff_true, iff_false}
+use Rattle.half_edge.proofs.Deciding.{iff_true, iff_false}
 use Rattle.half_edge.proofs.arranged.meets_in_ends.Goals as goal
 
 pub returns-in-Apart : goal.returns-in-Apart

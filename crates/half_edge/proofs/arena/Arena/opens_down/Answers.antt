@@ -1,7 +1,7 @@
 use Rattle.std.proofs.Common.{length, sym, subst, List, ◌∙◌, ◌*◌, ◌<◌, ◌≡◌}
 use Rattle.cov_types.specs.declared.seg.Seg.{Seg}
 use Rattle.half_edge.proofs.Counts.{next_within}
-use Rattle.half_edge.proofs.Following.{opens}
+use Rattle.half_edge.proofs.Opening.{opens}
 use Rattle.half_edge.proofs.Reading.{next_at, planar_of}
 use Rattle.half_edge.specs.Directed.{half_edge_of}
 use Rattle.sectors.specs.Sector.{IsHalfEdge}

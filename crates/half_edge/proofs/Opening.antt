@@ -1,9 +1,8 @@
 -- Whether the way straight down the ray is between a half-edge and the next.
 use mathlib.Core.List.{List}
-use Rattle.std.proofs.Common.{◌≡◌, refl, sym, ◌∙◌, ap, subst, ℕ, not}
+use Rattle.std.proofs.Common.{◌≡◌, sym, ◌∙◌, ap, subst, ℕ, not}
 use Rattle.std.specs.Ordering.{is_lt, is_ge}
-use Rattle.std.specs.declared.cmp.Ordering.{Ordering}
-use Rattle.std.specs.declared.cmp.Ordering.TheVariants.{Less, Equal, Greater}
+use Rattle.half_edge.proofs.Deciding.{ge-not_lt}
 use Rattle.cov_types.specs.declared.seg.Seg.{Seg}
 use Rattle.directions.specs.Direction.{direction_cmp}
 use Rattle.directions.proofs.AtVertex.{at_vertex}
@@ -11,11 +10,6 @@ use Rattle.sectors.specs.Sector.{HalfEdge, twin, is_before_by_angle, IsHalfEdge,
 use Rattle.sectors.proofs.Next.{one_next}
 use Rattle.sectors.proofs.Numbers.{one_half_edge}
 use Rattle.sectors.proofs.Sectors.{twin_leaves}
-
-pub ge-not_lt : (o : Ordering) → is_ge o ≡ not (is_lt o)
-ge-not_lt Less = refl
-ge-not_lt Equal = refl
-ge-not_lt Greater = refl
 
 -- the test that the next does not come before the way back
 pub opens : (edges : List Seg) → IsPlanar edges → (n m k : ℕ) (next back : HalfEdge) → IsNextNumber edges n m → IsHalfEdge edges m next

@@ -1,6 +1,6 @@
 -- The link down the ray from a side, and what the code tells of it.
 use mathlib.Core.List.{List}
-use Rattle.std.proofs.Common.{◌≡◌, refl, sym, ◌∙◌, ap, subst, ℕ, ◌*◌, ◌<◌, length, Contains, Bool, true, false, true≢false, not, Some, None, slice_get, ◌↔◌, inl, inr}
+use Rattle.std.proofs.Common.{◌≡◌, refl, sym, ◌∙◌, ap, subst, ℕ, ◌*◌, ◌<◌, length, Contains, Bool, true, false, true≢false, not, Some, None, ◌↔◌, inl, inr}
 use Rattle.std.proofs.lemmas.Option.{none-some, same_Some}
 use Rattle.cov_types.specs.declared.coord.Coord.{Coord}
 use Rattle.cov_types.specs.declared.seg.Seg.{Seg}
@@ -87,15 +87,18 @@ false_from_not true h = absurd (true≢false (sym h))
 false_from_not false h = refl
 
 pub over_next : (edges : List Seg) (h m : ℕ) (opens : Bool) → Opens edges h opens → opens ≡ true → IsNextNumber edges h m → IsOver edges m
-over_next edges h m opens tells wide next = (origin next.to, record {
-  half_edge = next.to;
-  is = next.to_is;
-  leaves = record {
-    before = next.from;
-    over = record { follows = next.follows; past_down = false_from_not (is_before_by_angle next.to (twin next.from)) (sym (tells next.from next.to next.from_is next.follows) ∙ wide) };
-    from = refl;
-  };
-})
+over_next edges h m opens tells wide next = (
+  origin next.to,
+  record {
+    half_edge = next.to;
+    is = next.to_is;
+    leaves = record {
+      before = next.from;
+      over = record { follows = next.follows; past_down = false_from_not (is_before_by_angle next.to (twin next.from)) (sym (tells next.from next.to next.from_is next.follows) ∙ wide) };
+      from = refl;
+    };
+  },
+)
 
 over_opens : (edges : List Seg) → IsPlanar edges → (h m : ℕ) (opens : Bool) → Opens edges h opens → IsNextNumber edges h m → (v : Coord) → IsNumberOverRay edges m v → opens ≡ true
 over_opens edges planar h m opens tells next v over =

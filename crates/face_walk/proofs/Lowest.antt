@@ -1,6 +1,6 @@
 -- From some side a link leads past the range: one that leaves the lowest vertex.
 use mathlib.Core.List.{List, [], ◌∷◌}
-use Rattle.std.proofs.Common.{◌≡◌, refl, sym, ◌∙◌, ap, subst, ℕ, zero, suc, ◌<◌, length, Bool, true, false, not, Contains, pos, ◌-ℤ◌, ◌<ℤ◌, ◌≤ℤ◌, ◌⊎◌, inl, inr, arith}
+use Rattle.std.proofs.Common.{◌≡◌, refl, sym, ◌∙◌, ap, subst, ℕ, zero, suc, ◌<◌, length, Bool, true, false, Contains, pos, ◌≤ℤ◌, ◌⊎◌, inl, inr, arith}
 use Rattle.cov_types.specs.declared.coord.Coord.{Coord}
 use Rattle.cov_types.specs.declared.seg.Seg.{Seg}
 use Rattle.exact.proofs.Compare.{le_or_gt}
@@ -11,14 +11,14 @@ use Rattle.plane.specs.Ray.{sweep}
 use Rattle.plane.proofs.Sides.{side-lo}
 use Rattle.plane.proofs.Sweeps.{sweep-one_to_one}
 use Rattle.crossings.proofs.Lists.{contains_here, contains_there}
-use Rattle.sectors.specs.Sector.{HalfEdge, origin, target, twin, half_edges, is_before_by_angle, IsHalfEdge, Leaves, IsNext, IsPlanar}
+use Rattle.sectors.specs.Sector.{HalfEdge, origin, target, twin, half_edges, is_before_by_angle, Leaves, IsPlanar}
 use Rattle.sectors.proofs.Angles.{true_or_false, not_both}
 use Rattle.sectors.proofs.Exists.{some_next, before-irrefl}
 use Rattle.sectors.proofs.Next.{twin-twin}
 use Rattle.sectors.proofs.Numbers.{some_number}
 use Rattle.sectors.proofs.Order.{before-trans}
 use Rattle.sectors.proofs.Turns.{same_coord_or_not}
-use Rattle.regions.specs.Below.{IsBelow, HasNoneBelow}
+use Rattle.regions.specs.Below.{HasNoneBelow}
 use Rattle.regions.specs.Linked.{LeavesOverRay, IsLinkOut}
 use Rattle.regions.proofs.Balance.{first_or_later, half_edges_contain, half_edge_edge}
 use Rattle.regions.proofs.Edge.{under-is}
@@ -32,27 +32,36 @@ record BeginsLowest (edges : List Seg) (e : Seg) : Type 0 where
   lowest : (f : Seg) → Contains edges f → sweep (at_coord e.lo) ≤ℤ sweep (at_coord f.lo)
 
 lowest : (e : Seg) (es : List Seg) → (d : Seg) × BeginsLowest (e ∷ es) d
-lowest e [] = (e, record {
-  among = contains_here e [];
-  lowest = λ f i. elim (first_or_later e [] f i) [ inl same ↦ (let s = ap (λ (x : Seg). sweep (at_coord x.lo)) same in omega (arith, lin)) | inr none ↦ absurd (omega (arith, none.1)) ];
-})
+lowest e [] = (
+  e,
+  record {
+    among = contains_here e [];
+    lowest = λ f i. elim (first_or_later e [] f i) [ inl same ↦ (let s = ap (λ (x : Seg). sweep (at_coord x.lo)) same in omega (arith, lin)) | inr none ↦ absurd (omega (arith, none.1)) ];
+  },
+)
 lowest e (f ∷ fs) =
     let (d, rest) = lowest f fs in
     elim (le_or_gt (sweep (at_coord e.lo)) (sweep (at_coord d.lo))) [
-      | inl low ↦ (e, record {
-        among = contains_here e (f ∷ fs);
-        lowest = λ g i. elim (first_or_later e (f ∷ fs) g i) [
-          | inl same ↦ (let s = ap (λ (x : Seg). sweep (at_coord x.lo)) same in omega (arith, lin))
-          | inr later ↦ (let h = rest.lowest g later in omega (arith, lin))
-        ];
-      })
-      | inr high ↦ (d, record {
-        among = contains_there e d (f ∷ fs) rest.among;
-        lowest = λ g i. elim (first_or_later e (f ∷ fs) g i) [
-          | inl same ↦ (let s = ap (λ (x : Seg). sweep (at_coord x.lo)) same in omega (arith, lin))
-          | inr later ↦ rest.lowest g later
-        ];
-      })
+      | inl low ↦ (
+        e,
+        record {
+          among = contains_here e (f ∷ fs);
+          lowest = λ g i. elim (first_or_later e (f ∷ fs) g i) [
+            | inl same ↦ (let s = ap (λ (x : Seg). sweep (at_coord x.lo)) same in omega (arith, lin))
+            | inr later ↦ (let h = rest.lowest g later in omega (arith, lin))
+          ];
+        },
+      )
+      | inr high ↦ (
+        d,
+        record {
+          among = contains_there e d (f ∷ fs) rest.among;
+          lowest = λ g i. elim (first_or_later e (f ∷ fs) g i) [
+            | inl same ↦ (let s = ap (λ (x : Seg). sweep (at_coord x.lo)) same in omega (arith, lin))
+            | inr later ↦ rest.lowest g later
+          ];
+        },
+      )
     ]
 
 module _ (edges : List Seg) (planar : IsPlanar edges) where
@@ -97,14 +106,16 @@ module _ (edges : List Seg) (planar : IsPlanar edges) where
           | inl here ↦ elim (true_or_false (is_before_by_angle k b)) [
             | inr not_before ↦ (b, keep b k ks rest (λ at_k. not_before))
             | inl before ↦ (
-                let at_k : Leaves edges v k = record { among = among k (contains_here k ks); from = here } in
-                (k, keep k k ks (record {
-                  leaves = at_k;
-                  first = λ m i at_m. elim (true_or_false (is_before_by_angle m k)) [
-                    | inr not_before ↦ not_before
-                    | inl earlier ↦ absurd (not_both (before-trans edges planar v m k b at_m at_k rest.leaves earlier before) (rest.first m i at_m))
-                  ];
-                }) (λ again. before-irrefl edges planar v k at_k))
+                let at_k : Leaves edges v k = record { among = among k (contains_here k ks); from = here } in (
+                  k,
+                  keep k k ks (record {
+                    leaves = at_k;
+                    first = λ m i at_m. elim (true_or_false (is_before_by_angle m k)) [
+                      | inr not_before ↦ not_before
+                      | inl earlier ↦ absurd (not_both (before-trans edges planar v m k b at_m at_k rest.leaves earlier before) (rest.first m i at_m))
+                    ];
+                  }) (λ again. before-irrefl edges planar v k at_k),
+                )
                 )
           ]
         ]

@@ -1,6 +1,6 @@
 -- Of two edges below a point one is nearer, and nearer than what is farther.
 use mathlib.Core.List.{List, [], ◌∷◌}
-use Rattle.std.proofs.Common.{◌≡◌, refl, sym, ◌∙◌, ap, subst, ℕ, zero, suc, ◌<◌, length, get_or, Contains, ℤ, pos, ◌-ℤ◌, ◌*ℤ◌, ◌<ℤ◌, ◌⊎◌, inl, inr, IsTrue, arith}
+use Rattle.std.proofs.Common.{◌≡◌, sym, subst, ℕ, ◌<◌, length, get_or, Contains, pos, ◌-ℤ◌, ◌*ℤ◌, ◌<ℤ◌, ◌⊎◌, inl, inr, IsTrue, arith}
 use Rattle.std.proofs.lemmas.List.Elements.{All-contains, Contains-get_or}
 use Rattle.cov_types.specs.declared.seg.Seg.{Seg}
 use Rattle.cov_types.specs.Range.{IsSegInRange}
@@ -13,7 +13,7 @@ use Rattle.plane.proofs.Points.{d_positive}
 use Rattle.plane.proofs.Sweeps.{rises-in_range}
 use Rattle.crossings.proofs.Lists.{contains_here, contains_there}
 use Rattle.sectors.specs.Sector.{IsPlanar}
-use Rattle.regions.specs.Below.{is_under, IsBelow, sweep_rise, IsNearer, IsNearestBelow, HasNoneBelow}
+use Rattle.regions.specs.Below.{is_under, IsBelow, sweep_rise, IsNearer, IsNearestBelow}
 use Rattle.regions.proofs.Down.{tie}
 use Rattle.regions.proofs.Edge.{under-is}
 use Rattle.regions.proofs.Nearest.{nearest_or_none}

@@ -1,13 +1,13 @@
 -- The least places of the components are the numbers of the regions.
 use mathlib.Core.List.{List, [], ◌∷◌}
-use Rattle.std.proofs.Common.{◌≡◌, refl, sym, ◌∙◌, ap, subst, ℕ, ◌+◌, ◌*◌, ◌<◌, ◌≤◌, ◌↔◌, length, slice_index, Contains, inl, inr, le_antisymm, arith}
+use Rattle.std.proofs.Common.{◌≡◌, refl, sym, ◌∙◌, subst, ℕ, ◌+◌, ◌*◌, ◌<◌, ◌≤◌, ◌↔◌, length, slice_index, Contains, inl, inr, le_antisymm, arith}
 use Rattle.cov_types.specs.declared.seg.Seg.{Seg}
 use Rattle.connected.specs.declared.link.Link.{Link}
 use Rattle.connected.specs.Connected.{IsTied, AreComponents}
 use Rattle.plane.specs.Point.{Point}
 use Rattle.plane.specs.Joined.{Joined}
 use Rattle.plane.specs.Region.{far_point, IsSide, IsOuter, IsJoinedSide, IsRegionOf, AreRegions}
-use Rattle.crossings.proofs.Located.{region-joined, same_region}
+use Rattle.crossings.proofs.Located.{region-joined}
 use Rattle.crossings.proofs.Ways.{joined-trans, joined-sym}
 use Rattle.sectors.specs.Sector.{IsPlanar, AreDistinct}
 use Rattle.regions.specs.Linked.{IsLinked, IsLinkOut}
@@ -67,15 +67,17 @@ module _ (edges : List Seg) (planar : IsPlanar edges) (distinct : AreDistinct ed
       let below = side_within edges n p at in
       let low = no_later n below in
       let (q, at_q) = some_side edges (number n) (omega (arith, below, low)) in
-      let own = components.own n (omega (arith, below)) in
-      (low, record {
-        at = q;
-        side = at_q;
-        joined = elim (way_joined edges planar links all n own.0 (number n) own.1 p q (inl at) (inl at_q)) [
-          | inl same ↦ subst (λ r. Joined edges p r) same (side-joined_itself edges planar n p at)
-          | inr joined ↦ joined
-        ];
-      })
+      let own = components.own n (omega (arith, below)) in (
+        low,
+        record {
+          at = q;
+          side = at_q;
+          joined = elim (way_joined edges planar links all n own.0 (number n) own.1 p q (inl at) (inl at_q)) [
+            | inl same ↦ subst (λ r. Joined edges p r) same (side-joined_itself edges planar n p at)
+            | inr joined ↦ joined
+          ];
+        },
+      )
 
   regions : AreRegions edges number
   regions = walk_regions edges planar distinct number keeps joined_side

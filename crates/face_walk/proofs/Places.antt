@@ -1,6 +1,6 @@
 -- Places, and what links between them join.
 use mathlib.Core.List.{List, [], ◌∷◌}
-use Rattle.std.proofs.Common.{◌≡◌, refl, sym, ◌∙◌, ap, subst, ℕ, zero, suc, ◌+◌, ◌*◌, ◌<◌, length, true, Contains, Some, slice_get, ◌⊎◌, inl, inr, arith}
+use Rattle.std.proofs.Common.{◌≡◌, refl, sym, ◌∙◌, subst, ℕ, zero, suc, ◌+◌, ◌*◌, ◌<◌, length, true, Contains, Some, slice_get, ◌⊎◌, inl, inr, arith}
 use Rattle.std.proofs.lemmas.Bool.{cases_lt}
 use Rattle.std.proofs.lemmas.Option.{slice_get_within}
 use Rattle.cov_types.specs.declared.seg.Seg.{Seg}
@@ -8,16 +8,15 @@ use Rattle.connected.specs.declared.link.Link.{Link}
 use Rattle.connected.specs.Connected.{IsTied, LeadsAlong}
 use Rattle.plane.specs.Point.{Point}
 use Rattle.plane.specs.Joined.{IsOff, Joined}
-use Rattle.plane.specs.Region.{far_point, IsSide, IsOuter}
+use Rattle.plane.specs.Region.{far_point, IsSide}
 use Rattle.crossings.proofs.Ways.{joined-trans, joined-sym, joined-refl, joined_off}
-use Rattle.sectors.specs.Sector.{HalfEdge, half_edges, left, IsHalfEdge, IsNextNumber, IsPlanar}
+use Rattle.sectors.specs.Sector.{HalfEdge, half_edges, left, IsHalfEdge, IsPlanar}
 use Rattle.sectors.proofs.Exists.{some_next}
 use Rattle.sectors.proofs.Numbers.{half_edge_side}
 use Rattle.sectors.proofs.Sectors.{next_joined}
-use Rattle.regions.specs.Linked.{IsLinkDown, IsLinkOut}
 use Rattle.regions.proofs.Links.{linked_joined, out_side}
 use Rattle.regions.proofs.Numbered.{side_half_edge}
-use Rattle.face_walk.specs.Links.{IsLinkBelow, IsLink}
+use Rattle.face_walk.specs.Links.{IsLink}
 
 -- ---- the numbers of sides
 

@@ -1,8 +1,9 @@
 -- What the table of numbers says of a side, of the outer region and of how many regions there are.
-use mathlib.Core.List.{List, [], ◌∷◌}
-use Rattle.std.proofs.Common.{◌≡◌, refl, sym, ◌∙◌, ap, subst, ℕ, zero, suc, ◌+◌, ◌-◌, ◌*◌, ◌<◌, ◌≤◌, ◌==◌, ◌↔◌, Bool, true, false, cond, length, get_or, slice_index, count_by, Contains, All, arith}
+use mathlib.Core.List.{List, [], ◌∷◌, ◌++◌}
+use Rattle.std.proofs.Common.{◌≡◌, refl, sym, ◌∙◌, ap, subst, ℕ, zero, suc, ◌+◌, ◌-◌, ◌*◌, ◌/◌, ◌<◌, ◌==◌, ◌↔◌, Bool, true, false, cond, length, take, Some, slice_get, get_or, slice_index, count_by, Contains, All, arith}
 use Rattle.std.proofs.lemmas.Bool.Decides.{nat_tests}
-use Rattle.std.proofs.lemmas.List.{get_or_read}
+use Rattle.std.proofs.lemmas.List.{get_or_read, take_more}
+use Rattle.std.proofs.lemmas.Option.{get_or_from_slice_get}
 use Rattle.std.proofs.lemmas.List.Elements.{Contains-get_or}
 use Rattle.std.proofs.lemmas.List.Sums.{sum_by_push}
 use Rattle.cov_types.specs.declared.seg.Seg.{Seg}
@@ -20,14 +21,19 @@ use Rattle.face_walk.proofs.Places.{some_side, link_within}
 pub numbered-shown : (edges shown : List Seg) (table : List ℕ) → edges ≡ shown → AreNumbered edges table → AreNumbered shown table
 numbered-shown edges shown table same h = subst (λ es. AreNumbered es table) same h
 
+-- ---- the edges of an arena, so far
+
+pub edge_more : (edges read : List Seg) (k : ℕ) (e : Seg) → k < length edges → read ≡ take k edges → slice_get edges ((2 * k) / 2) ≡ Some e → read ++ e ∷ [] ≡ take (k + 1) edges
+edge_more edges read k e below so_far at =
+    let half : (2 * k) / 2 ≡ k = omega arith in
+    let here : slice_get edges k ≡ Some e = ap (λ n. slice_get edges n) (sym half) ∙ at in
+    ap (λ es. es ++ e ∷ []) so_far ∙ ap (λ x. take k edges ++ x ∷ []) (sym (get_or_from_slice_get edges k e e here)) ∙ sym (take_more edges k e below)
+
 -- ---- a side
 
 module _ (edges : List Seg) (table : List ℕ) (numbered : AreNumbered edges table) (side r : ℕ) (below : side < 2 * length edges) (at : r ≡ get_or table side r) where
   is_number : r ≡ slice_index table side
   is_number = (let count = numbered.count in get_or_read table side r (omega (arith, below, count)) at 0)
-
-  pub side_low : r ≤ side
-  side_low = subst (λ n. n ≤ side) (sym is_number) (numbered.no_later side below)
 
   pub side_region : (p : Point) → IsSide edges side p → IsRegionOf edges p r
   side_region p at_p = subst (λ n. IsRegionOf edges p n) (sym is_number) (numbered.regions side p at_p)

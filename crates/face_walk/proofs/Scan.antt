@@ -1,6 +1,6 @@
 -- The nearest of the first edges, and of one more.
 use mathlib.Core.List.{List}
-use Rattle.std.proofs.Common.{◌≡◌, refl, sym, ◌∙◌, ap, subst, ℕ, ◌+◌, ◌<◌, ◌≤◌, length, true, false, true≢false, Contains, Option, Some, None, slice_get, IfSome, IfNone, IsTrue, ◌⊎◌, inl, inr, arith}
+use Rattle.std.proofs.Common.{◌≡◌, sym, ◌∙◌, ap, subst, ℕ, ◌+◌, ◌<◌, ◌≤◌, length, false, true≢false, Contains, Option, Some, None, slice_get, IfSome, IfNone, IsTrue, ◌⊎◌, inl, inr, arith}
 use Rattle.std.proofs.lemmas.Bool.{cases_lt}
 use Rattle.std.proofs.lemmas.Option.{same_Some, slice_get_within, slice_get-get_or, get_or_from_slice_get}
 use Rattle.cov_types.specs.declared.seg.Seg.{Seg}

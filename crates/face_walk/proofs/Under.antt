@@ -1,5 +1,5 @@
 -- The test of an edge that is under a vertex, by the order of coordinates.
-use Rattle.std.proofs.Common.{◌≡◌, refl, sym, ◌∙◌, ap, Bool, true, false, not, ◌&&◌, IsTrue, int_lt, ℤ, pos, ◌*ℤ◌, ◌<ℤ◌, arith}
+use Rattle.std.proofs.Common.{◌≡◌, refl, sym, ◌∙◌, ap, Bool, true, false, not, ◌&&◌, IsTrue, int_lt, ℤ, pos, arith}
 use Rattle.std.proofs.lemmas.Int.{ints}
 use Rattle.std.specs.Ordering.{partial_le, partial_lt}
 use Rattle.exact.proofs.Ring.{lin, mul_one}

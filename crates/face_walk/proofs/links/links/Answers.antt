@@ -1,6 +1,5 @@
-use Rattle.std.proofs.Common.{◌≡◌, ◌↔◌, sym, ◌∙◌, ap, subst, ◌+◌, ◌*◌, ◌≤◌, List, [], ◌∷◌, ◌++◌, length, Some, None, arith}
+use Rattle.std.proofs.Common.{◌≡◌, sym, ◌∙◌, ap, subst, ◌+◌, List, [], ◌∷◌, ◌++◌, arith}
 use Rattle.connected.specs.declared.link.Link.{Link}
-use Rattle.face_walk.specs.Links.{IsLinkAfter}
 use Rattle.face_walk.proofs.LinksSoFar.{AreLinksOfFirst, step_more, both_more, links_of_all}
 use Rattle.face_walk.proofs.links.links.Goals as goal
 use Rattle.face_walk.proofs.links.links.Goals.{in-Some+in_ok-push-2, in_default}

@@ -1,4 +1,4 @@
-use Rattle.std.proofs.Common.{sym, subst}
+use Rattle.std.proofs.Common.{subst}
 use Rattle.cov_types.specs.declared.seg.Seg.{Seg}
 use mathlib.Core.List.{List}
 use Rattle.plane.specs.Point.{at_coord}

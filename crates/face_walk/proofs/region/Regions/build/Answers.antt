@@ -1,4 +1,4 @@
-use Rattle.std.proofs.Common.{◌≡◌, sym, ◌∙◌, ap, subst, ℕ, ◌+◌, ◌*◌, ◌<◌, ◌↔◌, length, List, All, Contains, arith}
+use Rattle.std.proofs.Common.{sym, subst, ℕ, ◌+◌, ◌<◌, ◌↔◌, List, All, Contains}
 use Rattle.cov_types.specs.declared.seg.Seg.{Seg}
 use Rattle.connected.specs.declared.link.Link.{Link}
 use Rattle.connected.specs.Connected.{AreComponents}

@@ -1,4 +1,4 @@
-use Rattle.std.proofs.Common.{◌≡◌, ◌==◌, sym, ◌∙◌, ap, subst, ℕ, ◌+◌, ◌*◌, length, slice_index, count_by, Bool, arith}
+use Rattle.std.proofs.Common.{◌≡◌, ◌==◌, sym, ◌∙◌, ap, ℕ, ◌+◌, ◌*◌, length, slice_index, count_by, Bool, arith}
 use Rattle.std.proofs.lemmas.List.{get_or_read}
 use Rattle.plane.specs.Label.{numbers_below}
 use Rattle.face_walk.proofs.Reading.{numbered-shown, same_passes, other_fails, count_more_yes, count_more_no, count_numbered}

@@ -1,0 +1,242 @@
+use crate::Regions;
+use cov_types::{Coord, NoMemory, Seg};
+use half_edge::{Arena, are_arranged};
+use std::alloc::Global;
+use std::process::Abort;
+use std::test::Fail;
+
+fn edge(rt: &impl Abort, a: i32, b: i32, c: i32, d: i32) -> Seg {
+    Seg::between(Coord { x: a, y: b }, Coord { x: c, y: d }).expect(rt, "two points")
+}
+
+/// The edges between these points, as given.
+fn edges_between(
+    alloc: Global,
+    rt: &impl Abort,
+    numbers: &[(i32, i32, i32, i32)],
+) -> Result<Vec<Seg>, NoMemory> {
+    let mut edges = Vec::new(alloc);
+    for (a, b, c, d) in numbers {
+        edges.push(edge(rt, *a, *b, *c, *d))?;
+    }
+    Ok(edges)
+}
+
+/// The regions of the edges, whose sides have these regions.
+fn regions_with(
+    alloc: Global,
+    rt: &impl Abort,
+    numbers: &[(i32, i32, i32, i32)],
+    want: &[usize],
+) -> Result<Regions, Fail> {
+    let edges = edges_between(alloc, rt, numbers)?;
+    assert!(rt; are_arranged(&edges));
+    let arena = Arena::build(alloc, edges)?;
+    let regions = Regions::build(alloc, &arena)?;
+    assert_eq!(rt; arena.len(), want.len());
+    for side in 0..arena.len() {
+        assert_eq!(rt; regions.region_of(side), want[side], "side {side}");
+    }
+    Ok(regions)
+}
+
+/// Two members round a gap, and a third one in the gap.
+const GAP: [(i32, i32, i32, i32); 18] = [
+    (0, 0, 0, 30),
+    (0, 0, 15, 0),
+    (0, 30, 15, 30),
+    (10, 10, 10, 20),
+    (10, 10, 15, 10),
+    (10, 20, 15, 20),
+    (11, 11, 11, 19),
+    (11, 11, 19, 11),
+    (11, 19, 19, 19),
+    (15, 0, 15, 10),
+    (15, 0, 30, 0),
+    (15, 10, 20, 10),
+    (15, 20, 15, 30),
+    (15, 20, 20, 20),
+    (15, 30, 30, 30),
+    (19, 11, 19, 19),
+    (20, 10, 20, 20),
+    (30, 0, 30, 30),
+];
+
+#[test]
+fn the_outside_of_an_island_is_the_gap_round_it(rt: HostRuntime) -> Result<(), Fail> {
+    let want = [
+        0, 1, 1, 0, 0, 1, 1, 7, 7, 1, 1, 7, 7, 13, 13, 7, 7, 13, 1, 19, 19, 0, 7, 19, 1, 19, 19, 7,
+        0, 19, 13, 7, 7, 19, 19, 0,
+    ];
+    let regions = regions_with(rt.alloc(), &rt, &GAP, &want)?;
+    assert_eq!(rt; regions.count(), 5);
+    assert_eq!(rt; regions.outer(), Some(0));
+    Ok(())
+}
+
+#[test]
+fn without_edges_there_is_no_region(rt: HostRuntime) -> Result<(), Fail> {
+    let regions = regions_with(rt.alloc(), &rt, &[], &[])?;
+    assert_eq!(rt; regions.count(), 0);
+    assert_eq!(rt; regions.outer(), None);
+    Ok(())
+}
+
+/// Five squares, each in the one before: a hole, an island in it, its hole, and an island in that.
+const NESTED: [(i32, i32, i32, i32); 20] = [
+    (0, 0, 0, 50),
+    (0, 0, 50, 0),
+    (0, 50, 50, 50),
+    (10, 10, 10, 40),
+    (10, 10, 40, 10),
+    (10, 40, 40, 40),
+    (14, 14, 14, 36),
+    (14, 14, 36, 14),
+    (14, 36, 36, 36),
+    (18, 18, 18, 32),
+    (18, 18, 32, 18),
+    (18, 32, 32, 32),
+    (22, 22, 22, 28),
+    (22, 22, 28, 22),
+    (22, 28, 28, 28),
+    (28, 22, 28, 28),
+    (32, 18, 32, 32),
+    (36, 14, 36, 36),
+    (40, 10, 40, 40),
+    (50, 0, 50, 50),
+];
+
+#[test]
+fn nested_squares_bound_a_region_each(rt: HostRuntime) -> Result<(), Fail> {
+    let want = [
+        0, 1, 1, 0, 0, 1, 1, 7, 7, 1, 1, 7, 7, 13, 13, 7, 7, 13, 13, 19, 19, 13, 13, 19, 19, 25,
+        25, 19, 19, 25, 25, 19, 19, 13, 13, 7, 7, 1, 1, 0,
+    ];
+    let regions = regions_with(rt.alloc(), &rt, &NESTED, &want)?;
+    assert_eq!(rt; regions.count(), 6);
+    assert_eq!(rt; regions.outer(), Some(0));
+    Ok(())
+}
+
+/// A square with two smaller ones in it, which have the vertex (10, 10) in common.
+const TOUCHING: [(i32, i32, i32, i32); 12] = [
+    (0, 0, 0, 20),
+    (0, 0, 20, 0),
+    (0, 20, 20, 20),
+    (5, 5, 5, 10),
+    (5, 5, 10, 5),
+    (5, 10, 10, 10),
+    (10, 5, 10, 10),
+    (10, 10, 10, 15),
+    (10, 10, 15, 10),
+    (10, 15, 15, 15),
+    (15, 10, 15, 15),
+    (20, 0, 20, 20),
+];
+
+#[test]
+fn islands_that_touch_in_a_vertex_stay_apart(rt: HostRuntime) -> Result<(), Fail> {
+    let want = [
+        0, 1, 1, 0, 0, 1, 1, 7, 7, 1, 1, 7, 7, 1, 1, 15, 15, 1, 1, 15, 15, 1, 1, 0,
+    ];
+    let regions = regions_with(rt.alloc(), &rt, &TOUCHING, &want)?;
+    assert_eq!(rt; regions.count(), 4);
+    assert_eq!(rt; regions.outer(), Some(0));
+    Ok(())
+}
+
+/// A comb whose three teeth hang from its bar, over a line below it.
+const COMB: [(i32, i32, i32, i32); 13] = [
+    (-10, -10, 60, -10),
+    (0, 0, 0, 20),
+    (0, 0, 10, 0),
+    (0, 20, 50, 20),
+    (10, 0, 10, 10),
+    (10, 10, 20, 10),
+    (20, 0, 20, 10),
+    (20, 0, 30, 0),
+    (30, 0, 30, 10),
+    (30, 10, 40, 10),
+    (40, 0, 40, 10),
+    (40, 0, 50, 0),
+    (50, 0, 50, 20),
+];
+
+#[test]
+fn between_the_teeth_of_a_comb_is_the_outer_region(rt: HostRuntime) -> Result<(), Fail> {
+    let want = [
+        0, 0, 0, 3, 3, 0, 0, 3, 3, 0, 3, 0, 0, 3, 3, 0, 3, 0, 3, 0, 0, 3, 3, 0, 3, 0,
+    ];
+    let regions = regions_with(rt.alloc(), &rt, &COMB, &want)?;
+    assert_eq!(rt; regions.count(), 2);
+    assert_eq!(rt; regions.outer(), Some(0));
+    Ok(())
+}
+
+#[test]
+fn separate_parts_have_one_outer_region(rt: HostRuntime) -> Result<(), Fail> {
+    let squares = [
+        (0, 0, 0, 10),
+        (0, 0, 10, 0),
+        (0, 10, 10, 10),
+        (10, 0, 10, 10),
+        (20, 0, 20, 10),
+        (20, 0, 30, 0),
+        (20, 10, 30, 10),
+        (30, 0, 30, 10),
+    ];
+    let want = [0, 1, 1, 0, 0, 1, 1, 0, 0, 9, 9, 0, 0, 9, 9, 0];
+    let regions = regions_with(rt.alloc(), &rt, &squares, &want)?;
+    assert_eq!(rt; regions.count(), 3);
+    assert_eq!(rt; regions.outer(), Some(0));
+    Ok(())
+}
+
+#[test]
+fn both_sides_of_a_dead_end_have_one_region(rt: HostRuntime) -> Result<(), Fail> {
+    let edges = [
+        (0, 0, 0, 10),
+        (0, 0, 5, 5),
+        (0, 0, 10, 0),
+        (0, 10, 10, 10),
+        (6, 7, 8, 7),
+        (10, 0, 10, 10),
+    ];
+    let want = [0, 1, 1, 1, 1, 0, 0, 1, 1, 1, 1, 0];
+    let regions = regions_with(rt.alloc(), &rt, &edges, &want)?;
+    assert_eq!(rt; regions.count(), 2);
+    assert_eq!(rt; regions.outer(), Some(0));
+    Ok(())
+}
+
+/// Adds the edges of twenty squares of size 2 in a column, four units from one to the next, ascending.
+fn add_column(rt: &impl Abort, edges: &mut Vec<Seg>, column: u8) -> Result<(), NoMemory> {
+    let x = 4 * i32::from(column);
+    for row in 0..20u8 {
+        let y = 4 * i32::from(row);
+        edges.push(edge(rt, x, y, x, y + 2))?;
+        edges.push(edge(rt, x, y, x + 2, y))?;
+        edges.push(edge(rt, x, y + 2, x + 2, y + 2))?;
+    }
+    for row in 0..20u8 {
+        let y = 4 * i32::from(row);
+        edges.push(edge(rt, x + 2, y, x + 2, y + 2))?;
+    }
+    Ok(())
+}
+
+#[test]
+fn five_hundred_separate_squares_have_a_region_each(rt: HostRuntime) -> Result<(), Fail> {
+    let alloc = rt.alloc();
+    let mut edges = Vec::new(alloc);
+    for column in 0..25u8 {
+        add_column(&rt, &mut edges, column)?;
+    }
+    assert_eq!(rt; edges.len(), 2000);
+    assert!(rt; are_arranged(&edges));
+    let arena = Arena::build(alloc, edges)?;
+    let regions = Regions::build(alloc, &arena)?;
+    assert_eq!(rt; regions.count(), 501);
+    assert_eq!(rt; regions.outer(), Some(0));
+    Ok(())
+}

@@ -7,21 +7,22 @@ use Rattle.std.specs.Cmp.{both_ways}
 use Rattle.std.proofs.lemmas.List.Elements.{All-contains, Contains-get_or}
 use Rattle.std.proofs.lemmas.List.Sorted.{sum_by-IsPermutation, IsPermutation-sym, Contains-permutation}
 use Rattle.std.proofs.lemmas.List.Sums.{sum_by-cons}
+use Rattle.std.proofs.lemmas.Option.{slice_get_within}
 use Rattle.cov_types.specs.Range.{IsSegInRange}
 use Rattle.cov_types.specs.declared.edge_use.EdgeUse.{EdgeUse}
 use Rattle.cov_types.specs.declared.seg.Seg.{Seg}
 use Rattle.cov_types.proofs.Equal.{same_uses}
 use Rattle.plane.specs.Noded.{IsNodedFully}
 use Rattle.crossings.specs.Across.{member_times}
+use Rattle.crossings.proofs.Lists.{contains_here, contains_there, contains-map}
 use Rattle.overlay.specs.declared.odd_use.OddUse.{OddUse}
 use Rattle.overlay.specs.Noding.{segments, IsAscending, IsOdd, AreEdges}
 use Rattle.overlay.proofs.OddUses.{is_same_use, Decides-same_use, one_place}
 use Rattle.snap_noder.specs.Order.{AreOddAscending}
 use Rattle.snap_noder.specs.Places.{HavePlaces, odd_times, IsPlaced, ArePlacesOf}
 use Rattle.snap_noder.proofs.OddOrder.{is_same_odd, Decides-same_odds, same_odds}
-use Rattle.snap_noder.proofs.Times.{contains_front, contains_behind, contains_cases, odd_has}
+use Rattle.snap_noder.proofs.Times.{contains_cases, odd_has}
 use Rattle.snap_noder.proofs.Zip.{zip_more, zip_all}
-use Rattle.snap_noder.proofs.Places.{slice_get_within}
 
 -- ---- what a list maps to
 
@@ -29,16 +30,8 @@ pub contains_mapped : {X Y : Type 0} (f : X → Y) (xs : List X) (y : Y) → Con
 contains_mapped f [] y (k, within, is) = absurd (omega arith)
 contains_mapped f (x ∷ xs) y h =
     elim (contains_cases (f x) y (map f xs) h) [
-      | inl here ↦ (x, (contains_front x xs, here))
-      | inr later ↦ (let rest = contains_mapped f xs y later in (rest.0, (contains_behind x rest.0 xs rest.1.0, rest.1.1)))
-    ]
-
-pub mapped_contains : {X Y : Type 0} (f : X → Y) (xs : List X) (x : X) → Contains xs x → Contains (map f xs) (f x)
-mapped_contains f [] x (k, within, is) = absurd (omega arith)
-mapped_contains f (y ∷ xs) x h =
-    elim (contains_cases y x xs h) [
-      | inl here ↦ subst (λ u. Contains (f y ∷ map f xs) (f u)) here (contains_front (f y) (map f xs))
-      | inr later ↦ contains_behind (f y) (f x) (map f xs) (mapped_contains f xs x later)
+      | inl here ↦ (x, (contains_here x xs, here))
+      | inr later ↦ (let rest = contains_mapped f xs y later in (rest.0, (contains_there x rest.0 xs rest.1.0, rest.1.1)))
     ]
 
 some_is : {X : Type 0} (x y : X) → Some x ≡ Some y → x ≡ y
@@ -136,7 +129,7 @@ listed_at edges uses i u all within is = subst (λ (v : EdgeUse). Contains edges
 pub all_listed : (edges shown : List Seg) (uses : List EdgeUse) → shown ≡ edges → ((e : Seg) → Contains edges e ↔ Contains (segments uses) e) → All (λ u. Contains shown u.seg) uses
 all_listed edges shown uses same listed k d within =
     subst (λ (es : List Seg). Contains es (get_or uses k d).seg) (sym same)
-    ((listed (get_or uses k d).seg).1 (mapped_contains (λ (v : EdgeUse). v.seg) uses (get_or uses k d) (Contains-get_or uses k d within)))
+    ((listed (get_or uses k d).seg).1 (contains-map (λ (v : EdgeUse). v.seg) uses (get_or uses k d) (Contains-get_or uses k d within)))
 
 -- what the code ends with, where it read the edges and the pairs through slices
 module _ (edges shown : List Seg) (uses : List EdgeUse) (pairs read odd : List OddUse) (up : IsAscending edges) (same : shown ≡ edges) (same_pairs : read ≡ pairs) (places : ArePlacesOf uses shown pairs)

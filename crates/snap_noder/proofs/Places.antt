@@ -1,27 +1,19 @@
 -- Places in ascending edges.
 use mathlib.Core.List.{[], ◌∷◌}
-use Rattle.std.proofs.Common.{◌≡◌, ◌⊎◌, inl, inr, refl, sym, ◌∙◌, ap, subst, true≢false, ℕ, zero, suc, ◌+◌, ◌<◌, false, List, get_or, length, Some, is_some, slice_get, Result, Ok, Err, Ordering, Less, Equal, Greater, is_lt, is_gt, IsOk, IfOk, IsSorted, refl, arith}
+use Rattle.std.proofs.Common.{◌≡◌, ◌⊎◌, inl, inr, refl, sym, ◌∙◌, ap, subst, true≢false, ℕ, zero, suc, ◌+◌, ◌<◌, false, List, get_or, length, Some, slice_get, Result, Ok, Err, Ordering, Less, Equal, Greater, is_lt, is_gt, IsOk, IfOk, IsSorted, refl, arith}
 use Rattle.std.specs.Prelude.{Contains}
 use Rattle.std.specs.List.{HoldsAt}
 use Rattle.std.specs.List.Sorted.{IsBinarySearchResult, IsSearchInRange}
 use Rattle.std.proofs.lemmas.Bool.{cases_lt}
 use Rattle.std.proofs.lemmas.List.Sorted.{searchable_from_sorted}
-use Rattle.std.proofs.lemmas.Option.{get_or_from_slice_get, slice_get-get_or}
+use Rattle.std.proofs.lemmas.Option.{get_or_from_slice_get, slice_get-get_or, slice_get_within}
 use Rattle.cov_types.specs.Seg.{seg_cmp}
 use Rattle.cov_types.specs.declared.seg.Seg.{Seg}
 use Rattle.cov_types.proofs.SegOrder.{seg_cmp_total, is_lt-seg_cmp, is_gt-seg_cmp, is_seg_before-asymm, is_seg_before-irrefl, same_segs_from_neither}
 use Rattle.overlay.specs.Noding.{IsAscending}
 
-pub slice_get_within : {X : Type 0} (xs : List X) (k : ℕ) (x : X) → slice_get xs k ≡ Some x → k < length xs
-slice_get_within [] k x at = absurd (true≢false (ap is_some (sym at)))
-slice_get_within (y ∷ xs) zero x at = omega arith
-slice_get_within (y ∷ xs) (suc k) x at = let later = slice_get_within xs k x at in omega arith
-
 pub contained_at : {X : Type 0} (xs : List X) (k : ℕ) (x : X) → slice_get xs k ≡ Some x → Contains xs x
 contained_at xs k x at = (k, slice_get_within xs k x at, get_or_from_slice_get xs k x x at)
-
-pub at_contained : {X : Type 0} (xs : List X) (x : X) → Contains xs x → (k : ℕ) × (slice_get xs k ≡ Some x)
-at_contained xs x (k, within, is) = (k, slice_get-get_or xs k x within ∙ ap Some is)
 
 -- below the length there is an element
 pub get_or_at : {X : Type 0} (xs : List X) (k : ℕ) → k < length xs → (x : X) × (slice_get xs k ≡ Some x)

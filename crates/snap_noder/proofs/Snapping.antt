@@ -22,10 +22,10 @@ use Rattle.rounding.proofs.Noded.{list_fully_noded}
 use Rattle.rounding.proofs.Shadow.{half_unit}
 use Rattle.overlay.specs.declared.odd_use.OddUse.{OddUse}
 use Rattle.overlay.specs.Noding.{segments, AreChains, snapped_uses, AreSnapped, AreEdges, IsNoded, odd_uses}
+use Rattle.crossings.proofs.Lists.{contains_here, contains_there, contains-map}
 use Rattle.snap_noder.specs.Snapped.{chain_uses, IsNearSegments}
 use Rattle.snap_noder.proofs.LiveUses.{even_odd}
-use Rattle.snap_noder.proofs.ParityLemmas.{contains_mapped, mapped_contains}
-use Rattle.snap_noder.proofs.Times.{contains_front, contains_behind}
+use Rattle.snap_noder.proofs.ParityLemmas.{contains_mapped}
 use Rattle.snap_noder.proofs.Zip.{zip_more, zipped_push}
 
 -- ---- the loop over the uses
@@ -143,9 +143,9 @@ snapped_along segs [] (c ∷ chains) each v h = absurd each
 snapped_along segs (u ∷ uses) [] each v h = absurd each
 snapped_along segs (u ∷ uses) (c ∷ chains) each v h =
     elim (Contains-append_cases (chain_uses (u, c)) (snapped_uses uses chains) v h) [
-      | inl here ↦ of_chain segs (u ∷ uses) u v c (contains_front u uses) each.0 here
+      | inl here ↦ of_chain segs (u ∷ uses) u v c (contains_here u uses) each.0 here
       | inr later ↦ (let rest = snapped_along segs uses chains each.1 v later in
-          record { of = rest.of; chain = rest.chain; used = contains_behind u rest.of uses rest.used; is_chain = rest.is_chain; edge = rest.edge })
+          record { of = rest.of; chain = rest.chain; used = contains_there u rest.of uses rest.used; is_chain = rest.is_chain; edge = rest.edge })
     ]
 
 module _ (list : List EdgeUse) (in_range : All (λ u. IsSegInRange u.seg) list) (chains : List (List Coord)) (are : AreChains list chains) where
@@ -161,7 +161,7 @@ module _ (list : List EdgeUse) (in_range : All (λ u. IsSegInRange u.seg) list) 
   noded_edge e h =
       let v = edge_along e h in
       let along = v.1.0 in
-      (along.of.seg, (along.chain, (mapped_contains (λ (w : EdgeUse). w.seg) list along.of along.used, along.is_chain, subst (λ (f : Seg). Contains (chain_edges along.chain) f) v.1.1 along.edge)))
+      (along.of.seg, (along.chain, (contains-map (λ (w : EdgeUse). w.seg) list along.of along.used, along.is_chain, subst (λ (f : Seg). Contains (chain_edges along.chain) f) v.1.1 along.edge)))
 
   module _ (edges : List Seg) (listed : (e : Seg) → Contains edges e ↔ Contains (segments (snapped_uses list chains)) e) where
     noded_all : All (IsNodedEdge (segments list)) edges
@@ -216,16 +216,16 @@ module _ (segs : List Seg) (inside : Coord → Bool) (member : ℕ) where
   snapped_parity [] (c ∷ chains) all each = absurd each
   snapped_parity (u ∷ uses) [] all each = absurd each
   snapped_parity (u ∷ uses) (c ∷ chains) all each =
-      let here = all u (contains_front u uses) in
+      let here = all u (contains_here u uses) in
       ap (λ n. n % 2) (sum_by-append ends (chain_uses (u, c)) (snapped_uses uses chains))
-      ∙ parity_of_sum _ _ _ _ (chain_even u c here.0 here.1 each.0) (snapped_parity uses chains (λ v h. all v (contains_behind u v uses h)) each.1)
+      ∙ parity_of_sum _ _ _ _ (chain_even u c here.0 here.1 each.0) (snapped_parity uses chains (λ v h. all v (contains_there u v uses h)) each.1)
       ∙ ap (λ n. n % 2) (sym (sum_by-cons ends u uses))
 
 pub snapped_even : (list : List EdgeUse) (chains : List (List Coord)) → All (λ u. IsSegInRange u.seg) list → AreChains list chains → HasEvenEnds list → HasEvenEnds (snapped_uses list chains)
 unfolding ends
 snapped_even list chains in_range are even inside member =
     snapped_parity (segments list) inside member list chains
-    (λ u h. (All-contains (λ (v : EdgeUse). IsSegInRange v.seg) list u in_range h, mapped_contains (λ (v : EdgeUse). v.seg) list u h)) are
+    (λ u h. (All-contains (λ (v : EdgeUse). IsSegInRange v.seg) list u in_range h, contains-map (λ (v : EdgeUse). v.seg) list u h)) are
     ∙ even inside member
 
 -- ---- what the code ends with: the edges of the snapped uses, which it read through a slice

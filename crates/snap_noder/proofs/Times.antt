@@ -3,13 +3,8 @@ use mathlib.Core.List.{[], ◌∷◌}
 use Rattle.std.proofs.Common.{◌≡◌, ◌⊎◌, inl, inr, refl, sym, ◌∙◌, ap, subst, zero, suc, ◌+◌, ◌<◌, ◌%◌, Bool, true, false, cond, List, ◌++◌, Decides, arith}
 use Rattle.std.specs.Prelude.{Contains, count_by}
 use Rattle.std.proofs.lemmas.Bool.{false≢true}
+use Rattle.crossings.proofs.Lists.{contains_here, contains_there}
 use Rattle.std.proofs.lemmas.List.Sums.{sum_by-append, sum_by-cons}
-
-pub contains_front : {X : Type 0} (x : X) (xs : List X) → Contains (x ∷ xs) x
-contains_front x xs = (0, omega arith, refl)
-
-pub contains_behind : {X : Type 0} (y x : X) (xs : List X) → Contains xs x → Contains (y ∷ xs) x
-contains_behind y x xs (k, within, is) = (suc k, omega arith, is)
 
 pub contains_cases : {X : Type 0} (y x : X) (xs : List X) → Contains (y ∷ xs) x → (y ≡ x) ⊎ Contains xs x
 contains_cases y x xs (zero, within, is) = inl is
@@ -38,8 +33,8 @@ module _ {X : Type 0} (same : X → X → Bool) (decides : (a b : X) → Decides
   times_has e [] some = absurd (omega arith)
   times_has e (x ∷ xs) some =
       elim (same_or_not x e) [
-        | inl is ↦ subst (λ v. Contains (x ∷ xs) v) is (contains_front x xs)
-        | inr other ↦ contains_behind x e xs (times_has e xs (let first = sum_by-cons (λ v. cond (same v e) 1 0) x xs ∙ ap (λ t. cond t 1 0 + count_by (λ v. same v e) xs) (not_same x e other) in omega arith))
+        | inl is ↦ subst (λ v. Contains (x ∷ xs) v) is (contains_here x xs)
+        | inr other ↦ contains_there x e xs (times_has e xs (let first = sum_by-cons (λ v. cond (same v e) 1 0) x xs ∙ ap (λ t. cond t 1 0 + count_by (λ v. same v e) xs) (not_same x e other) in omega arith))
       ]
 
   pub odd_has : (e : X) (xs : List X) → count_by (λ v. same v e) xs % 2 ≡ 1 → Contains xs e

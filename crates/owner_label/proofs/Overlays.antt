@@ -30,7 +30,7 @@ use Rattle.owner_label.specs.Sided.{Sided, AreSided, region_at, uses_of, IsLabel
 use Rattle.owner_label.proofs.Ascending.{same_ascending, chosen_from, chosen_has}
 use Rattle.owner_label.proofs.Listing.{region_sides}
 use Rattle.owner_label.proofs.Regions.{label_joined, side_within, outer_label}
-use Rattle.owner_label.proofs.Toggles.{odd_uses-cons, member_below, members_chosen, members_skipped}
+use Rattle.owner_label.proofs.Toggles.{named, odd_uses-cons, member_below, members_chosen, members_skipped}
 
 -- ---- members that no odd pair names
 
@@ -53,18 +53,6 @@ unnamed edges (o ∷ odd) places count m p below past =
         ap (λ us. count_by (λ v. (v.member == m) && is_over v.seg p) us) (odd_uses-cons edges o odd f at)
         ∙ sum_by-cons (λ (v : EdgeUse). cond ((v.member == m) && is_over v.seg p) 1 0) u (odd_uses edges odd)
         ∙ (λ i. cond (and_left (o.member == m) (is_over f p) apart i) 1 0 + rest i)
-
--- a member that is odd for an edge is named
-named : (odd : List OddUse) (k m count : ℕ) → All (λ o. o.member < count) odd → has (members_of odd k) m ≡ true → m < count
-named [] k m count below h = absurd (both_ways false refl h)
-named (o ∷ odd) k m count below h =
-    elim (cases_Bool (o.edge == k)) [
-      | inl is ↦ elim (or_cases (o.member == m) (has (members_of odd k) m) (ap (λ xs. has xs m) (sym (members_chosen o odd k is)) ∙ h)) [
-        | inl first ↦ (let same = eqb-true o.member m first in let low = All-head (λ (q : OddUse). q.member < count) o odd below in omega arith)
-        | inr later ↦ named odd k m count (All-tail (λ (q : OddUse). q.member < count) o odd below) later
-      ]
-      | inr other ↦ named odd k m count (All-tail (λ (q : OddUse). q.member < count) o odd below) (ap (λ xs. has xs m) (sym (members_skipped o odd k other)) ∙ h)
-    ]
 
 -- what contracts see
 abbrev pub labelled_of : Sided → Labelled

@@ -25,7 +25,7 @@ const SQUARE: [(i32, i32); 4] = [(0, 0), (10, 0), (10, 10), (0, 10)];
 #[test]
 fn two_squares_share_a_region(rt: HostRuntime) -> Result<(), Fail> {
     let moved = [(5, 0), (15, 0), (15, 10), (5, 10)];
-    let o = overlaid(rt.alloc(), &rt, &[&[&SQUARE], &[&moved]])?;
+    let o = overlay_of(rt.alloc(), &rt, &[&[&SQUARE], &[&moved]])?;
     let rows = [
         (0, [].as_slice(), None),
         (1, [0].as_slice(), Some(100)),
@@ -33,9 +33,9 @@ fn two_squares_share_a_region(rt: HostRuntime) -> Result<(), Fail> {
         (13, [1].as_slice(), Some(100)),
     ];
     expect_regions(&rt, &o, &rows);
-    expect_areas(&rt, &o, &[200, 200]);
-    expect_border(&rt, &o, 7, &[2560, 2560]);
-    expect_border(&rt, &o, 1, &[0, 0]);
+    expect_areas(&rt, &o, &[(0, 200), (1, 200)]);
+    expect_border(&rt, &o, 7, &[(0, 2560), (1, 2560)]);
+    expect_border(&rt, &o, 1, &[(0, 0), (1, 0)]);
     Ok(())
 }
 
@@ -64,7 +64,7 @@ fn a_gap_borders_on_the_members_round_it_and_on_the_island_in_it(
         (15, 10),
     ];
     let island = [(11, 11), (19, 11), (19, 19), (11, 19)];
-    let o = overlaid(rt.alloc(), &rt, &[&[&west], &[&east], &[&island]])?;
+    let o = overlay_of(rt.alloc(), &rt, &[&[&west], &[&east], &[&island]])?;
     let rows = [
         (0, [].as_slice(), None),
         (1, [0].as_slice(), Some(800)),
@@ -73,13 +73,27 @@ fn a_gap_borders_on_the_members_round_it_and_on_the_island_in_it(
         (19, [1].as_slice(), Some(800)),
     ];
     expect_regions(&rt, &o, &rows);
-    expect_areas(&rt, &o, &[800, 800, 128]);
-    expect_border(&rt, &o, 7, &[5120, 5120, 8192]);
+    expect_areas(&rt, &o, &[(0, 800), (1, 800), (2, 128)]);
+    expect_border(&rt, &o, 7, &[(0, 5120), (1, 5120), (2, 8192)]);
 
     // One owner round the gap, and an owner of the gap itself, which has no label.
     let owners = [(1, 0), (19, 0), (13, 2), (7, 5)];
-    expect_border_by(rt.alloc(), &rt, &o, 7, &owners, &[10240, 0, 8192])?;
-    expect_border_by(rt.alloc(), &rt, &o, 13, &owners, &[0, 0, 0, 0, 0, 0])
+    expect_border_by(
+        rt.alloc(),
+        &rt,
+        &o,
+        7,
+        &owners,
+        &[(0, 10240), (1, 0), (2, 8192)],
+    )?;
+    expect_border_by(
+        rt.alloc(),
+        &rt,
+        &o,
+        13,
+        &owners,
+        &[(0, 0), (1, 0), (2, 0), (3, 0), (4, 0), (5, 0)],
+    )
 }
 
 #[test]
@@ -87,7 +101,7 @@ fn three_squares_overlap_in_one_region(rt: HostRuntime) -> Result<(), Fail> {
     let first = [(0, 0), (30, 0), (30, 10), (0, 10)];
     let second = [(10, 0), (40, 0), (40, 10), (10, 10)];
     let third = [(20, 0), (50, 0), (50, 10), (20, 10)];
-    let o = overlaid(rt.alloc(), &rt, &[&[&first], &[&second], &[&third]])?;
+    let o = overlay_of(rt.alloc(), &rt, &[&[&first], &[&second], &[&third]])?;
     let rows = [
         (0, [].as_slice(), None),
         (1, [0].as_slice(), Some(200)),
@@ -97,11 +111,18 @@ fn three_squares_overlap_in_one_region(rt: HostRuntime) -> Result<(), Fail> {
         (25, [2].as_slice(), Some(200)),
     ];
     expect_regions(&rt, &o, &rows);
-    expect_areas(&rt, &o, &[600, 600, 600]);
-    expect_border(&rt, &o, 13, &[0, 0, 0]);
-    expect_border(&rt, &o, 7, &[2560, 0, 0]);
-    expect_border(&rt, &o, 19, &[0, 0, 2560]);
-    expect_border_by(rt.alloc(), &rt, &o, 13, &[(7, 1), (19, 1)], &[0, 5120, 0])
+    expect_areas(&rt, &o, &[(0, 600), (1, 600), (2, 600)]);
+    expect_border(&rt, &o, 13, &[(0, 0), (1, 0), (2, 0)]);
+    expect_border(&rt, &o, 7, &[(0, 2560), (1, 0), (2, 0)]);
+    expect_border(&rt, &o, 19, &[(0, 0), (1, 0), (2, 2560)]);
+    expect_border_by(
+        rt.alloc(),
+        &rt,
+        &o,
+        13,
+        &[(7, 1), (19, 1)],
+        &[(0, 0), (1, 5120), (2, 0)],
+    )
 }
 
 #[test]
@@ -109,7 +130,7 @@ fn a_member_has_an_island_in_its_hole(rt: HostRuntime) -> Result<(), Fail> {
     let shell = [(0, 0), (50, 0), (50, 50), (0, 50)];
     let hole = [(10, 10), (40, 10), (40, 40), (10, 40)];
     let island = [(20, 20), (30, 20), (30, 30), (20, 30)];
-    let o = overlaid(rt.alloc(), &rt, &[&[&shell, &hole, &island]])?;
+    let o = overlay_of(rt.alloc(), &rt, &[&[&shell, &hole, &island]])?;
     let rows = [
         (0, [].as_slice(), None),
         (1, [0].as_slice(), Some(3200)),
@@ -117,16 +138,16 @@ fn a_member_has_an_island_in_its_hole(rt: HostRuntime) -> Result<(), Fail> {
         (13, [0].as_slice(), Some(200)),
     ];
     expect_regions(&rt, &o, &rows);
-    expect_areas(&rt, &o, &[3400]);
-    expect_border(&rt, &o, 7, &[40960]);
+    expect_areas(&rt, &o, &[(0, 3400)]);
+    expect_border(&rt, &o, 7, &[(0, 40960)]);
     Ok(())
 }
 
 #[test]
 fn a_member_that_collapses_to_a_line_has_no_region(rt: HostRuntime) -> Result<(), Fail> {
-    let o = overlaid(rt.alloc(), &rt, &[&[&[(0, 0), (5, 0), (10, 1)]]])?;
+    let o = overlay_of(rt.alloc(), &rt, &[&[&[(0, 0), (5, 0), (10, 1)]]])?;
     expect_regions(&rt, &o, &[]);
-    expect_areas(&rt, &o, &[0]);
+    expect_areas(&rt, &o, &[(0, 0)]);
     Ok(())
 }
 
@@ -135,28 +156,29 @@ fn a_slanting_border_is_rounded_down(rt: HostRuntime) -> Result<(), Fail> {
     // From (0, 0) to (50, 1) it is 50.00999.. units.
     let below = [(0, 0), (0, -10), (50, -10), (50, 1)];
     let above = [(0, 0), (50, 1), (0, 10)];
-    let o = overlaid(rt.alloc(), &rt, &[&[&below], &[&above]])?;
+    let o = overlay_of(rt.alloc(), &rt, &[&[&below], &[&above]])?;
     let rows = [
         (0, [].as_slice(), None),
         (1, [0].as_slice(), Some(1050)),
         (5, [1].as_slice(), Some(500)),
     ];
     expect_regions(&rt, &o, &rows);
-    expect_areas(&rt, &o, &[1050, 500]);
-    expect_border(&rt, &o, 1, &[0, 12802]);
-    expect_border(&rt, &o, 5, &[12802, 0]);
+    expect_areas(&rt, &o, &[(0, 1050), (1, 500)]);
+    expect_border(&rt, &o, 1, &[(0, 0), (1, 12802)]);
+    expect_border(&rt, &o, 5, &[(0, 12802), (1, 0)]);
     Ok(())
 }
 
 #[test]
 fn without_edges_there_is_no_region(rt: HostRuntime) -> Result<(), Fail> {
-    let o = overlaid(rt.alloc(), &rt, &[])?;
+    let o = overlay_of(rt.alloc(), &rt, &[])?;
     expect_regions(&rt, &o, &[]);
     expect_areas(&rt, &o, &[]);
     Ok(())
 }
 
 /// The labels between the live edges of a coverage, with what they were built of.
+#[derive(Drop)]
 struct Overlaid {
     arena: Arena,
     regions: Regions,
@@ -179,18 +201,18 @@ fn expect_regions(rt: &impl Abort, o: &Overlaid, rows: &[Row]) {
 }
 
 /// The members have these doubled areas.
-fn expect_areas(rt: &impl Abort, o: &Overlaid, areas: &[i128]) {
-    for (member, area2) in areas.iter().enumerate() {
-        assert_eq!(rt; o.labels.area2(member as u32), *area2, "member {member}");
+fn expect_areas(rt: &impl Abort, o: &Overlaid, areas: &[(u32, i128)]) {
+    for (member, area2) in areas {
+        assert_eq!(rt; o.labels.area2(*member), *area2, "member {member}");
     }
 }
 
 /// The region has these borders with the members.
-fn expect_border(rt: &impl Abort, o: &Overlaid, region: usize, borders: &[u128]) {
+fn expect_border(rt: &impl Abort, o: &Overlaid, region: usize, borders: &[(u32, u128)]) {
     let region = region_of(rt, o, region);
-    for (member, border) in borders.iter().enumerate() {
+    for (member, border) in borders {
         assert_eq!(rt;
-            o.labels.border(region, member as u32),
+            o.labels.border(region, *member),
             *border,
             "member {member}"
         );
@@ -204,13 +226,13 @@ fn expect_border_by(
     o: &Overlaid,
     region: usize,
     owners: &[(usize, u32)],
-    borders: &[u128],
+    borders: &[(u32, u128)],
 ) -> Result<(), Fail> {
     let region = region_of(rt, o, region);
     let by_region = owners_by_region(alloc, rt, o.arena.len(), owners)?;
-    for (member, border) in borders.iter().enumerate() {
+    for (member, border) in borders {
         assert_eq!(rt;
-            o.labels.border_by(region, &by_region, member as u32),
+            o.labels.border_by(region, &by_region, *member),
             *border,
             "member {member}"
         );
@@ -243,7 +265,7 @@ fn region_of(rt: &impl Abort, o: &Overlaid, side: usize) -> usize
 }
 
 /// The members with these rings, noded and labelled.
-fn overlaid(alloc: Global, rt: &impl Abort, members: &[&[Points]]) -> Result<Overlaid, Fail> {
+fn overlay_of(alloc: Global, rt: &impl Abort, members: &[&[Points]]) -> Result<Overlaid, Fail> {
     let coverage = coverage(alloc, members)?;
     assert!(rt; in_range(&coverage));
     let live = live_edges(alloc, &coverage)?;

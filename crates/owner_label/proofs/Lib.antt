@@ -2,6 +2,7 @@ pub mod Ascending
 pub mod Merging
 pub mod Sides
 pub mod Toggles
+pub mod Labelling
 pub mod Regions
 pub mod Listing
 pub mod Spreading

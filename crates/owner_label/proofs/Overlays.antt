@@ -15,9 +15,9 @@ use Rattle.plane.specs.Label.{label_at}
 use Rattle.plane.specs.Parity.{member_holds}
 use Rattle.plane.specs.Point.{Point}
 use Rattle.plane.specs.Ray.{is_over}
-use Rattle.plane.specs.Region.{side_points, IsSide, IsRegionOf, IsOuterRegion, AreRegions}
+use Rattle.plane.specs.Region.{side_points, far_point, IsSide, IsRegionOf, IsOuterRegion, AreRegions}
 use Rattle.plane.specs.Segment.{upper, lower}
-use Rattle.crossings.proofs.Located.{one_region, same_region}
+use Rattle.crossings.proofs.Located.{one_region, same_region, region-joined}
 use Rattle.overlay.specs.declared.odd_use.OddUse.{OddUse}
 use Rattle.overlay.specs.Noding.{odd_uses}
 use Rattle.overlay.specs.Overlay.{Overlay, IsRegion, label_of, AreBeside}
@@ -30,7 +30,8 @@ use Rattle.owner_label.specs.Sided.{Sided, AreSided, region_at, uses_of, IsLabel
 use Rattle.owner_label.proofs.Ascending.{same_ascending, chosen_from, chosen_has}
 use Rattle.owner_label.proofs.Listing.{region_sides}
 use Rattle.owner_label.proofs.Regions.{label_joined, side_within, outer_label}
-use Rattle.owner_label.proofs.Toggles.{odd_uses-cons, member_below, members_chosen, members_skipped}
+use Rattle.owner_label.proofs.Sides.{sides-length}
+use Rattle.owner_label.proofs.Toggles.{named, odd_uses-cons, member_below, members_chosen, members_skipped}
 
 -- ---- members that no odd pair names
 
@@ -53,18 +54,6 @@ unnamed edges (o ∷ odd) places count m p below past =
         ap (λ us. count_by (λ v. (v.member == m) && is_over v.seg p) us) (odd_uses-cons edges o odd f at)
         ∙ sum_by-cons (λ (v : EdgeUse). cond ((v.member == m) && is_over v.seg p) 1 0) u (odd_uses edges odd)
         ∙ (λ i. cond (and_left (o.member == m) (is_over f p) apart i) 1 0 + rest i)
-
--- a member that is odd for an edge is named
-named : (odd : List OddUse) (k m count : ℕ) → All (λ o. o.member < count) odd → has (members_of odd k) m ≡ true → m < count
-named [] k m count below h = absurd (both_ways false refl h)
-named (o ∷ odd) k m count below h =
-    elim (cases_Bool (o.edge == k)) [
-      | inl is ↦ elim (or_cases (o.member == m) (has (members_of odd k) m) (ap (λ xs. has xs m) (sym (members_chosen o odd k is)) ∙ h)) [
-        | inl first ↦ (let same = eqb-true o.member m first in let low = All-head (λ (q : OddUse). q.member < count) o odd below in omega arith)
-        | inr later ↦ named odd k m count (All-tail (λ (q : OddUse). q.member < count) o odd below) later
-      ]
-      | inr other ↦ named odd k m count (All-tail (λ (q : OddUse). q.member < count) o odd below) (ap (λ xs. has xs m) (sym (members_skipped o odd k other)) ∙ h)
-    ]
 
 -- what contracts see
 abbrev pub labelled_of : Sided → Labelled
@@ -138,6 +127,21 @@ module _ (s : Sided) (sided : AreSided s) (o : Overlay) (overlay : IsOverlay (la
   labels_apart k inside same =
       sides_apart k inside (label_of o (o.number (2 * k))) (label_of o (o.number (2 * k + 1)))
       (λ e at. (side_label_at (2 * k) (upper e) (upper_side s.edges k e at), side_label_at (2 * k + 1) (lower e) (lower_side s.edges k e at))) same
+
+-- ---- regions
+
+-- what `Regions::region_of` answers is a region
+pub answered_region : (edges : List Seg) (side r : ℕ) → side < 2 * length edges → ((p : Point) → IsSide edges side p → IsRegionOf edges p r) → IsRegion edges r
+answered_region edges side r inside is =
+    let at = slice_get-get_or (side_points edges) side far_point (omega (arith, sides-length edges)) in
+    let region = is (get_or (side_points edges) side far_point) at in
+    record { at = region.joined.at; side = region.joined.side; own = region-joined edges (get_or (side_points edges) side far_point) region.joined.at r region.joined.joined region }
+
+-- the same of equal lists of edges
+pub region_among : (edges walked arena : List Seg) (side count r : ℕ) → walked ≡ arena → edges ≡ arena → count ≡ 2 * length arena → side < count
+    → ((p : Point) → IsSide walked side p → IsRegionOf walked p r) → IsRegion edges r
+region_among edges walked arena side count r is_walked is_arena all inside is =
+    subst (λ es. IsRegion es r) (is_walked ∙ sym is_arena) (answered_region walked side r (omega (arith, ap length is_walked)) is)
 
 -- ---- the label of a region in the table
 

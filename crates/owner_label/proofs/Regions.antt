@@ -22,6 +22,7 @@ use Rattle.overlay.proofs.Labels.{far_free}
 use Rattle.overlay.proofs.OddUses.{odd_use_listed}
 use Rattle.owner_label.specs.Members.{has, differs, members_of, IsToggled}
 use Rattle.owner_label.specs.Sided.{Sided, AreSided, across, region_at, uses_of, IsLabelAt, IsRegionLabel}
+use Rattle.owner_label.proofs.Labelling.{holds_alike, outer_free}
 use Rattle.owner_label.proofs.Sides.{sides-length, edge_of, twin_at}
 use Rattle.owner_label.proofs.Toggles.{mapped, member_turned}
 
@@ -47,9 +48,7 @@ module _ (s : Sided) (sided : AreSided s) where
 
   -- members hold joined points alike
   pub holds_joined : (p q : Point) → Joined s.edges p q → (m : ℕ) → member_holds (uses_of s) m p ≡ member_holds (uses_of s) m q
-  holds_joined p q j m =
-      member_holds-joined (uses_of s) m s.edges (odd_use_listed s.edges s.odd) (λ e c. rises-in_range e (All-contains IsSegInRange s.edges e sided.planar.in_range c))
-      (λ inside. sided.even inside m) p q j
+  holds_joined p q j m = holds_alike s.edges s.odd sided.planar sided.even p q j m
 
   pub label_joined : (p q : Point) (label : List ℕ) → Joined s.edges p q → IsLabelAt (uses_of s) p label → IsLabelAt (uses_of s) q label
   label_joined p q label j is = record { ascending = is.ascending; exact = λ m. is.exact m ∙ holds_joined p q j m }
@@ -96,13 +95,7 @@ module _ (s : Sided) (sided : AreSided s) where
 
   -- the empty label is that of the outer region
   pub outer_label : (n : ℕ) (p : Point) → IsSide s.edges n p → IsOuter s.edges p → IsRegionLabel s (region_at s n) []
-  outer_label n p at outer = region_label n p [] at (record { ascending = tt; exact = λ m. sym (holds_joined p far_point outer m ∙ far_free (uses_of s) uses_in_range m) })
-    where
-      mapped_listed : (k : ℕ) (d : Seg) → k < length (segments (uses_of s)) → Contains s.edges (get_or (segments (uses_of s)) k d)
-      mapped_listed k d within = mapped (λ (u : EdgeUse). u.seg) (λ f. Contains s.edges f) (uses_of s) (odd_use_listed s.edges s.odd) (get_or (segments (uses_of s)) k d) (Contains-get_or (segments (uses_of s)) k d within)
-
-      uses_in_range : All IsSegInRange (segments (uses_of s))
-      uses_in_range = λ k d within. All-contains IsSegInRange s.edges _ sided.planar.in_range (mapped_listed k d within)
+  outer_label n p at outer = region_label n p [] at (record { ascending = tt; exact = λ m. sym (outer_free s.edges s.odd sided.planar sided.even p outer m) })
 
   pub label_outer : (r : ℕ) (label : List ℕ) → IsOuterRegion s.edges r → region_at s r ≡ r → label ≡ [] → IsRegionLabel s r label
   label_outer r label outer own empty = subst (λ xs. IsRegionLabel s r xs) (sym empty) (subst (λ k. IsRegionLabel s k []) own (outer_label r outer.at outer.side outer.outer))

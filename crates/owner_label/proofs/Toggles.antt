@@ -2,7 +2,7 @@
 use mathlib.Core.List.{[], ◌∷◌}
 use Rattle.std.proofs.Common.{◌≡◌, refl, sym, ◌∙◌, ap, subst, ℕ, zero, suc, ◌+◌, ◌%◌, ◌≤◌, ◌<◌, ◌==◌, ◌↔◌, Bool, true, false, not, ◌&&◌, cond, List, ◌++◌, map, get_or, length, filter, count_by, Contains, IsTrue, Some, slice_get, inl, inr, zero-add, arith}
 use Rattle.std.specs.Prelude.{All, AllPairs, option_to_list}
-use Rattle.std.proofs.lemmas.Bool.{cases_Bool, false_from_ne_true, eqb-true, eqb-false, and_right}
+use Rattle.std.proofs.lemmas.Bool.{cases_Bool, both_ways, or_cases, false_from_ne_true, eqb-true, eqb-false, and_right}
 use Rattle.std.proofs.lemmas.Bool.Decides.{nat_tests}
 use Rattle.std.proofs.lemmas.List.Elements.{All-contains, All-head, All-tail}
 use Rattle.std.proofs.lemmas.List.Sums.{sum_by-cons}
@@ -63,6 +63,18 @@ members_from n k (o ∷ odd) ascending least =
 
 pub members_ascend : (odd : List OddUse) (k : ℕ) → AreOddAscending odd → IsFrom 0 (members_of odd k)
 members_ascend odd k ascending = members_from 0 k odd ascending (λ o c e. omega arith)
+
+-- a member that is odd for an edge is named
+pub named : (odd : List OddUse) (k m count : ℕ) → All (λ o. o.member < count) odd → has (members_of odd k) m ≡ true → m < count
+named [] k m count below h = absurd (both_ways false refl h)
+named (o ∷ odd) k m count below h =
+    elim (cases_Bool (o.edge == k)) [
+      | inl is ↦ elim (or_cases (o.member == m) (has (members_of odd k) m) (ap (λ xs. has xs m) (sym (members_chosen o odd k is)) ∙ h)) [
+        | inl first ↦ (let same = eqb-true o.member m first in let low = All-head (λ (q : OddUse). q.member < count) o odd below in omega arith)
+        | inr later ↦ named odd k m count (All-tail (λ (q : OddUse). q.member < count) o odd below) later
+      ]
+      | inr other ↦ named odd k m count (All-tail (λ (q : OddUse). q.member < count) o odd below) (ap (λ xs. has xs m) (sym (members_skipped o odd k other)) ∙ h)
+    ]
 
 -- ---- how often a member uses an edge
 

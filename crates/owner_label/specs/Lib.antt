@@ -5,3 +5,4 @@ pub mod Lists
 pub mod Spread
 pub mod Sides
 pub mod Passes
+pub mod Laws

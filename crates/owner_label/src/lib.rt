@@ -9,8 +9,12 @@ mod area;
 mod border;
 mod label;
 mod labels;
+mod laws;
 mod lists;
 mod sided;
 mod spread;
+#[cfg(test)]
+mod tests;
 
 pub use labels::Labels;
+pub use laws::label_law;

@@ -4,8 +4,8 @@
 Usage: tools/draw.py POLYGONS.wkt [SEGMENTS.wkt [REGIONS.txt]] >PICTURE.svg
 
 The polygons of each geometry have one colour; segments are drawn red. With the rows of `cover regions` as the third
-file, the segments are those of `cover node`: then each region but the outer one has its row's number, kind and label
-beside its least side, and no segment is red. It reads plain well-known text with whole numbers and proves nothing.
+file, the segments are those of `cover node`: then each region has its row's number, kind and label beside its least
+side, and no segment is red. It reads plain well-known text with whole numbers and proves nothing.
 """
 import math
 import re
@@ -40,12 +40,10 @@ def rows(segments, regions, place):
     live = sorted({tuple(line) for lines in lists[1:] for line in lines})
     for row in open(regions):
         number, kind, label = row.split()[:3]
-        if kind == "outer":
-            continue
         words = " ".join(word for word in (number, kind, label) if word != "-")
         (x, y), (u, v) = (map(float, place(end).split(",")) for end in live[int(number) // 2])
         turn = math.atan2(v - y, u - x)
-        off = -9 if int(number) % 2 == 0 else 9
+        off = -7 if int(number) % 2 == 0 else 7
         where = f"translate({(x + u) / 2:.1f} {(y + v) / 2:.1f}) rotate({math.degrees(turn):.1f}) translate(0 {off})"
         yield f'<text transform="{where}" text-anchor="middle" dy="0.35em">{words}</text>'
 
@@ -76,7 +74,7 @@ def main():
     for line in marked:
         print(f'  <polyline points="{" ".join(place(p) for p in line)}" fill="none" stroke="#d00" stroke-width="4"/>')
     if len(sys.argv) == 4:
-        print('  <g font-family="sans-serif" font-size="12">')
+        print('  <g font-family="sans-serif" font-size="10">')
         for text in rows(sys.argv[2], sys.argv[3], place):
             print("    " + text)
         print("  </g>")

@@ -23,18 +23,22 @@ def square(number):
     return f"POLYGON (({ring}))\n"
 
 
-def main():
+def measure(operation, of_what):
+    """Runs the operation on each row, and prints its figures and how many things `of_what` finds in its text."""
     for count in [int(word) for word in sys.argv[1:]] or [500, 1000, 2000]:
         with tempfile.TemporaryDirectory() as name:
             folder = pathlib.Path(name)
             (folder / "row").write_text("".join(square(number) for number in range(count // 4)))
-            words = ["/usr/bin/time", "-f", "%U %S %M", "-o", "figures", PROGRAM, "node", "row", "edges"]
+            words = ["/usr/bin/time", "-f", "%U %S %M", "-o", "figures", PROGRAM, operation, "row", "out"]
             ran = subprocess.run(words, cwd=folder, stdout=subprocess.PIPE)
             if ran.stdout != b"done\n" or ran.returncode != 0:
-                sys.exit(f"node.py: {count} segments: a wrong answer {ran.stdout!r}, status {ran.returncode}")
+                sys.exit(f"{operation}: {count} segments: a wrong answer {ran.stdout!r}, status {ran.returncode}")
             user, system, peak = (folder / "figures").read_text().split()
-            edges = (folder / "edges").read_text().split("\n", 1)[0].count("(") - 1
-            print(f"{count} segments: {float(user) + float(system):.2f} s, {peak} KiB, {edges} noded edges")
+            print(f"{count} segments: {float(user) + float(system):.2f} s, {peak} KiB, {of_what((folder / 'out').read_text())}")
+
+
+def main():
+    measure("node", lambda text: f"{text.split(chr(10), 1)[0].count('(') - 1} noded edges")
 
 
 if __name__ == "__main__":

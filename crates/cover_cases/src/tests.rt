@@ -15,6 +15,9 @@ const TOUCH: &str =
 const TOUCH_MARKS: &str =
     "MULTILINESTRING ((10 0, 10 10))\nMULTILINESTRING ((10 5, 20 0), (10 5, 20 10))\n";
 
+// A case: its name, the input, the answer and the output.
+type Case<'a> = (&'a str, &'a str, Outcome, &'a str);
+
 // The bytes of the output before the program ran are no text of polygons.
 const NO_TEXT: Outcome = Outcome::BadText(TextFault::Syntax { at: 0 });
 
@@ -40,9 +43,25 @@ fn expect_files(rt: &impl Abort, files: &Shelf, input: &str, output: &str, case:
     assert!(rt; holds(files, "out", output), "out: {case}");
 }
 
+// The program answers the words so on each input, which it leaves as it was.
+fn expect_answers(
+    rt: &impl Abort,
+    alloc: Global,
+    line: &str,
+    cases: &[Case],
+) -> Result<(), test::Fail> {
+    for (case, input, expected, output) in cases {
+        let mut files = shelf_of(alloc, input.as_bytes(), &[], ROOM, ROOM)?;
+        let came = answer(alloc, line, &mut files)?;
+        assert_eq!(rt; came, *expected, "{case}");
+        expect_files(rt, &files, input, output, case);
+    }
+    Ok(())
+}
+
 #[test]
-fn validate_lists_the_segments_at_fault(rt: HostRuntime) -> Result<(), test::Fail> {
-    for (case, input, expected, output) in [
+fn segments_that_meet_are_marked(rt: HostRuntime) -> Result<(), test::Fail> {
+    let cases = [
         (
             "a tip that touches a side marks both sides of the tip and the side",
             TOUCH,
@@ -74,6 +93,13 @@ fn validate_lists_the_segments_at_fault(rt: HostRuntime) -> Result<(), test::Fai
             Outcome::Marked { edges: 2 },
             "MULTILINESTRING ((0 0, 10 0), (0 0, 10 0))\n",
         ),
+    ];
+    expect_answers(&rt, rt.alloc(), "validate in out", &cases)
+}
+
+#[test]
+fn sides_that_stand_twice_or_lie_within_are_marked(rt: HostRuntime) -> Result<(), test::Fail> {
+    let cases = [
         (
             "each side of a square that is drawn twice is marked in both",
             "POLYGON ((0 0, 10 0, 10 10, 0 10, 0 0))\nPOLYGON ((0 0, 10 0, 10 10, 0 10, 0 0))\n",
@@ -101,13 +127,20 @@ fn validate_lists_the_segments_at_fault(rt: HostRuntime) -> Result<(), test::Fai
              POLYGON ((100 0, 200 0, 200 100,\n          100 100, 102 50, 100 0))\n\
              polygon ((200 0, 300 0, 300 100, 250 103, 200 100, 200 0))\n\
              POLYGON ((0 100, 100 100, 100 200, 0 200, 0 100))\n\
-             Polygon ((100 100, 200 100, 200 200, 100 200, 100 100))\n\
+             MultiPolygon (((100 100, 200 100, 200 200, 100 200, 100 100)))\n\
              POLYGON ((200 100, 300 100, 300 200, 200 200, 201 150, 200 100))\n",
             Outcome::Marked { edges: 3 },
             "MULTILINESTRING EMPTY\nMULTILINESTRING EMPTY\n\
              MULTILINESTRING ((250 103, 300 100), (200 100, 250 103))\n\
              MULTILINESTRING EMPTY\nMULTILINESTRING EMPTY\nMULTILINESTRING ((200 100, 300 100))\n",
         ),
+    ];
+    expect_answers(&rt, rt.alloc(), "validate in out", &cases)
+}
+
+#[test]
+fn coverages_without_faults_are_done(rt: HostRuntime) -> Result<(), test::Fail> {
+    let cases = [
         ("an empty file has no members", "", Outcome::Done, ""),
         (
             "a square in the hole of another is in neither's way",
@@ -147,92 +180,86 @@ fn validate_lists_the_segments_at_fault(rt: HostRuntime) -> Result<(), test::Fai
             Outcome::Done,
             "MULTILINESTRING EMPTY\n",
         ),
-    ] {
-        let mut files = shelf_of(rt.alloc(), input.as_bytes(), &[], ROOM, ROOM)?;
-        let came = answer(rt.alloc(), "validate in out", &mut files)?;
-        assert_eq!(rt; came, expected, "{case}");
-        expect_files(&rt, &files, input, output, case);
-    }
-    Ok(())
+    ];
+    expect_answers(&rt, rt.alloc(), "validate in out", &cases)
 }
 
 #[test]
 fn node_lists_the_noded_edges_and_the_odd_ones_of_each_member(
     rt: HostRuntime,
 ) -> Result<(), test::Fail> {
-    for (case, input, output) in [
+    let cases = [
         (
             "of no members there are no edges",
             "",
+            Outcome::Done,
             "MULTILINESTRING EMPTY\n",
         ),
         (
             "a segment bends through the pixel of a crossing at its corner",
             "POLYGON ((0 0, 1 1, 0 1, 1 0, 0 0))",
+            Outcome::Done,
             "MULTILINESTRING ((0 0, 1 0), (0 0, 1 1), (0 1, 1 1), (1 0, 1 1))\nMULTILINESTRING ((0 0, 1 0), (0 0, 1 1), (1 0, 1 1))\n",
         ),
         (
             "a segment bends through the pixel of a vertex that it doesn't touch",
             "POLYGON ((0 0, 10 1, 0 10, 0 0))\nPOLYGON ((5 0, 10 -10, 0 -10, 5 0))\n",
+            Outcome::Done,
             "MULTILINESTRING ((0 -10, 5 0), (0 -10, 10 -10), (0 0, 0 10), (0 0, 5 0), (0 10, 10 1), (5 0, 10 -10), (5 0, 10 1))\nMULTILINESTRING ((0 0, 0 10), (0 0, 5 0), (0 10, 10 1), (5 0, 10 1))\nMULTILINESTRING ((0 -10, 5 0), (0 -10, 10 -10), (5 0, 10 -10))\n",
         ),
         (
             "a thin triangle snaps to a line, and has no odd edge",
             "POLYGON ((0 0, 5 0, 10 1, 0 0))",
+            Outcome::Done,
             "MULTILINESTRING ((0 0, 5 0), (5 0, 10 1))\nMULTILINESTRING EMPTY\n",
         ),
         (
             "a segment through the common side of two pixels meets both",
             "POLYGON ((0 0, 2 1, 0 2, 0 0))\nPOLYGON ((1 0, 5 0, 1 1, 1 0))\n",
+            Outcome::Done,
             "MULTILINESTRING ((0 0, 0 2), (0 0, 1 0), (0 2, 1 1), (1 0, 1 1), (1 0, 5 0), (1 1, 2 1), (2 1, 5 0))\nMULTILINESTRING ((0 0, 0 2), (0 0, 1 0), (0 2, 1 1), (1 0, 1 1))\nMULTILINESTRING ((1 0, 1 1), (1 0, 5 0), (1 1, 2 1), (2 1, 5 0))\n",
         ),
-    ] {
-        let mut files = shelf_of(rt.alloc(), input.as_bytes(), &[], ROOM, ROOM)?;
-        let came = answer(rt.alloc(), "node in out", &mut files)?;
-        assert_eq!(rt; came, Outcome::Done, "{case}");
-        expect_files(&rt, &files, input, output, case);
-    }
-    Ok(())
+    ];
+    expect_answers(&rt, rt.alloc(), "node in out", &cases)
 }
 
 #[test]
 fn node_splits_segments_that_overlap_and_reaches_the_range(
     rt: HostRuntime,
 ) -> Result<(), test::Fail> {
-    for (case, input, output) in [
+    let cases = [
         (
             "segments that overlap along a line are split where each ends",
             "POLYGON ((0 0, 10 0, 10 10, 0 10, 0 0))\nPOLYGON ((5 0, 15 0, 15 10, 5 10, 5 0))\n",
+            Outcome::Done,
             "MULTILINESTRING ((0 0, 0 10), (0 0, 5 0), (0 10, 5 10), (5 0, 5 10), (5 0, 10 0), (5 10, 10 10), (10 0, 10 10), (10 0, 15 0), (10 10, 15 10), (15 0, 15 10))\nMULTILINESTRING ((0 0, 0 10), (0 0, 5 0), (0 10, 5 10), (5 0, 10 0), (5 10, 10 10), (10 0, 10 10))\nMULTILINESTRING ((5 0, 5 10), (5 0, 10 0), (5 10, 10 10), (10 0, 15 0), (10 10, 15 10), (15 0, 15 10))\n",
         ),
         (
             "a bow-tie from one end of the range to the other crosses in the middle",
             "POLYGON ((-16777216 -16777216, 16777216 16777216, 16777216 -16777216, -16777216 16777216, -16777216 -16777216))",
+            Outcome::Done,
             "MULTILINESTRING ((-16777216 -16777216, -16777216 16777216), (-16777216 -16777216, 0 0), (-16777216 16777216, 0 0), (0 0, 16777216 -16777216), (0 0, 16777216 16777216), (16777216 -16777216, 16777216 16777216))\nMULTILINESTRING ((-16777216 -16777216, -16777216 16777216), (-16777216 -16777216, 0 0), (-16777216 16777216, 0 0), (0 0, 16777216 -16777216), (0 0, 16777216 16777216), (16777216 -16777216, 16777216 16777216))\n",
         ),
-    ] {
-        let mut files = shelf_of(rt.alloc(), input.as_bytes(), &[], ROOM, ROOM)?;
-        let came = answer(rt.alloc(), "node in out", &mut files)?;
-        assert_eq!(rt; came, Outcome::Done, "{case}");
-        expect_files(&rt, &files, input, output, case);
-    }
-    Ok(())
+    ];
+    expect_answers(&rt, rt.alloc(), "node in out", &cases)
 }
 
 #[test]
 fn regions_lists_each_region_with_its_label_and_doubled_area(
     rt: HostRuntime,
 ) -> Result<(), test::Fail> {
-    for (case, input, output) in [
-        ("of no members there are no regions", "", ""),
+    let cases = [
+        ("of no members there are no regions", "", Outcome::Done, ""),
         (
             "a thin triangle snaps to a line, and has no region",
             "POLYGON ((0 0, 5 0, 10 1, 0 0))",
+            Outcome::Done,
             "",
         ),
         (
             "two squares overlap in a region of both",
             "POLYGON ((0 0, 10 0, 10 10, 0 10, 0 0))\nPOLYGON ((5 0, 15 0, 15 10, 5 10, 5 0))\n",
+            Outcome::Done,
             "0 outer - - -\n1 single 0 100 -\n7 shared 0,1 100 -\n13 single 1 100 -\n",
         ),
         (
@@ -240,63 +267,61 @@ fn regions_lists_each_region_with_its_label_and_doubled_area(
             "POLYGON ((0 0, 15 0, 15 10, 10 10, 10 20, 15 20, 15 30, 0 30, 0 0))\n\
              POLYGON ((15 0, 30 0, 30 30, 15 30, 15 20, 20 20, 20 10, 15 10, 15 0))\n\
              POLYGON ((11 11, 19 11, 19 19, 11 19, 11 11))\n",
+            Outcome::Done,
             "0 outer - - -\n1 single 0 800 -\n7 gap - 72 -\n13 single 2 128 -\n19 single 1 800 -\n",
         ),
         (
             "a hole of one member alone is a gap",
             "POLYGON ((0 0, 20 0, 20 20, 0 20, 0 0), (9 9, 9 11, 11 11, 11 9, 9 9))",
+            Outcome::Done,
             "0 outer - - -\n1 single 0 792 -\n7 gap - 8 -\n",
         ),
         (
             "three members have one square",
             "POLYGON ((0 0, 10 0, 10 10, 0 10, 0 0))\nPOLYGON ((0 0, 10 0, 10 10, 0 10, 0 0))\n\
              POLYGON ((0 0, 0 10, 10 10, 10 0, 0 0))\n",
+            Outcome::Done,
             "0 outer - - -\n1 shared 0,1,2 200 -\n",
         ),
         (
             "a square reaches from one end of the range to the other",
             "POLYGON ((-16777216 -16777216, 16777216 -16777216, 16777216 16777216, -16777216 16777216, -16777216 -16777216))",
+            Outcome::Done,
             "0 outer - - -\n1 single 0 2251799813685248 -\n",
         ),
-    ] {
-        let mut files = shelf_of(rt.alloc(), input.as_bytes(), &[], ROOM, ROOM)?;
-        let came = answer(rt.alloc(), "regions in out", &mut files)?;
-        assert_eq!(rt; came, Outcome::Done, "{case}");
-        expect_files(&rt, &files, input, output, case);
-    }
-    Ok(())
+    ];
+    expect_answers(&rt, rt.alloc(), "regions in out", &cases)
 }
 
 #[test]
 fn regions_are_those_of_the_bent_and_odd_edges(rt: HostRuntime) -> Result<(), test::Fail> {
-    for (case, input, output) in [
+    let cases = [
         (
             "the inside of a triangle comes before the outer region",
             "POLYGON ((0 0, 1 1, 0 1, 1 0, 0 0))",
+            Outcome::Done,
             "0 single 0 1 -\n1 outer - - -\n",
         ),
         (
             "a bend through the pixel of a vertex gives a member area",
             "POLYGON ((0 0, 10 1, 0 10, 0 0))\nPOLYGON ((5 0, 10 -10, 0 -10, 5 0))\n",
+            Outcome::Done,
             "0 outer - - -\n1 single 1 100 -\n5 single 0 105 -\n",
         ),
         (
             "a hole touches its shell in a vertex",
             "POLYGON ((0 0, 10 0, 10 10, 0 10, 0 0), (0 0, 3 6, 6 3, 0 0))",
+            Outcome::Done,
             "0 outer - - -\n1 single 0 173 -\n3 gap - 27 -\n",
         ),
         (
             "two squares of one member that share a side have one region",
             "MULTIPOLYGON (((0 0, 10 0, 10 10, 0 10, 0 0)), ((10 0, 20 0, 20 10, 10 10, 10 0)))",
+            Outcome::Done,
             "0 outer - - -\n1 single 0 400 -\n",
         ),
-    ] {
-        let mut files = shelf_of(rt.alloc(), input.as_bytes(), &[], ROOM, ROOM)?;
-        let came = answer(rt.alloc(), "regions in out", &mut files)?;
-        assert_eq!(rt; came, Outcome::Done, "{case}");
-        expect_files(&rt, &files, input, output, case);
-    }
-    Ok(())
+    ];
+    expect_answers(&rt, rt.alloc(), "regions in out", &cases)
 }
 
 #[test]

@@ -2,10 +2,11 @@
 use mir.Syntax.{w128}
 use mathlib.Core.Bool.{beq}
 use mathlib.Core.List.{[], ◌∷◌}
-use Rattle.std.proofs.Common.{◌≡◌, refl, sym, ◌∙◌, ap, subst, ℕ, ◌+◌, ◌*◌, ◌<◌, Bool, true, false, not, cond, List, ◌++◌, map, length, get_or, take, Some, slice_get, ℤ, pos, ◌+ℤ◌, ◌-ℤ◌, unsigned_abs, to_z, of_z, ◌≤◌, ◌^◌, add-one, arith}
+use Rattle.std.proofs.Common.{◌≡◌, refl, sym, ◌∙◌, ap, subst, ℕ, zero, suc, ◌+◌, ◌*◌, ◌<◌, ◌==◌, Bool, true, false, not, cond, List, ◌++◌, map, filter, length, get_or, take, Option, Some, None, slice_get, ℤ, pos, ◌+ℤ◌, ◌-ℤ◌, unsigned_abs, to_z, of_z, ◌≤◌, ◌^◌, add-one, arith}
 use Rattle.std.specs.Prelude.{All, option_to_list}
 use Rattle.std.proofs.Math.Seq.{take-suc}
-use Rattle.std.proofs.lemmas.Bool.{both_ways, eq-eqb}
+use Rattle.std.proofs.lemmas.Bool.{both_ways, eq-eqb, eqb-true}
+use Rattle.std.proofs.lemmas.List.Elements.{All-filter, filter_passes}
 use Rattle.std.proofs.lemmas.Option.{slice_get-get_or, same_Some}
 use Rattle.std.proofs.lemmas.Int.{ints}
 use Rattle.exact.proofs.Ring.{lin}
@@ -17,7 +18,7 @@ use Rattle.plane.specs.Parity.{member_holds}
 use Rattle.plane.specs.Segment.{upper, lower}
 use Rattle.crossings.specs.Crossing.{int_sum_by}
 use Rattle.overlay.specs.declared.odd_use.OddUse.{OddUse}
-use Rattle.overlay.specs.Measure.{trapezoid, area_gain}
+use Rattle.overlay.specs.Measure.{trapezoid, area_gain, member_area2}
 use Rattle.overlay.proofs.Numberings.{upper_side, lower_side}
 use Rattle.overlay.specs.Noding.{odd_uses}
 use Rattle.owner_label.specs.Sided.{Sided, AreSided, uses_of}
@@ -25,37 +26,73 @@ use Rattle.owner_label.specs.Sides.{pair_gain}
 use Rattle.owner_label.proofs.Sums.{int_sum-append}
 use Rattle.owner_label.proofs.Toggles.{odd_uses-cons}
 
--- what the uses of these odd pairs add to the doubled area of the member
+-- the use that an odd pair stands for
+abbrev use_of_pair : List Seg → OddUse → List EdgeUse
+use_of_pair edges o = map (λ e. record { member = o.member; seg = e }) (option_to_list (slice_get edges o.edge))
+
+-- what a use adds to the doubled area of the member
+abbrev pub gain_in : Sided → ℕ → EdgeUse → ℤ
+gain_in s member u = pair_gain (uses_of s) member u.member u.seg
+
+-- what the uses of these odd pairs add
 abbrev pub gains_of : Sided → ℕ → List OddUse → ℤ
-gains_of s member odd = int_sum_by (λ u. pair_gain (uses_of s) member u.member u.seg) (odd_uses s.edges odd)
+gains_of s member odd = int_sum_by (gain_in s member) (odd_uses s.edges odd)
+
+gains_of-cons : (s : Sided) (member : ℕ) (o : OddUse) (odd : List OddUse) → gains_of s member (o ∷ odd) ≡ int_sum_by (gain_in s member) (use_of_pair s.edges o) +ℤ gains_of s member odd
+gains_of-cons s member o odd = int_sum-append (gain_in s member) (use_of_pair s.edges o) (odd_uses s.edges odd)
 
 gains_of-push : (s : Sided) (member : ℕ) (odd : List OddUse) (o : OddUse) (e : Seg) → slice_get s.edges o.edge ≡ Some e
     → gains_of s member (odd ++ o ∷ []) ≡ gains_of s member odd +ℤ pair_gain (uses_of s) member o.member e
-gains_of-push s member [] o e at = ap (λ us. int_sum_by (λ (u : EdgeUse). pair_gain (uses_of s) member u.member u.seg) us) (odd_uses-cons s.edges o [] e at) ∙ omega (arith, lin)
+gains_of-push s member [] o e at = ap (λ us. int_sum_by (gain_in s member) us) (odd_uses-cons s.edges o [] e at) ∙ omega (arith, lin)
 gains_of-push s member (p ∷ odd) o e at =
     let rest = gains_of-push s member odd o e at in
-    let f = λ (u : EdgeUse). pair_gain (uses_of s) member u.member u.seg in
-    let first = uses_of_one s.edges p in
-    int_sum-append f first (odd_uses s.edges (odd ++ o ∷ [])) ∙ ap (λ t. int_sum_by f first +ℤ t) rest
-    ∙ sum_assoc (int_sum_by f first) (gains_of s member odd) (pair_gain (uses_of s) member o.member e)
-    ∙ ap (λ t. t +ℤ pair_gain (uses_of s) member o.member e) (sym (int_sum-append f first (odd_uses s.edges odd)))
+    let whole = gains_of-cons s member p (odd ++ o ∷ []) in
+    let part = gains_of-cons s member p odd in
+    omega (arith, lin)
+
+-- the pairs of a member are pairs of the edges
+pub gains_place : (s : Sided) → AreSided s → (member : ℕ) (odd : List OddUse) → odd ≡ filter (λ o. o.member == member) s.odd → (i : ℕ) (d : OddUse) → i < length odd → (get_or odd i d).edge < length s.edges
+gains_place s sided member odd same i d within =
+    subst (λ xs. All (λ (p : OddUse). p.edge < length s.edges) xs) (sym same) (All-filter (λ (p : OddUse). p.member == member) (λ p. p.edge < length s.edges) s.odd sided.places) i d within
+
+member_same : (s : Sided) (member : ℕ) (odd : List OddUse) → odd ≡ filter (λ o. o.member == member) s.odd → (i : ℕ) (d : OddUse) → i < length odd → (get_or odd i d).member ≡ member
+member_same s member odd same i d within =
+    eqb-true (get_or odd i d).member member (subst (λ xs. All (λ (p : OddUse). (p.member == member) ≡ true) xs) (sym same) (filter_passes (λ (p : OddUse). p.member == member) s.odd) i d within)
+
+-- the pairs of other members add nothing
+gains_other : (s : Sided) (member : ℕ) (odd : List OddUse) → gains_of s member (filter (λ o. o.member == member) odd) ≡ gains_of s member odd
+gains_other s member [] = refl
+gains_other s member (o ∷ odd) = by (o.member == member) refl (gains_other s member odd)
   where
-    uses_of_one : List Seg → OddUse → List EdgeUse
-    uses_of_one edges p = map (λ e. record { member = p.member; seg = e }) (option_to_list (slice_get edges p.edge))
+    nothing : (found : Option Seg) → (o.member == member) ≡ false → int_sum_by (gain_in s member) (map (λ e. record { member = o.member; seg = e }) (option_to_list found)) ≡ pos 0
+    nothing None h = refl
+    nothing (Some e) h = ap (λ b. cond b (area_gain (member_holds (uses_of s) member (lower e)) (member_holds (uses_of s) member (upper e)) e) (pos 0) +ℤ pos 0) h
 
-    sum_assoc : (a b c : ℤ) → a +ℤ (b +ℤ c) ≡ (a +ℤ b) +ℤ c
-    sum_assoc a b c = omega (arith, lin)
+    by : (b : Bool) → (o.member == member) ≡ b → gains_of s member (filter (λ p. p.member == member) odd) ≡ gains_of s member odd
+        → gains_of s member (cond b (o ∷ filter (λ p. p.member == member) odd) (filter (λ p. p.member == member) odd)) ≡ gains_of s member (o ∷ odd)
+    by true h rest = gains_of-cons s member o (filter (λ p. p.member == member) odd) ∙ ap (λ t. int_sum_by (gain_in s member) (use_of_pair s.edges o) +ℤ t) rest ∙ sym (gains_of-cons s member o odd)
+    by false h rest =
+        let first = nothing (slice_get s.edges o.edge) h in
+        let whole = gains_of-cons s member o odd in
+        omega (arith, lin)
 
--- the odd pairs that are read are those of the edges
-pub gains_place : (s : Sided) → AreSided s → (odd : List OddUse) → odd ≡ s.odd → (i : ℕ) (d : OddUse) → i < length odd → (get_or odd i d).edge < length s.edges
-gains_place s sided odd same i d within = subst (λ xs. All (λ (p : OddUse). p.edge < length s.edges) xs) (sym same) sided.places i d within
+-- what the pairs of the member add is its doubled area
+pub gains_whole : (s : Sided) (member : ℕ) (odd : List OddUse) (i : ℕ) (area : ℤ) → odd ≡ filter (λ o. o.member == member) s.odd → length odd ≤ i → area ≡ gains_of s member (take i odd) → area ≡ member_area2 (uses_of s) member
+gains_whole s member odd i area same past so_far = so_far ∙ ap (λ xs. gains_of s member xs) (take_all odd i past ∙ same) ∙ gains_other s member s.odd
+  where
+    take_all : (xs : List OddUse) (i : ℕ) → length xs ≤ i → take i xs ≡ xs
+    take_all [] zero h = refl
+    take_all [] (suc i) h = refl
+    take_all (x ∷ xs) zero h = absurd (omega arith)
+    take_all (x ∷ xs) (suc i) h = ap (λ ys. x ∷ ys) (take_all xs i (omega arith))
 
-pub gains_more : (s : Sided) (member : ℕ) (odd : List OddUse) (i : ℕ) (d : OddUse) → i < length odd → (get_or odd i d).edge < length s.edges → (area gain : ℤ)
-    → area ≡ gains_of s member (take i odd) → ((e : Seg) → slice_get s.edges (get_or odd i d).edge ≡ Some e → gain ≡ pair_gain (uses_of s) member (get_or odd i d).member e)
+pub gains_more : (s : Sided) (member : ℕ) (odd : List OddUse) → odd ≡ filter (λ o. o.member == member) s.odd → (i : ℕ) (d : OddUse) → i < length odd → (get_or odd i d).edge < length s.edges → (area gain : ℤ)
+    → area ≡ gains_of s member (take i odd) → ((e : Seg) → slice_get s.edges (get_or odd i d).edge ≡ Some e → gain ≡ pair_gain (uses_of s) (get_or odd i d).member (get_or odd i d).member e)
     → area +ℤ gain ≡ gains_of s member (take (i + 1) odd)
-gains_more s member odd i d inside within area gain so_far is =
+gains_more s member odd same i d inside within area gain so_far is =
+    let its = member_same s member odd same i d inside in
     let found = some_edge s.edges (get_or odd i d).edge within in
-    rw (add-one, take-suc odd i d inside) ((λ t. so_far t +ℤ is found.0 found.1 t) ∙ sym (gains_of-push s member (take i odd) (get_or odd i d) found.0 found.1))
+    rw (add-one, take-suc odd i d inside) ((λ t. so_far t +ℤ (is found.0 found.1 ∙ ap (λ k. pair_gain (uses_of s) k (get_or odd i d).member found.0) its) t) ∙ sym (gains_of-push s member (take i odd) (get_or odd i d) found.0 found.1))
   where
     some_edge : (edges : List Seg) (k : ℕ) → k < length edges → (e : Seg) × (slice_get edges k ≡ Some e)
     some_edge [] k h = absurd (omega arith)

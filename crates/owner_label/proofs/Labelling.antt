@@ -1,7 +1,7 @@
 -- Joined points have one label, and the outer one is empty.
 use Rattle.std.proofs.Common.{◌≡◌, refl, sym, ◌∙◌, ap, subst, ℕ, ◌<◌, ◌&&◌, Bool, true, false, ltb, List, [], ◌∷◌, ◌⊎◌, ◌≤◌, filter, length, get_or, Contains, Some, slice_get, IsTrue, inl, inr, arith}
-use Rattle.std.specs.Prelude.{All, AllPairs}
-use Rattle.std.proofs.lemmas.Bool.{cases_lt, cases_Bool, lt-ltb, le-ltb, false≢true, false_from_ne_true}
+use Rattle.std.specs.Prelude.{All}
+use Rattle.std.proofs.lemmas.Bool.{cases_lt, lt-ltb, le-ltb, false≢true, false_from_ne_true}
 use Rattle.std.proofs.lemmas.List.Elements.{All-contains, Contains-get_or}
 use Rattle.std.proofs.lemmas.Option.{slice_get_within}
 use Rattle.cov_types.specs.declared.edge_use.EdgeUse.{EdgeUse}

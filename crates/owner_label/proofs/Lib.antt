@@ -12,3 +12,4 @@ pub mod Building
 pub mod Gains
 pub mod Trapezoids
 pub mod Borders
+pub mod Runs

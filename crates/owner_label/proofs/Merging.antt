@@ -195,12 +195,12 @@ left-end xs ys zs first whole i j left end h k =
       | inr none ↦ ap (λ t. drop i xs ++ t) (past ys j none) ∙ append_nothing (drop i xs) ∙ sym (merged-nil (drop i xs)) ∙ ap (λ t. merged (drop i xs) t) (sym (past ys j none))
     ]
 
+take_whole : {X : Type 0} (ys : List X) → take (length ys) ys ≡ ys
+take_whole [] = refl
+take_whole (y ∷ ys) = ap (λ zs. y ∷ zs) (take_whole ys)
+
 -- `&xs[n..]`
-pub rest-slice : (n : ℕ) (xs : List ℕ) → take (length xs - n) (drop n xs) ≡ drop n xs
+pub rest-slice : {X : Type 0} (n : ℕ) (xs : List X) → take (length xs - n) (drop n xs) ≡ drop n xs
 rest-slice zero xs = (let same : length xs - 0 ≡ length xs = omega arith in ap (λ k. take k xs) same ∙ take_whole xs)
-  where
-    take_whole : (ys : List ℕ) → take (length ys) ys ≡ ys
-    take_whole [] = refl
-    take_whole (y ∷ ys) = ap (λ zs. y ∷ zs) (take_whole ys)
 rest-slice (suc n) [] = (let none : 0 - suc n ≡ 0 = omega arith in ap (λ k. take k []) none)
 rest-slice (suc n) (x ∷ xs) = (let less : suc (length xs) - suc n ≡ length xs - n = omega arith in ap (λ k. take k (drop n xs)) less ∙ rest-slice n xs)

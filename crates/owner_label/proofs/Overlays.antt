@@ -3,7 +3,7 @@ use mathlib.Core.List.{[], ◌∷◌}
 use Rattle.std.proofs.Common.{◌≡◌, refl, sym, ◌∙◌, ap, subst, ℕ, zero, suc, ◌+◌, ◌*◌, ◌<◌, ◌≤◌, ◌%◌, ◌==◌, ◌&&◌, Bool, true, false, not, cond, ltb, List, length, get_or, count_by, Option, Some, None, slice_get, inl, inr, arith}
 use Rattle.std.specs.Global.{Vec}
 use Rattle.std.specs.Prelude.{All, flat_map, option_to_list}
-use Rattle.std.proofs.lemmas.Bool.{cases_lt, cases_Bool, lt-ltb, le-ltb, ne_eqb, and_left, eqb-true, or_cases, both_ways}
+use Rattle.std.proofs.lemmas.Bool.{cases_lt, lt-ltb, le-ltb, ne_eqb, and_left, both_ways}
 use Rattle.std.proofs.lemmas.List.{append-nil}
 use Rattle.std.proofs.lemmas.List.Elements.{All-head, All-tail, Contains-get_or}
 use Rattle.std.proofs.lemmas.List.Sums.{sum_by-cons}
@@ -24,14 +24,14 @@ use Rattle.overlay.specs.Overlay.{Overlay, IsRegion, label_of, AreBeside}
 use Rattle.overlay.proofs.Numberings.{upper_side, lower_side}
 use Rattle.owner_label.specs.Labelled.{Labelled, IsOverlay}
 use Rattle.owner_label.specs.Lists.{sides_of, AreRegionLabels, AreRegionSides}
-use Rattle.owner_label.specs.Members.{has, differs, members_of}
+use Rattle.owner_label.specs.Members.{has, differs}
 use Rattle.owner_label.specs.Passes.{items_of}
 use Rattle.owner_label.specs.Sided.{Sided, AreSided, region_at, uses_of, IsLabelAt}
 use Rattle.owner_label.proofs.Ascending.{same_ascending, chosen_from, chosen_has}
 use Rattle.owner_label.proofs.Listing.{region_sides}
 use Rattle.owner_label.proofs.Regions.{label_joined, side_within, outer_label}
 use Rattle.owner_label.proofs.Sides.{sides-length}
-use Rattle.owner_label.proofs.Toggles.{named, odd_uses-cons, member_below, members_chosen, members_skipped}
+use Rattle.owner_label.proofs.Toggles.{odd_uses-cons, member_below}
 
 -- ---- members that no odd pair names
 

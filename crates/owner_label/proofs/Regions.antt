@@ -1,30 +1,20 @@
 -- The labels of regions: one for all their points, and toggled across each side.
-use Rattle.std.proofs.Common.{◌≡◌, sym, ◌∙◌, ap, subst, ℕ, ◌*◌, ◌/◌, ◌<◌, Bool, true, false, List, [], length, get_or, Contains, arith}
+use Rattle.std.proofs.Common.{◌≡◌, sym, ◌∙◌, ap, subst, ℕ, ◌*◌, ◌/◌, ◌<◌, Bool, true, false, List, [], length, get_or, arith}
 use Rattle.std.proofs.lemmas.List.{get_or_read}
-use Rattle.std.proofs.lemmas.List.Elements.{All-contains, Contains-get_or}
 use Rattle.std.proofs.lemmas.Option.{slice_get_within, slice_get-get_or}
-use Rattle.std.specs.Prelude.{All}
-use Rattle.cov_types.specs.declared.edge_use.EdgeUse.{EdgeUse}
-use Rattle.cov_types.specs.declared.seg.Seg.{Seg}
-use Rattle.cov_types.specs.Range.{IsSegInRange}
 use Rattle.plane.specs.Joined.{Joined}
 use Rattle.plane.specs.Parity.{member_holds}
 use Rattle.plane.specs.Point.{Point}
 use Rattle.plane.specs.Region.{side_points, far_point, IsSide, IsRegionOf, IsOuter, IsOuterRegion}
-use Rattle.plane.proofs.Sweeps.{rises-in_range}
 use Rattle.crossings.proofs.Located.{same_region, region-joined, one_region}
-use Rattle.crossings.proofs.Sums.{member_holds-joined}
 use Rattle.sectors.specs.Sector.{left, twin}
 use Rattle.sectors.proofs.Numbers.{half_edge_side}
 use Rattle.regions.proofs.Numbered.{side_half_edge}
-use Rattle.overlay.specs.Noding.{segments}
-use Rattle.overlay.proofs.Labels.{far_free}
-use Rattle.overlay.proofs.OddUses.{odd_use_listed}
 use Rattle.owner_label.specs.Members.{has, differs, members_of, IsToggled}
 use Rattle.owner_label.specs.Sided.{Sided, AreSided, across, region_at, uses_of, IsLabelAt, IsRegionLabel}
 use Rattle.owner_label.proofs.Labelling.{holds_alike, outer_free}
 use Rattle.owner_label.proofs.Sides.{sides-length, edge_of, twin_at}
-use Rattle.owner_label.proofs.Toggles.{mapped, member_turned}
+use Rattle.owner_label.proofs.Toggles.{member_turned}
 
 module _ (s : Sided) (sided : AreSided s) where
   pub side_within : (n : ℕ) (p : Point) → IsSide s.edges n p → n < 2 * length s.edges

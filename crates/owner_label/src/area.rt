@@ -1,9 +1,10 @@
-ghost use Rattle.std.specs.Prelude.{◌≡◌, ◌≤◌, ◌*◌, ◌<◌, ◌^◌, ◌-ℤ◌, ◌+ℤ◌, ◌*ℤ◌, All, Some, slice_get, length, unsigned_abs};
+ghost use Rattle.std.specs.Prelude.{◌≡◌, ◌≤◌, ◌*◌, ◌<◌, ◌^◌, ◌-ℤ◌, ◌+ℤ◌, ◌*ℤ◌, ◌==◌, All, AllPairs, IsTrue, filter, Some, slice_get, length, unsigned_abs};
 ghost use Rattle.cov_types.specs.Range.{IsSegInRange};
 ghost use Rattle.cov_types.specs.declared.seg.Seg.{Seg};
 ghost use Rattle.crossings.specs.Crossing.{int_sum_by};
 ghost use Rattle.exact.specs.Bound.{IsWithin};
 ghost use Rattle.overlay.specs.Measure.{trapezoid, member_area2};
+ghost use Rattle.overlay.specs.Noding.{is_odd_before};
 ghost use Rattle.plane.specs.Parity.{member_holds};
 ghost use Rattle.plane.specs.Point.{Point};
 ghost use Rattle.plane.specs.Region.{IsSide};
@@ -22,8 +23,8 @@ pub fn area_of_member(map: &SidedEdges, labels: &[Label], member: u32) -> i128
     ensures { result ≡ member_area2 (uses_of map.now) member }
 {
     let mut area = 0;
-    for o in map.odd() {
-        area += gain(map, labels, *o, member);
+    for o in odd_of(map.odd(), member) {
+        area += gain(map, labels, *o);
     }
     area
 }
@@ -40,21 +41,29 @@ pub fn area_of_sides(map: &SidedEdges, sides: &[usize]) -> i128
     area
 }
 
-// What an odd pair adds to the doubled area of the member: if it is the member's, the trapezoid of its edge where the member holds the
-// lower side, less that where it holds the upper side.
-fn gain(map: &SidedEdges, labels: &[Label], o: OddUse, member: u32) -> i128
+// The odd pairs of the member, which stand side by side.
+fn odd_of(odd: &[OddUse], member: u32) -> &[OddUse]
+    requires ascending { AllPairs (λ o p. IsTrue (is_odd_before o p)) odd.now }
+    ensures { result.now ≡ filter (λ o. o.member == member) odd.now }
+{
+    let from = odd.partition_point(|o| o.member < member);
+    let rest = &odd[from..];
+    let count = rest.partition_point(|o| o.member <= member);
+    &rest[..count]
+}
+
+// What an odd pair adds to the doubled area of its member: the trapezoid of its edge where the member holds the lower side, less that
+// where it holds the upper side.
+fn gain(map: &SidedEdges, labels: &[Label], o: OddUse) -> i128
     requires within { o.edge < length map.now.edges }
     requires labels { AreRegionLabels map.now labels.now }
-    ensures exact { (e : Seg) → slice_get map.now.edges o.edge ≡ Some e → result ≡ pair_gain (uses_of map.now) member o.member e }
+    ensures exact { (e : Seg) → slice_get map.now.edges o.edge ≡ Some e → result ≡ pair_gain (uses_of map.now) o.member o.member e }
     ensures small { unsigned_abs result ≤ 2 ^ 60 }
 {
     let _edges = map.len();
-    if o.member != member {
-        return 0;
-    }
     let area = trapezoid(map.edge(o.edge));
-    let below = holds(map, labels, 2 * o.edge + 1, member);
-    let above = holds(map, labels, 2 * o.edge, member);
+    let below = holds(map, labels, 2 * o.edge + 1, o.member);
+    let above = holds(map, labels, 2 * o.edge, o.member);
     if below == above {
         return 0;
     }

@@ -69,7 +69,8 @@ impl Labels {
         &self.labels[region]
     }
 
-    /// The doubled area of a member, in square grid units, over its odd edges. Takes time in proportion to all odd pairs.
+    /// The doubled area of a member, in square grid units, over its odd edges. Takes time in proportion to these, and to the
+    /// logarithm of the odd pairs.
     pub fn area2(&self, member: u32) -> i128
         ensures { result ≡ member_area2 (odd_uses self.now.edges self.now.odd) member }
     {

@@ -1,7 +1,4 @@
 use Rattle.std.proofs.lemmas.Result.{IfOk-weaker}
-use Rattle.std.proofs.Common.{sym, subst}
-use Rattle.cov_types.specs.Uses.{HasEvenEnds}
-use Rattle.overlay.specs.Noding.{odd_uses}
 use Rattle.owner_label.proofs.tests.live_edges.Goals as goal
 
 pub returns-clause-even : goal.returns-clause-even

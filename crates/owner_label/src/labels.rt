@@ -43,7 +43,7 @@ impl Model for Labels {
 
 impl Labels {
     /// The labels of the regions between the live edges. The outer region has the empty label, and over each edge the members change
-    /// that are odd for it. Takes time and memory in proportion to the edges and labels.
+    /// that are odd for it. Takes time and memory in proportion to the edges, the odd pairs and the lengths of the labels.
     pub fn build(alloc: Global, a: &Arena, r: &Regions, l: &LiveEdges) -> Result<Labels, NoMemory>
         requires arena { a.now ≡ l.now.edges.items }
         requires regions { r.now ≡ a.now }

@@ -63,6 +63,9 @@ impl Labels {
         ensures points { (o : Overlay) (p : Point) → IsOverlay self.now o → IsRegionOf self.now.edges p region → result.now ≡ label_at o.uses o.members p }
         ensures outer { IsOuterRegion self.now.edges region → result.now ≡ [] }
 
+        // There is such an overlay.
+        ensures some { (o : Overlay) × IsOverlay self.now o }
+
         // It differs from the label of each region over an edge.
         ensures sides { (o : Overlay) (other : ℕ) → IsOverlay self.now o → AreBeside o region other → ¬ (label_of o other ≡ result.now) }
     {

@@ -1,11 +1,13 @@
 #!/usr/bin/env python3
 """Draws a file of polygons, and over it the segments of a second file, as an SVG picture.
 
-Usage: tools/draw.py POLYGONS.wkt [SEGMENTS.wkt] >PICTURE.svg
+Usage: tools/draw.py POLYGONS.wkt [SEGMENTS.wkt [REGIONS.txt]] >PICTURE.svg
 
-The polygons of each geometry have one colour; segments are drawn red. It reads plain well-known text with whole
-numbers and proves nothing.
+The polygons of each geometry have one colour; segments are drawn red. With the rows of `cover regions` as the third
+file, the segments are those of `cover node`: then each region but the outer one has its row's number, kind and label
+beside its least side, and no segment is red. It reads plain well-known text with whole numbers and proves nothing.
 """
+import math
 import re
 import sys
 
@@ -32,8 +34,24 @@ def geometries(text):
         yield found.group(1).upper(), rings
 
 
+def rows(segments, regions, place):
+    """Yield the text of each row, beside the least side of its region and along it."""
+    lists = [lines for _, lines in geometries(open(segments).read())]
+    live = sorted({tuple(line) for lines in lists[1:] for line in lines})
+    for row in open(regions):
+        number, kind, label = row.split()[:3]
+        if kind == "outer":
+            continue
+        words = " ".join(word for word in (number, kind, label) if word != "-")
+        (x, y), (u, v) = (map(float, place(end).split(",")) for end in live[int(number) // 2])
+        turn = math.atan2(v - y, u - x)
+        off = -9 if int(number) % 2 == 0 else 9
+        where = f"translate({(x + u) / 2:.1f} {(y + v) / 2:.1f}) rotate({math.degrees(turn):.1f}) translate(0 {off})"
+        yield f'<text transform="{where}" text-anchor="middle" dy="0.35em">{words}</text>'
+
+
 def main():
-    if len(sys.argv) not in (2, 3):
+    if len(sys.argv) not in (2, 3, 4):
         sys.exit(__doc__)
     members = [rings for _, rings in geometries(open(sys.argv[1]).read())]
     marked = []
@@ -57,6 +75,11 @@ def main():
         print(f'  <path d="{path}" fill="{colour}" fill-opacity="0.7" fill-rule="evenodd" stroke="#555" stroke-width="1"/>')
     for line in marked:
         print(f'  <polyline points="{" ".join(place(p) for p in line)}" fill="none" stroke="#d00" stroke-width="4"/>')
+    if len(sys.argv) == 4:
+        print('  <g font-family="sans-serif" font-size="12">')
+        for text in rows(sys.argv[2], sys.argv[3], place):
+            print("    " + text)
+        print("  </g>")
     print("</svg>")
 
 

@@ -220,6 +220,86 @@ fn node_splits_segments_that_overlap_and_reaches_the_range(
 }
 
 #[test]
+fn regions_lists_each_region_with_its_label_and_doubled_area(
+    rt: HostRuntime,
+) -> Result<(), test::Fail> {
+    for (case, input, output) in [
+        ("of no members there are no regions", "", ""),
+        (
+            "a thin triangle snaps to a line, and has no region",
+            "POLYGON ((0 0, 5 0, 10 1, 0 0))",
+            "",
+        ),
+        (
+            "two squares overlap in a region of both",
+            "POLYGON ((0 0, 10 0, 10 10, 0 10, 0 0))\nPOLYGON ((5 0, 15 0, 15 10, 5 10, 5 0))\n",
+            "0 outer - - -\n1 single 0 100 -\n7 shared 0,1 100 -\n13 single 1 100 -\n",
+        ),
+        (
+            "an island lies in the gap between two parcels",
+            "POLYGON ((0 0, 15 0, 15 10, 10 10, 10 20, 15 20, 15 30, 0 30, 0 0))\n\
+             POLYGON ((15 0, 30 0, 30 30, 15 30, 15 20, 20 20, 20 10, 15 10, 15 0))\n\
+             POLYGON ((11 11, 19 11, 19 19, 11 19, 11 11))\n",
+            "0 outer - - -\n1 single 0 800 -\n7 gap - 72 -\n13 single 2 128 -\n19 single 1 800 -\n",
+        ),
+        (
+            "a hole of one member alone is a gap",
+            "POLYGON ((0 0, 20 0, 20 20, 0 20, 0 0), (9 9, 9 11, 11 11, 11 9, 9 9))",
+            "0 outer - - -\n1 single 0 792 -\n7 gap - 8 -\n",
+        ),
+        (
+            "three members have one square",
+            "POLYGON ((0 0, 10 0, 10 10, 0 10, 0 0))\nPOLYGON ((0 0, 10 0, 10 10, 0 10, 0 0))\n\
+             POLYGON ((0 0, 0 10, 10 10, 10 0, 0 0))\n",
+            "0 outer - - -\n1 shared 0,1,2 200 -\n",
+        ),
+        (
+            "a square reaches from one end of the range to the other",
+            "POLYGON ((-16777216 -16777216, 16777216 -16777216, 16777216 16777216, -16777216 16777216, -16777216 -16777216))",
+            "0 outer - - -\n1 single 0 2251799813685248 -\n",
+        ),
+    ] {
+        let mut files = shelf_of(rt.alloc(), input.as_bytes(), &[], ROOM, ROOM)?;
+        let came = answer(rt.alloc(), "regions in out", &mut files)?;
+        assert_eq!(rt; came, Outcome::Done, "{case}");
+        expect_files(&rt, &files, input, output, case);
+    }
+    Ok(())
+}
+
+#[test]
+fn regions_are_those_of_the_bent_and_odd_edges(rt: HostRuntime) -> Result<(), test::Fail> {
+    for (case, input, output) in [
+        (
+            "the inside of a triangle comes before the outer region",
+            "POLYGON ((0 0, 1 1, 0 1, 1 0, 0 0))",
+            "0 single 0 1 -\n1 outer - - -\n",
+        ),
+        (
+            "a bend through the pixel of a vertex gives a member area",
+            "POLYGON ((0 0, 10 1, 0 10, 0 0))\nPOLYGON ((5 0, 10 -10, 0 -10, 5 0))\n",
+            "0 outer - - -\n1 single 1 100 -\n5 single 0 105 -\n",
+        ),
+        (
+            "a hole touches its shell in a vertex",
+            "POLYGON ((0 0, 10 0, 10 10, 0 10, 0 0), (0 0, 3 6, 6 3, 0 0))",
+            "0 outer - - -\n1 single 0 173 -\n3 gap - 27 -\n",
+        ),
+        (
+            "two squares of one member that share a side have one region",
+            "MULTIPOLYGON (((0 0, 10 0, 10 10, 0 10, 0 0)), ((10 0, 20 0, 20 10, 10 10, 10 0)))",
+            "0 outer - - -\n1 single 0 400 -\n",
+        ),
+    ] {
+        let mut files = shelf_of(rt.alloc(), input.as_bytes(), &[], ROOM, ROOM)?;
+        let came = answer(rt.alloc(), "regions in out", &mut files)?;
+        assert_eq!(rt; came, Outcome::Done, "{case}");
+        expect_files(&rt, &files, input, output, case);
+    }
+    Ok(())
+}
+
+#[test]
 fn each_fault_of_a_text_is_answered_at_its_place(rt: HostRuntime) -> Result<(), test::Fail> {
     for (input, fault) in [
         ("POLYGON ((0 0, 1", TextFault::Syntax { at: 16 }),
@@ -265,7 +345,9 @@ fn words_name_the_operation_and_its_files(rt: HostRuntime) -> Result<(), test::F
         ("validate in", Outcome::Usage, TOUCH, BEFORE),
         ("clean in out", Outcome::Usage, TOUCH, BEFORE),
         ("Validate in out", Outcome::Usage, TOUCH, BEFORE),
+        ("scrub in out", Outcome::Usage, TOUCH, BEFORE),
         ("node in", Outcome::Usage, TOUCH, BEFORE),
+        ("regions in", Outcome::Usage, TOUCH, BEFORE),
         ("validate -in out", Outcome::Usage, TOUCH, BEFORE),
         ("validate in -out", Outcome::Usage, TOUCH, BEFORE),
         ("validate in out more", Outcome::Usage, TOUCH, BEFORE),
@@ -360,7 +442,7 @@ fn each_outcome_has_its_status_and_its_message(rt: HostRuntime) -> Result<(), te
             1,
             "marked 18446744073709551615",
         ),
-        (Outcome::Usage, 2, "usage: cover validate|node"),
+        (Outcome::Usage, 2, "usage: cover validate|node|regions"),
         (NO_TEXT, 4, "text: syntax at 0"),
         (Outcome::TooLong, 6, "input is longer than 67108864 bytes"),
         (Outcome::ReadFault, 7, "cannot read"),

@@ -8,10 +8,10 @@ use Rattle.cov_io.specs.State.{State, IsTelling}
 use Rattle.cov_types.specs.declared.coord.Coord.{Coord}
 use Rattle.cover_cli.specs.Answers.{input_of, output_of, is_success, is_touching, Writes, IsAnswer}
 use Rattle.cover_cli.specs.Input.{longest_input, HoldsCoverage, HoldsFault, HoldsTooMuch}
-use Rattle.cover_cli.specs.Made.{marking, IsMadeFrom, IsMadeBy, IsNodedFrom}
+use Rattle.cover_cli.specs.Made.{marking, IsMadeFrom, IsMadeBy, IsNodedFrom, IsListedFrom}
 use Rattle.cover_cli.specs.Refusal.{IsCause}
 use Rattle.cover_cli.specs.Validate.{Validates}
-use Rattle.cover_cli.specs.Words.{Operation, Validate, Node}
+use Rattle.cover_cli.specs.Words.{Operation, Validate, Node, Regions}
 use Rattle.cover_cli.specs.Written.{IsWritten, IsWrittenWhole, IsWrittenInPart}
 use Rattle.cover_cli.specs.declared.outcome.Outcome.{Outcome}
 use Rattle.cover_cli.specs.declared.outcome.Outcome.TheVariants.{Done, Marked, Usage, ReadFault, WriteFault, TooLong, BadText, NoMemory}
@@ -159,6 +159,14 @@ noding_made from to s made done from_file = record {
   members = from_file.members;
   input = from_file.input;
   writes = (let P : Outcome → Type 0 = λ p. Writes (Node from to) s p made.text.items in subst P (sym done) (record { members = from_file.members; input = from_file.input; noding = from_file.noding }));
+}
+
+-- what listing the regions made is what the operation writes
+pub listing_made : (from to : List ℕ) (s : State) (made : Made) → made.outcome ≡ Done → IsListedFrom from s made → IsMadeBy (Regions from to) s made
+listing_made from to s made done from_file = record {
+  members = from_file.members;
+  input = from_file.input;
+  writes = (let P : Outcome → Type 0 = λ p. Writes (Regions from to) s p made.text.items in subst P (sym done) (record { members = from_file.members; input = from_file.input; regions = from_file.regions }));
 }
 
 -- the file holds the same, seen from before the input was read

@@ -2,3 +2,5 @@ pub mod Marking
 pub mod Causes
 pub mod Listing
 pub mod Answering
+pub mod RegionRows
+pub mod Overlays

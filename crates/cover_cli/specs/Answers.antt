@@ -9,19 +9,22 @@ use Rattle.cover_cli.specs.declared.outcome.Outcome.{Outcome}
 use Rattle.cover_cli.specs.declared.outcome.Outcome.TheVariants.{Done, Marked, Usage, ReadFault, WriteFault, TooLong, BadText, NoMemory}
 use Rattle.cover_cli.specs.Input.{HoldsCoverage, HoldsFault, HoldsTooMuch}
 use Rattle.cover_cli.specs.Noding.{Nodes}
+use Rattle.cover_cli.specs.Regions.{ListsRegions}
 use Rattle.cover_cli.specs.Validate.{Validates}
-use Rattle.cover_cli.specs.Words.{Operation, Validate, Node}
+use Rattle.cover_cli.specs.Words.{Operation, Validate, Node, Regions}
 use Rattle.geo_text.specs.declared.error.TextFault.{TextFault}
 
 -- the name of the file that the operation reads
 abbrev pub input_of : Operation → List ℕ
 input_of (Validate from to) = from
 input_of (Node from to) = from
+input_of (Regions from to) = from
 
 -- the name of the file that the operation writes
 abbrev pub output_of : Operation → List ℕ
 output_of (Validate from to) = to
 output_of (Node from to) = to
+output_of (Regions from to) = to
 
 -- the output was written
 abbrev pub is_success : Outcome → Bool
@@ -39,6 +42,7 @@ abbrev pub Writes : Operation → State → Outcome → List ℕ → Type 0
 Writes (Validate from to) s Done text = Validates from s 0 text
 Writes (Validate from to) s (Marked edges) text = (1 ≤ edges) × Validates from s edges text
 Writes (Node from to) s Done text = Nodes from s text
+Writes (Regions from to) s Done text = ListsRegions from s text
 Writes operation s outcome text = ⊥
 
 -- the output holds the operation's whole text, and every other file is as it was

@@ -9,3 +9,5 @@ pub mod Made
 pub mod Answers
 pub mod Written
 pub mod Noding
+pub mod Rows
+pub mod Regions

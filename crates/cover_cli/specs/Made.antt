@@ -9,6 +9,7 @@ use Rattle.cover_cli.specs.declared.outcome.Outcome.TheVariants.{Done, Marked}
 use Rattle.cover_cli.specs.declared.validate.Made.{Made}
 use Rattle.cover_cli.specs.Input.{HoldsCoverage}
 use Rattle.cover_cli.specs.Noding.{IsNoding}
+use Rattle.cover_cli.specs.Regions.{IsRegionList}
 use Rattle.cover_cli.specs.Validate.{IsValidation}
 
 -- the outcome where so many segments are marked
@@ -39,3 +40,9 @@ pub record IsNodedFrom (from : List ℕ) (s : State) (made : Made) : Type 0 wher
   pub members : List (List (List (List Coord)))
   pub input : HoldsCoverage from s members
   pub noding : IsNoding members made.text.items
+
+-- it lists the regions of the coverage that the file of this name holds
+pub record IsListedFrom (from : List ℕ) (s : State) (made : Made) : Type 0 where
+  pub members : List (List (List (List Coord)))
+  pub input : HoldsCoverage from s members
+  pub regions : IsRegionList members made.text.items

@@ -6,6 +6,7 @@ use Rattle.std.specs.Str.{bytes_eq}
 pub data Operation : Type 0 where
   Validate : List ℕ → List ℕ → Operation
   Node : List ℕ → List ℕ → Operation
+  Regions : List ℕ → List ℕ → Operation
 
 -- a name is a word that doesn't begin with `-`
 abbrev pub is_name : List ℕ → Bool
@@ -17,7 +18,8 @@ abbrev pub operation_on : List ℕ → List ℕ → List ℕ → Option Operatio
 operation_on word from to =
     if bytes_eq word (codes "validate") then Some (Validate from to)
     else (if bytes_eq word (codes "node") then Some (Node from to)
-    else None)
+    else (if bytes_eq word (codes "regions") then Some (Regions from to)
+    else None))
 
 -- the operation that the words name, where they are accepted
 abbrev pub operation_of : List (List ℕ) → Option Operation

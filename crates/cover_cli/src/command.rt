@@ -5,6 +5,7 @@ ghost use Rattle.cover_cli.specs.Words.{operation_of};
 
 use crate::noding::node_file;
 use crate::outcome::Outcome;
+use crate::region_listing::regions_file;
 use crate::run::validate_file;
 use crate::words::{Operation, operation_named};
 use cov_io::Files;
@@ -26,5 +27,6 @@ pub fn cover<F: Files>(alloc: Global, words: &[String], files: &mut F) -> Outcom
         None => Outcome::Usage,
         Some(Operation::Validate { from, to }) => validate_file(alloc, files, from, to),
         Some(Operation::Node { from, to }) => node_file(alloc, files, from, to),
+        Some(Operation::Regions { from, to }) => regions_file(alloc, files, from, to),
     }
 }

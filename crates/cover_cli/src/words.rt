@@ -7,6 +7,7 @@ ghost use Rattle.cover_cli.specs.Named.{IsNamed};
 pub enum Operation<'a> {
     Validate { from: &'a str, to: &'a str },
     Node { from: &'a str, to: &'a str },
+    Regions { from: &'a str, to: &'a str },
 }
 
 // A name is a word that doesn't begin with `-`.
@@ -35,6 +36,9 @@ pub fn operation_named(words: &[String]) -> Option<Operation<'_>>
     }
     if word.as_str() == "node" {
         return Some(Operation::Node { from, to });
+    }
+    if word.as_str() == "regions" {
+        return Some(Operation::Regions { from, to });
     }
     None
 }

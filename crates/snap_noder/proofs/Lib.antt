@@ -1,8 +1,8 @@
 mod OddOrder
 mod Times
 mod Cancel
-mod Zip
+pub mod Zip
 mod Places
-mod ParityLemmas
+pub mod ParityLemmas
 mod LiveUses
 mod Snapping

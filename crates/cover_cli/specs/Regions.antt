@@ -1,0 +1,39 @@
+-- What listing the regions of a file writes.
+use Rattle.std.specs.Prelude.{◌≡◌, ◌⊎◌, ℕ, ◌*◌, ◌==◌, List, length, filter}
+use Rattle.std.specs.List.{AllZip, concat}
+use Rattle.cov_io.specs.State.{State}
+use Rattle.cov_types.specs.declared.coord.Coord.{Coord}
+use Rattle.cov_types.specs.Uses.{uses_of}
+use Rattle.plane.specs.Label.{numbers_below}
+use Rattle.plane.specs.Region.{IsOuterRegion}
+use Rattle.overlay.specs.Overlay.{Overlay, label_of}
+use Rattle.overlay.specs.Measure.{region_area2}
+use Rattle.overlay.specs.Cleaned.{IsSnappedOverlay}
+use Rattle.cover_cli.specs.Input.{HoldsCoverage}
+use Rattle.cover_cli.specs.Rows.{outer_row, inner_row}
+
+-- the numbers of the regions, ascending: each is that of the least side of its region
+abbrev pub region_numbers : Overlay → List ℕ
+region_numbers o = filter (λ r. o.number r == r) (numbers_below (2 * length o.edges))
+
+-- the line is the row of the region
+abbrev pub IsRow : Overlay → ℕ → List ℕ → Type 0
+IsRow o r line = (IsOuterRegion o.edges r × (line ≡ outer_row r)) ⊎ ((¬ IsOuterRegion o.edges r) × (line ≡ inner_row r (label_of o r) (region_area2 o r)))
+
+-- the text has a row for each of the regions, in their order
+pub record AreRows (o : Overlay) (regions : List ℕ) (text : List ℕ) : Type 0 where
+  pub rows : List (List ℕ)
+  pub each : AllZip (IsRow o) regions rows
+  pub lines : text ≡ concat rows
+
+-- the text lists the regions of the snapped members of the coverage
+pub record IsRegionList (members : List (List (List (List Coord)))) (text : List ℕ) : Type 0 where
+  pub overlay : Overlay
+  pub is_overlay : IsSnappedOverlay (uses_of members) (length members) overlay
+  pub rows : AreRows overlay (region_numbers overlay) text
+
+-- the file of this name is read as a coverage, and the text lists the regions of its snapped members
+pub record ListsRegions (from : List ℕ) (s : State) (text : List ℕ) : Type 0 where
+  pub members : List (List (List (List Coord)))
+  pub input : HoldsCoverage from s members
+  pub regions : IsRegionList members text

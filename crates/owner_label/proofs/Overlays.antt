@@ -5,7 +5,7 @@ use Rattle.std.specs.Global.{Vec}
 use Rattle.std.specs.Prelude.{All, flat_map, option_to_list}
 use Rattle.std.proofs.lemmas.Bool.{cases_lt, lt-ltb, le-ltb, ne_eqb, and_left, both_ways}
 use Rattle.std.proofs.lemmas.List.{append-nil}
-use Rattle.std.proofs.lemmas.List.Elements.{All-head, All-tail, Contains-get_or}
+use Rattle.std.proofs.lemmas.List.Elements.{All-nil, All-cons, All-weaker, All-head, All-tail, Contains-get_or}
 use Rattle.std.proofs.lemmas.List.Sums.{sum_by-cons}
 use Rattle.std.proofs.lemmas.Option.{slice_get-get_or}
 use Rattle.smallvec.specs.SmallVec.{SmallVec}
@@ -127,6 +127,20 @@ module _ (s : Sided) (sided : AreSided s) (o : Overlay) (overlay : IsOverlay (la
   labels_apart k inside same =
       sides_apart k inside (label_of o (o.number (2 * k))) (label_of o (o.number (2 * k + 1)))
       (λ e at. (side_label_at (2 * k) (upper e) (upper_side s.edges k e at), side_label_at (2 * k + 1) (lower e) (lower_side s.edges k e at))) same
+
+-- ---- there is such an overlay
+
+above_all : (odd : List OddUse) → (count : ℕ) × All (λ o. o.member < count) odd
+above_all [] = (0, All-nil (λ (o : OddUse). o.member < 0))
+above_all (o ∷ odd) =
+    let rest = above_all odd in
+    let count = rest.0 + suc o.member in
+    (count, All-cons (λ (p : OddUse). p.member < count) o odd (omega arith) (All-weaker (λ (p : OddUse). p.member < rest.0) (λ (p : OddUse). p.member < count) (λ p low. omega arith) odd rest.1))
+
+pub some_overlay : (s : Sided) → AreSided s → (o : Overlay) × IsOverlay (labelled_of s) o
+some_overlay s sided =
+    let above = above_all s.odd in
+    (record { edges = s.edges; uses = uses_of s; members = above.0; number = region_at s }, record { edges = refl; uses = refl; members = above.1; numbered = sided.numbered })
 
 -- ---- regions
 

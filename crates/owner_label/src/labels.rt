@@ -43,7 +43,7 @@ impl Model for Labels {
 
 impl Labels {
     /// The labels of the regions between the live edges. The outer region has the empty label, and over each edge the members change
-    /// that are odd for it. Takes time and memory in proportion to the edges and labels.
+    /// that are odd for it. Takes time and memory in proportion to the edges, the odd pairs and the lengths of the labels.
     pub fn build(alloc: Global, a: &Arena, r: &Regions, l: &LiveEdges) -> Result<Labels, NoMemory>
         requires arena { a.now ≡ l.now.edges.items }
         requires regions { r.now ≡ a.now }
@@ -62,6 +62,9 @@ impl Labels {
         ensures label { (o : Overlay) → IsOverlay self.now o → result.now ≡ label_of o region }
         ensures points { (o : Overlay) (p : Point) → IsOverlay self.now o → IsRegionOf self.now.edges p region → result.now ≡ label_at o.uses o.members p }
         ensures outer { IsOuterRegion self.now.edges region → result.now ≡ [] }
+
+        // There is such an overlay.
+        ensures some { (o : Overlay) × IsOverlay self.now o }
 
         // It differs from the label of each region over an edge.
         ensures sides { (o : Overlay) (other : ℕ) → IsOverlay self.now o → AreBeside o region other → ¬ (label_of o other ≡ result.now) }

@@ -1,5 +1,5 @@
 use Rattle.std.proofs.Common.{arith}
-use Rattle.owner_label.proofs.Overlays.{region_within, label_value, label_points, label_outer, label_differs}
+use Rattle.owner_label.proofs.Overlays.{region_within, label_value, label_points, label_outer, label_differs, some_overlay}
 use Rattle.owner_label.proofs.labels.Labels.label.Goals as goal
 
 pub index-requires : goal.index-requires
@@ -26,3 +26,6 @@ pub returns-clause-sides : goal.returns-clause-sides
 returns-clause-sides c =
     let region = rw (← c.self.view_is) at c.requires.region in
     rw (← c.self.view_is, c.deref.ensures) (label_differs c.self.inside.map c.self.invariant.sided _ c.self.invariant.labels c.args.region region _ c.index.ensures)
+
+pub returns-clause-some : goal.returns-clause-some
+returns-clause-some c = rw (← c.self.view_is) (some_overlay c.self.inside.map c.self.invariant.sided)

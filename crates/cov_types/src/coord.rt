@@ -2,7 +2,7 @@ ghost use Rattle.std.specs.Prelude.{IsTrue, ◌↔◌};
 ghost use Rattle.cov_types.specs.Range.{IsInRange};
 
 /// The greatest number that a coordinate in range may have, in grid units; the least is its negative.
-pub const LIMIT: i32 = 16_777_216;
+pub const LIMIT: i32 = 268_435_456;
 
 /// A grid point: its place in grid units, ordered by x, then y.
 #[derive(Clone, Copy, Debug, PartialEq, Eq, PartialOrd, Ord, Hash)]

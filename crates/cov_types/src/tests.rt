@@ -68,10 +68,10 @@ fn a_formed_coverage_has_three_points_in_each_ring(rt: HostRuntime) -> Result<()
 #[test]
 fn the_range_ends_at_the_limit(rt: HostRuntime) -> Result<(), Fail> {
     let alloc = rt.alloc();
-    assert_eq!(rt; LIMIT, 16777216);
-    assert!(rt; in_range(&coverage(alloc, &[(16777216, -16777216)])?));
-    assert!(rt; !in_range(&coverage(alloc, &[(16777217, 0)])?));
-    assert!(rt; !in_range(&coverage(alloc, &[(0, -16777217)])?));
+    assert_eq!(rt; LIMIT, 268435456);
+    assert!(rt; in_range(&coverage(alloc, &[(268435456, -268435456)])?));
+    assert!(rt; !in_range(&coverage(alloc, &[(268435457, 0)])?));
+    assert!(rt; !in_range(&coverage(alloc, &[(0, -268435457)])?));
     Ok(())
 }
 

@@ -10,14 +10,14 @@ use Rattle.cov_types.specs.declared.edge_use.EdgeUse.{EdgeUse}
 use Rattle.cov_types.specs.declared.seg.Seg.{Seg}
 use Rattle.plane.specs.Snapping.{chain_edges}
 use Rattle.plane.specs.Region.{AreRegions}
-use Rattle.crossings.specs.Across.{is_same_seg}
-use Rattle.crossings.proofs.Lists.{contains_here, contains_there}
-use Rattle.overlay.specs.declared.odd_use.OddUse.{OddUse}
-use Rattle.overlay.specs.Noding.{IsOdd, snapped_uses, AreLiveEdges, IsNoded, odd_uses}
-use Rattle.overlay.specs.Overlay.{Overlay}
-use Rattle.overlay.specs.Cleaned.{IsSnappedOverlay}
+use Rattle.crossing_laws.specs.Across.{is_same_seg}
+use Rattle.crossing_laws.proofs.Lists.{contains_here, contains_there}
+use Rattle.arrangement.specs.declared.odd_use.OddUse.{OddUse}
+use Rattle.arrangement.specs.Noding.{IsOdd, snapped_uses, AreLiveEdges, IsNoded, odd_uses}
+use Rattle.arrangement.specs.Overlay.{Overlay}
+use Rattle.arrangement.specs.Cleaned.{IsSnappedOverlay}
 use Rattle.owner_label.specs.Labelled.{Labelled, IsOverlay}
-use Rattle.overlay.proofs.OddUses.{some_passes, live_again_law}
+use Rattle.arrangement.proofs.OddUses.{some_passes, live_again_law}
 use Rattle.snap_noder.proofs.ParityLemmas.{contains_mapped}
 
 -- the overlay of live edges and their odd uses, with so many members and a numbering of the regions

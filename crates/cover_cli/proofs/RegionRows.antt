@@ -12,9 +12,9 @@ use Rattle.plane.specs.Label.{numbers_below}
 use Rattle.plane.specs.Point.{Point}
 use Rattle.plane.specs.Region.{IsSide, IsOuter, IsRegionOf, IsOuterRegion}
 use Rattle.plane.specs.Segment.{upper, lower}
-use Rattle.crossings.proofs.Located.{one_region}
-use Rattle.overlay.specs.Overlay.{Overlay, IsRegion, label_of}
-use Rattle.overlay.specs.Measure.{region_area2}
+use Rattle.crossing_laws.proofs.Located.{one_region}
+use Rattle.arrangement.specs.Overlay.{Overlay, IsRegion, label_of}
+use Rattle.arrangement.specs.Measure.{region_area2}
 use Rattle.owner_label.specs.Labelled.{Labelled, IsOverlay}
 use Rattle.snap_noder.proofs.Zip.{zip_push}
 use Rattle.cover_cli.specs.Regions.{IsRow, AreRows, region_numbers}

@@ -7,8 +7,8 @@ use Rattle.cov_types.specs.Uses.{uses_of}
 use Rattle.cov_write.specs.Written.{lines_text}
 use Rattle.cover_cli.specs.Input.{HoldsCoverage}
 use Rattle.cover_cli.specs.Lines.{member_lists}
-use Rattle.overlay.specs.Noding.{IsNoded, odd_uses}
-use Rattle.overlay.specs.declared.odd_use.OddUse.{OddUse}
+use Rattle.arrangement.specs.Noding.{IsNoded, odd_uses}
+use Rattle.arrangement.specs.declared.odd_use.OddUse.{OddUse}
 
 -- the text lists all noded edges of the coverage, and then for each member its odd edges
 pub record IsNoding (members : List (List (List (List Coord)))) (text : List ℕ) : Type 0 where

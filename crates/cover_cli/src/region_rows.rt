@@ -1,5 +1,5 @@
 ghost use Rattle.std.specs.Prelude.{◌≡◌, ◌++◌, List, ℕ, IfOk, OnOk};
-ghost use Rattle.overlay.specs.Overlay.{Overlay, IsRegion};
+ghost use Rattle.arrangement.specs.Overlay.{Overlay, IsRegion};
 ghost use Rattle.owner_label.specs.Labelled.{IsOverlay};
 ghost use Rattle.cover_cli.specs.Regions.{IsRow, AreRows, region_numbers};
 

@@ -14,12 +14,12 @@ use Rattle.cov_types.specs.declared.seg.Seg.{Seg}
 use Rattle.cov_types.specs.Coord.{is_before}
 use Rattle.cov_types.specs.contracts.coord.CoordPartialOrd.TheImpl.{partial_cmp-value}
 use Rattle.cov_types.proofs.Order.{is_before-irrefl, is_before-trans}
-use Rattle.connected.specs.declared.link.Link.{Link}
-use Rattle.connected.specs.Connected.{IsConnected, AreComponents}
-use Rattle.connected.specs.Spreading.{AreWithin}
-use Rattle.connected.proofs.Ways.{connected-within}
-use Rattle.connected.proofs.Numbers.{number-low, same_component, same_number}
-use Rattle.regions.specs.Linked.{IsNumberFrom}
+use Rattle.components.specs.declared.link.Link.{Link}
+use Rattle.components.specs.Connected.{IsConnected, AreComponents}
+use Rattle.components.specs.Spreading.{AreWithin}
+use Rattle.components.proofs.Ways.{connected-within}
+use Rattle.components.proofs.Numbers.{number-low, same_component, same_number}
+use Rattle.region_laws.specs.Linked.{IsNumberFrom}
 use Rattle.face_walk.specs.Cycles.{AreAlong, IsNoEarlier, IsFirstOfCycle, AreFirst, AreFirstAmong}
 use Rattle.face_walk.proofs.Places.{number_within, some_half_edge}
 use Rattle.face_walk.proofs.LinksDown.{BeginsAt}

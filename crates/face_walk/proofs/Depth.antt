@@ -3,9 +3,9 @@ use mathlib.Core.List.{[], ◌∷◌}
 use Rattle.std.proofs.Common.{◌≡◌, refl, sym, ◌∙◌, ap, subst, ◌^◌, ℤ, pos, ◌+ℤ◌, ◌-ℤ◌, ◌*ℤ◌, ◌<ℤ◌, int_lt, IsTrue, ◌↔◌, inl, inr, FitsSigned, to_z, of_z, lit<, arith}
 use Rattle.std.proofs.lemmas.Int.{to_z-of_z}
 use mir.Syntax.{w128}
-use Rattle.exact.proofs.Bound.{IsWithin, by_bound, within_fits, within_pos, within_sum, within_product}
-use Rattle.exact.proofs.Compare.{int_lt_is, lt_excludes_eq}
-use Rattle.exact.proofs.Ring.{lin, by_ring, Term, Var, ◌⊕◌, ◌⊖◌, ◌⊗◌}
+use Rattle.integer_laws.proofs.Bound.{IsWithin, by_bound, within_fits, within_pos, within_sum, within_product}
+use Rattle.integer_laws.proofs.Compare.{int_lt_is, lt_excludes_eq}
+use Rattle.integer_laws.proofs.Ring.{lin, by_ring, Term, Var, ◌⊕◌, ◌⊖◌, ◌⊗◌}
 use Rattle.cov_types.specs.declared.coord.Coord.{Coord}
 use Rattle.cov_types.specs.declared.seg.Seg.{Seg}
 use Rattle.cov_types.specs.Range.{IsInRange, IsSegInRange}
@@ -13,7 +13,7 @@ use Rattle.plane.specs.Point.{at_coord}
 use Rattle.plane.specs.Segment.{turn_of, side}
 use Rattle.plane.specs.Ray.{sweep}
 use Rattle.plane.proofs.Sides.{side-at_coord}
-use Rattle.regions.specs.Below.{sweep_rise, IsNearer}
+use Rattle.region_laws.specs.Below.{sweep_rise, IsNearer}
 
 -- a number as its bits are read again
 abbrev pub read : ℤ → ℤ

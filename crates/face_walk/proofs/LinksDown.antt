@@ -8,14 +8,14 @@ use Rattle.cov_types.specs.Coord.{is_before}
 use Rattle.cov_types.specs.Range.{IsInRange}
 use Rattle.cov_types.proofs.Equal.{Decides-same_coords}
 use Rattle.cov_types.proofs.Order.{cases_coords}
-use Rattle.connected.specs.Connected.{IsConnected}
-use Rattle.connected.proofs.Ways.{connected-same}
+use Rattle.components.specs.Connected.{IsConnected}
+use Rattle.components.proofs.Ways.{connected-same}
 use Rattle.plane.specs.Point.{at_coord}
-use Rattle.sectors.specs.Sector.{HalfEdge, origin, twin, is_before_by_angle, IsHalfEdge, IsNext, IsNextNumber, IsPlanar, AreDistinct}
-use Rattle.sectors.proofs.Next.{next_of_one}
-use Rattle.sectors.proofs.Numbers.{forwards_number, half_edge_among, one_half_edge, one_number}
-use Rattle.regions.specs.Below.{IsNearestBelow, HasNoneBelow}
-use Rattle.regions.specs.Linked.{IsNumberOverRay, IsNumberFrom}
+use Rattle.sector_laws.specs.Sector.{HalfEdge, origin, twin, is_before_by_angle, IsHalfEdge, IsNext, IsNextNumber, IsPlanar, AreDistinct}
+use Rattle.sector_laws.proofs.Next.{next_of_one}
+use Rattle.sector_laws.proofs.Numbers.{forwards_number, half_edge_among, one_half_edge, one_number}
+use Rattle.region_laws.specs.Below.{IsNearestBelow, HasNoneBelow}
+use Rattle.region_laws.specs.Linked.{IsNumberOverRay, IsNumberFrom}
 use Rattle.face_walk.specs.Cycles.{IsFirstOfCycle}
 use Rattle.face_walk.specs.Links.{IsOver, IsLinkBelow, IsLinkAfter, AnswersLinkDown}
 use Rattle.face_walk.specs.Nearest.{IsNearestAt}

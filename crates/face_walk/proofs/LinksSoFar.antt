@@ -6,11 +6,11 @@ use Rattle.std.proofs.lemmas.Option.{same_Some, none-some}
 use Rattle.std.proofs.lemmas.List.Elements.{Contains-push, Contains-push_cases, Contains-append_left}
 use Rattle.cov_types.specs.declared.coord.Coord.{Coord}
 use Rattle.cov_types.specs.declared.seg.Seg.{Seg}
-use Rattle.connected.specs.declared.link.Link.{Link}
-use Rattle.connected.specs.Connected.{LeadsAlong}
-use Rattle.sectors.specs.Sector.{IsNextNumber}
-use Rattle.sectors.proofs.Numbers.{some_number}
-use Rattle.regions.specs.Linked.{IsNumberOverRay}
+use Rattle.components.specs.declared.link.Link.{Link}
+use Rattle.components.specs.Connected.{LeadsAlong}
+use Rattle.sector_laws.specs.Sector.{IsNextNumber}
+use Rattle.sector_laws.proofs.Numbers.{some_number}
+use Rattle.region_laws.specs.Linked.{IsNumberOverRay}
 use Rattle.face_walk.specs.Cycles.{AreAlong, AreFirst}
 use Rattle.face_walk.specs.Links.{IsLinkBelow, IsLink, LeavesEarlier, AnswersLinkDown, AreLinks}
 use Rattle.face_walk.proofs.Places.{number_within}

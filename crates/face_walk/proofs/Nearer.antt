@@ -4,20 +4,20 @@ use Rattle.std.proofs.Common.{◌≡◌, sym, subst, ℕ, ◌<◌, length, get_o
 use Rattle.std.proofs.lemmas.List.Elements.{All-contains, Contains-get_or}
 use Rattle.cov_types.specs.declared.seg.Seg.{Seg}
 use Rattle.cov_types.specs.Range.{IsSegInRange}
-use Rattle.exact.proofs.Ring.{lin}
-use Rattle.exact.proofs.Sign.{positive_times_positive, positive_factor}
+use Rattle.integer_laws.proofs.Ring.{lin}
+use Rattle.integer_laws.proofs.Sign.{positive_times_positive, positive_factor}
 use Rattle.plane.specs.Point.{Point, at_coord}
 use Rattle.plane.specs.Segment.{side}
 use Rattle.plane.specs.Ray.{sweep}
 use Rattle.plane.proofs.Points.{d_positive}
 use Rattle.plane.proofs.Sweeps.{rises-in_range}
-use Rattle.crossings.proofs.Lists.{contains_here, contains_there}
-use Rattle.sectors.specs.Sector.{IsPlanar}
-use Rattle.regions.specs.Below.{is_under, IsBelow, sweep_rise, IsNearer, IsNearestBelow}
-use Rattle.regions.proofs.Down.{tie}
-use Rattle.regions.proofs.Edge.{under-is}
-use Rattle.regions.proofs.Nearest.{nearest_or_none}
-use Rattle.regions.proofs.Balance.{first_or_later}
+use Rattle.crossing_laws.proofs.Lists.{contains_here, contains_there}
+use Rattle.sector_laws.specs.Sector.{IsPlanar}
+use Rattle.region_laws.specs.Below.{is_under, IsBelow, sweep_rise, IsNearer, IsNearestBelow}
+use Rattle.region_laws.proofs.Down.{tie}
+use Rattle.region_laws.proofs.Edge.{under-is}
+use Rattle.region_laws.proofs.Nearest.{nearest_or_none}
+use Rattle.region_laws.proofs.Balance.{first_or_later}
 
 -- ---- not both are nearer
 

@@ -2,22 +2,22 @@
 use mathlib.Core.List.{List, []}
 use Rattle.std.proofs.Common.{◌≡◌, refl, subst, ℕ, ◌+◌, ◌*◌, ◌<◌, ◌≤◌, length, slice_index, Contains, inl, inr, arith}
 use Rattle.cov_types.specs.declared.seg.Seg.{Seg}
-use Rattle.connected.specs.declared.link.Link.{Link}
-use Rattle.connected.specs.Connected.{IsConnected, AreComponents}
-use Rattle.connected.specs.Spreading.{AreWithin}
-use Rattle.connected.proofs.Numbers.{same_component}
-use Rattle.connected.proofs.Ways.{connected-tied, connected-within}
+use Rattle.components.specs.declared.link.Link.{Link}
+use Rattle.components.specs.Connected.{IsConnected, AreComponents}
+use Rattle.components.specs.Spreading.{AreWithin}
+use Rattle.components.proofs.Numbers.{same_component}
+use Rattle.components.proofs.Ways.{connected-tied, connected-within}
 use Rattle.plane.specs.Point.{Point}
 use Rattle.plane.specs.Joined.{Joined}
 use Rattle.plane.specs.Region.{far_point, IsSide, IsOuter, IsJoinedSide, IsRegionOf, AreRegions}
-use Rattle.crossings.proofs.Located.{region-joined}
-use Rattle.crossings.proofs.Ways.{joined-trans, joined-sym}
-use Rattle.sectors.specs.Sector.{left, IsPlanar, AreDistinct}
-use Rattle.sectors.proofs.Numbers.{some_number, half_edge_among, half_edge_side}
-use Rattle.regions.specs.Linked.{IsWalk}
-use Rattle.regions.proofs.Links.{link_out}
-use Rattle.regions.proofs.Numbered.{fewer_links_regions, outer_number}
-use Rattle.regions.proofs.Outwards.{some_out}
+use Rattle.crossing_laws.proofs.Located.{region-joined}
+use Rattle.crossing_laws.proofs.Ways.{joined-trans, joined-sym}
+use Rattle.sector_laws.specs.Sector.{left, IsPlanar, AreDistinct}
+use Rattle.sector_laws.proofs.Numbers.{some_number, half_edge_among, half_edge_side}
+use Rattle.region_laws.specs.Linked.{IsWalk}
+use Rattle.region_laws.proofs.Links.{link_out}
+use Rattle.region_laws.proofs.Numbered.{fewer_links_regions, outer_number}
+use Rattle.region_laws.proofs.Outwards.{some_out}
 use Rattle.face_walk.specs.Links.{AreLinks}
 use Rattle.face_walk.specs.Numbers.{IsOutermost, AreNumbered}
 use Rattle.face_walk.proofs.Places.{number_within, some_half_edge, some_side, side_within, side-joined_itself, link_within, links_within, way_joined}

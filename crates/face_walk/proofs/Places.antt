@@ -4,20 +4,20 @@ use Rattle.std.proofs.Common.{◌≡◌, refl, sym, ◌∙◌, subst, ℕ, zero,
 use Rattle.std.proofs.lemmas.Bool.{cases_lt}
 use Rattle.std.proofs.lemmas.Option.{slice_get_within}
 use Rattle.cov_types.specs.declared.seg.Seg.{Seg}
-use Rattle.connected.specs.declared.link.Link.{Link}
-use Rattle.connected.specs.Connected.{IsTied, LeadsAlong}
-use Rattle.connected.specs.Spreading.{AreWithin}
+use Rattle.components.specs.declared.link.Link.{Link}
+use Rattle.components.specs.Connected.{IsTied, LeadsAlong}
+use Rattle.components.specs.Spreading.{AreWithin}
 use Rattle.std.proofs.lemmas.List.Elements.{Contains-get_or}
 use Rattle.plane.specs.Point.{Point}
 use Rattle.plane.specs.Joined.{IsOff, Joined}
 use Rattle.plane.specs.Region.{far_point, IsSide}
-use Rattle.crossings.proofs.Ways.{joined-trans, joined-sym, joined-refl, joined_off}
-use Rattle.sectors.specs.Sector.{HalfEdge, half_edges, left, IsHalfEdge, IsPlanar}
-use Rattle.sectors.proofs.Exists.{some_next}
-use Rattle.sectors.proofs.Numbers.{half_edge_side}
-use Rattle.sectors.proofs.Sectors.{next_joined}
-use Rattle.regions.proofs.Links.{linked_joined, out_side}
-use Rattle.regions.proofs.Numbered.{side_half_edge}
+use Rattle.crossing_laws.proofs.Ways.{joined-trans, joined-sym, joined-refl, joined_off}
+use Rattle.sector_laws.specs.Sector.{HalfEdge, half_edges, left, IsHalfEdge, IsPlanar}
+use Rattle.sector_laws.proofs.Exists.{some_next}
+use Rattle.sector_laws.proofs.Numbers.{half_edge_side}
+use Rattle.sector_laws.proofs.Sectors.{next_joined}
+use Rattle.region_laws.proofs.Links.{linked_joined, out_side}
+use Rattle.region_laws.proofs.Numbered.{side_half_edge}
 use Rattle.face_walk.specs.Links.{IsLink, AreLinks}
 
 -- ---- the numbers of sides

@@ -10,8 +10,8 @@ use Rattle.plane.specs.Label.{numbers_below}
 use Rattle.plane.specs.Point.{Point}
 use Rattle.plane.specs.Joined.{Joined}
 use Rattle.plane.specs.Region.{IsSide, IsRegionOf, AreRegions}
-use Rattle.crossings.proofs.Located.{region-joined, same_region}
-use Rattle.regions.proofs.Numbered.{one_numbering}
+use Rattle.crossing_laws.proofs.Located.{region-joined, same_region}
+use Rattle.region_laws.proofs.Numbered.{one_numbering}
 use Rattle.face_walk.specs.Numbers.{IsOutermost, AreNumbered}
 use Rattle.face_walk.proofs.Places.{some_side}
 

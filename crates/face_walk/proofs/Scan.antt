@@ -5,8 +5,8 @@ use Rattle.std.proofs.lemmas.Bool.{cases_lt}
 use Rattle.std.proofs.lemmas.Option.{same_Some, slice_get_within, slice_get-get_or, get_or_from_slice_get}
 use Rattle.cov_types.specs.declared.seg.Seg.{Seg}
 use Rattle.plane.specs.Point.{Point}
-use Rattle.sectors.specs.Sector.{IsPlanar}
-use Rattle.regions.specs.Below.{is_under, IsBelow, IsNearer, HasNoneBelow}
+use Rattle.sector_laws.specs.Sector.{IsPlanar}
+use Rattle.region_laws.specs.Below.{is_under, IsBelow, IsNearer, HasNoneBelow}
 use Rattle.face_walk.specs.Nearest.{IsNearestAt, IsBestOfFirst, IsNearestOfFirst}
 use Rattle.face_walk.proofs.Nearer.{nearer-total, nearer-trans}
 

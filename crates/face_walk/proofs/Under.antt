@@ -2,7 +2,7 @@
 use Rattle.std.proofs.Common.{◌≡◌, refl, sym, ◌∙◌, ap, Bool, true, false, not, ◌&&◌, IsTrue, int_lt, ℤ, pos, arith}
 use Rattle.std.proofs.lemmas.Int.{ints}
 use Rattle.std.specs.Ordering.{partial_le, partial_lt}
-use Rattle.exact.proofs.Ring.{lin, mul_one}
+use Rattle.integer_laws.proofs.Ring.{lin, mul_one}
 use Rattle.cov_types.specs.declared.coord.Coord.{Coord}
 use Rattle.cov_types.specs.declared.seg.Seg.{Seg}
 use Rattle.cov_types.specs.Coord.{is_before}
@@ -12,7 +12,7 @@ use Rattle.plane.specs.Point.{at_coord}
 use Rattle.plane.specs.Segment.{turn_of, side}
 use Rattle.plane.specs.Ray.{sweep, sweep_below}
 use Rattle.plane.proofs.Sweeps.{sweep-before, before-sweep, sweep_below-is}
-use Rattle.regions.specs.Below.{is_under}
+use Rattle.region_laws.specs.Below.{is_under}
 use Rattle.face_walk.proofs.Depth.{read, turn_is}
 
 -- what `<` and `<=` answer

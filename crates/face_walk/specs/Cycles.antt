@@ -3,10 +3,10 @@ use Rattle.std.specs.Prelude.{◌≡◌, ◌⊎◌, ◌↔◌, ℕ, ◌*◌, ◌
 use Rattle.cov_types.specs.declared.coord.Coord.{Coord}
 use Rattle.cov_types.specs.declared.seg.Seg.{Seg}
 use Rattle.cov_types.specs.Coord.{is_before}
-use Rattle.connected.specs.declared.link.Link.{Link}
-use Rattle.connected.specs.Connected.{IsConnected}
-use Rattle.sectors.specs.Sector.{IsNextNumber}
-use Rattle.regions.specs.Linked.{IsNumberFrom}
+use Rattle.components.specs.declared.link.Link.{Link}
+use Rattle.components.specs.Connected.{IsConnected}
+use Rattle.sector_laws.specs.Sector.{IsNextNumber}
+use Rattle.region_laws.specs.Linked.{IsNumberFrom}
 
 -- the links lead from each half-edge to the one that follows it
 abbrev pub AreAlong : List Seg → List Link → Type 0

@@ -3,10 +3,10 @@ use Rattle.std.specs.Prelude.{◌≡◌, ◌⊎◌, ℕ, ◌*◌, List, length, 
 use Rattle.cov_types.specs.declared.coord.Coord.{Coord}
 use Rattle.cov_types.specs.declared.seg.Seg.{Seg}
 use Rattle.cov_types.specs.Coord.{is_before}
-use Rattle.connected.specs.declared.link.Link.{Link}
-use Rattle.connected.specs.Connected.{IsConnected}
-use Rattle.sectors.specs.Sector.{IsNextNumber}
-use Rattle.regions.specs.Linked.{IsNumberOverRay, IsLinkDown, IsLinkOut, IsNumberFrom}
+use Rattle.components.specs.declared.link.Link.{Link}
+use Rattle.components.specs.Connected.{IsConnected}
+use Rattle.sector_laws.specs.Sector.{IsNextNumber}
+use Rattle.region_laws.specs.Linked.{IsNumberOverRay, IsLinkDown, IsLinkOut, IsNumberFrom}
 use Rattle.face_walk.specs.Cycles.{AreFirst}
 
 -- the half-edge with the number leaves a vertex over the ray

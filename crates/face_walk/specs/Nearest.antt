@@ -2,7 +2,7 @@
 use Rattle.std.specs.Prelude.{◌≡◌, ◌⊎◌, ℕ, ◌<◌, List, Option, Some, None, slice_get, IsTrue}
 use Rattle.cov_types.specs.declared.seg.Seg.{Seg}
 use Rattle.plane.specs.Point.{Point}
-use Rattle.regions.specs.Below.{is_under, IsNearer, IsNearestBelow}
+use Rattle.region_laws.specs.Below.{is_under, IsNearer, IsNearestBelow}
 
 -- the edge at the place is the nearest below p
 pub record IsNearestAt (edges : List Seg) (p : Point) (place : ℕ) : Type 0 where

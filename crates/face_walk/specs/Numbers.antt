@@ -3,7 +3,7 @@ use Rattle.std.specs.Prelude.{◌≡◌, ℕ, ◌+◌, ◌*◌, ◌<◌, ◌≤�
 use Rattle.cov_types.specs.declared.seg.Seg.{Seg}
 use Rattle.plane.specs.Point.{Point}
 use Rattle.plane.specs.Region.{IsOuter, IsRegionOf, IsOuterRegion, AreRegions}
-use Rattle.sectors.specs.Sector.{IsPlanar, AreDistinct}
+use Rattle.sector_laws.specs.Sector.{IsPlanar, AreDistinct}
 
 -- the region is outer, and that of each outer point
 pub record IsOutermost (edges : List Seg) (r : ℕ) : Type 0 where

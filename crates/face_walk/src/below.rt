@@ -1,10 +1,10 @@
 ghost use Rattle.std.specs.Prelude.{◌≡◌, ◌+◌, ◌^◌, ◌*ℤ◌, ◌-ℤ◌, ◌<◌, length, IsTrue, ◌↔◌, IfSome, IfNone};
-ghost use Rattle.exact.specs.Bound.{IsWithin};
+ghost use Rattle.integer_laws.specs.Bound.{IsWithin};
 ghost use Rattle.cov_types.specs.Range.{IsInRange, IsSegInRange};
 ghost use Rattle.plane.specs.Point.{at_coord};
 ghost use Rattle.plane.specs.Segment.{side};
-ghost use Rattle.sectors.specs.Sector.{IsPlanar};
-ghost use Rattle.regions.specs.Below.{is_under, sweep_rise, IsNearer, HasNoneBelow};
+ghost use Rattle.sector_laws.specs.Sector.{IsPlanar};
+ghost use Rattle.region_laws.specs.Below.{is_under, sweep_rise, IsNearer, HasNoneBelow};
 ghost use Rattle.face_walk.specs.Nearest.{IsNearestAt, IsNearestOfFirst};
 
 use cov_types::{Coord, Seg};

@@ -1,7 +1,7 @@
 ghost use Rattle.std.specs.Prelude.{◌≡◌, ◌*◌, ◌<◌, length, All, IfOk};
 ghost use Rattle.face_walk.specs.Cycles.{AreAlong, AreFirst, AreFirstAmong};
 
-use connected::{Link, components};
+use components::{Link, components};
 use cov_types::NoMemory;
 use half_edge::Arena;
 use std::alloc::Global;

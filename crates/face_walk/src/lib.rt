@@ -8,7 +8,7 @@
 //! vertex, or to the place past the range. The regions are the connected components, each with its least side.
 //!
 //! These links are enough: a side that leaves a vertex over the ray is linked down from there, or has a side of the same cycle that
-//! leaves an earlier vertex (`IsWalk` of `regions`). They are few: of the cycles of one connected piece of the drawing only the one
+//! leaves an earlier vertex (`IsWalk` of `region_laws`). They are few: of the cycles of one connected piece of the drawing only the one
 //! round its outside opens down at its least vertex, so all edges are looked at once for each piece. No clause tells of the time.
 //!
 //! A crate above takes a lemma by `use Rattle.face_walk.proofs.FILE.{NAME}` in its `proofs/`. The files, lowest first:

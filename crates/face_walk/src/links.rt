@@ -1,11 +1,11 @@
 ghost use Rattle.std.specs.Prelude.{◌≡◌, ◌*◌, ◌<◌, ◌↔◌, ℕ, length, All, IfOk};
-ghost use Rattle.sectors.specs.Sector.{IsPlanar, AreDistinct};
+ghost use Rattle.sector_laws.specs.Sector.{IsPlanar, AreDistinct};
 ghost use Rattle.face_walk.specs.Cycles.{AreAlong};
 ghost use Rattle.face_walk.specs.Links.{IsOver, IsLinkBelow, AnswersLinkDown, AreLinks};
 
 use crate::below::nearest_below;
 use crate::cycle::first_of_cycles;
-use connected::Link;
+use components::Link;
 use cov_types::{NoMemory, Seg};
 use half_edge::Arena;
 use std::alloc::Global;

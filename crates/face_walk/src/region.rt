@@ -4,11 +4,11 @@ ghost use Rattle.plane.specs.Joined.{Joined};
 ghost use Rattle.plane.specs.Label.{numbers_below};
 ghost use Rattle.plane.specs.Point.{Point};
 ghost use Rattle.plane.specs.Region.{IsSide, IsOuter, IsRegionOf, IsOuterRegion, AreRegions};
-ghost use Rattle.sectors.specs.Sector.{IsPlanar, AreDistinct};
+ghost use Rattle.sector_laws.specs.Sector.{IsPlanar, AreDistinct};
 ghost use Rattle.face_walk.specs.Numbers.{AreNumbered};
 
 use crate::links::links;
-use connected::components;
+use components::components;
 use cov_types::{NoMemory, Seg};
 use half_edge::Arena;
 use std::alloc::Global;

@@ -19,14 +19,14 @@ use Rattle.geo_text.proofs.Keeping.{read_value, is_whole, whole_from, fault_of_n
 -- ---- range
 
 pub limit_small : (z : ℤ) → is_in_range z ≡ true → limit CAP z ≡ z
-limit_small (pos n) e = let h : n ≤ 16777217 = grind (arith, ints) in ap pos (capped-small CAP n h)
-limit_small (negsuc n) e = let h : suc n ≤ 16777217 = grind (arith, ints) in ap (λ k. neg_ℤ (pos k)) (capped-small CAP (suc n) h)
+limit_small (pos n) e = let h : n ≤ 268435457 = grind (arith, ints) in ap pos (capped-small CAP n h)
+limit_small (negsuc n) e = let h : suc n ≤ 268435457 = grind (arith, ints) in ap (λ k. neg_ℤ (pos k)) (capped-small CAP (suc n) h)
 
-leb-capped : (n : ℕ) → leb (capped CAP n) 16777216 ≡ leb n 16777216
+leb-capped : (n : ℕ) → leb (capped CAP n) 268435456 ≡ leb n 268435456
 leb-capped n = grind (arith, nat_tests)
 
 -- a negative number is in range by its size
-below_is : (n : ℕ) → is_in_range (neg_ℤ (pos n)) ≡ leb n 16777216
+below_is : (n : ℕ) → is_in_range (neg_ℤ (pos n)) ≡ leb n 268435456
 below_is zero = refl
 below_is (suc n) = grind (arith, nat_tests)
 

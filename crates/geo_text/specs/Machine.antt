@@ -265,7 +265,7 @@ number_begun cap a b = if b == 45 then Some (no_number a true) else (if b == 43 
 
 -- a number's size is at most one past the range
 abbrev pub IsCapped : Number → Type 0
-IsCapped n = n.size ≤ 16777217
+IsCapped n = n.size ≤ 268435457
 
 -- ---- lexemes
 

@@ -2,7 +2,7 @@ ghost use Rattle.std.specs.Prelude.{◌≡◌, IfSome, IsTrue};
 ghost use Rattle.geo_text.specs.Token.{is_digit, signed};
 
 /// One past the greatest size of a number in range.
-pub(crate) const CAP: u32 = 16_777_217;
+pub(crate) const CAP: u32 = 268_435_457;
 
 /// A number that is being typed.
 #[derive(Clone, Copy, Debug, PartialEq, Eq)]

@@ -3,8 +3,8 @@ use Rattle.std.proofs.Common.{◌≡◌, ◌⊎◌, inl, inr, refl, sym, ◌∙�
 use Rattle.std.proofs.lemmas.Int.{to_z-of_z}
 use Rattle.std.specs.Ordering.{partial_lt}
 use mir.Syntax.{w128}
-use Rattle.exact.proofs.Ring.{lin}
-use Rattle.exact.proofs.Compare.{lt_or_ge, le_cases}
+use Rattle.integer_laws.proofs.Ring.{lin}
+use Rattle.integer_laws.proofs.Compare.{lt_or_ge, le_cases}
 use Rattle.cov_types.specs.declared.coord.Coord.{Coord}
 use Rattle.cov_types.specs.declared.seg.Seg.{Seg}
 use Rattle.cov_types.specs.Range.{IsSegInRange, IsInRange}

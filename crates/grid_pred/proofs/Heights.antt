@@ -5,10 +5,10 @@ use Rattle.std.proofs.lemmas.Int.{to_z-of_z}
 use Rattle.std.proofs.lemmas.Cmp.{int_ranked}
 use Rattle.std.specs.Ordering.{MatchOrdering}
 use mir.Syntax.{w128}
-use Rattle.exact.proofs.Ring.{lin, by_one, by_two, Term, Var, Lit, ◌⊕◌, ◌⊖◌, ◌⊗◌, mul_zero, mul_one, one_mul}
-use Rattle.exact.proofs.Compare.{lt_irrefl, lt_trans, lt_excludes_eq}
-use Rattle.exact.proofs.Cast.{natural}
-use Rattle.exact.proofs.Sign.{positive_times_positive, positive_times_negative, positive_factor, negative_factor}
+use Rattle.integer_laws.proofs.Ring.{lin, by_one, by_two, Term, Var, Lit, ◌⊕◌, ◌⊖◌, ◌⊗◌, mul_zero, mul_one, one_mul}
+use Rattle.integer_laws.proofs.Compare.{lt_irrefl, lt_trans, lt_excludes_eq}
+use Rattle.integer_laws.proofs.Cast.{natural}
+use Rattle.integer_laws.proofs.Sign.{positive_times_positive, positive_times_negative, positive_factor, negative_factor}
 use Rattle.cov_types.specs.declared.coord.Coord.{Coord}
 use Rattle.cov_types.specs.declared.seg.Seg.{Seg}
 use Rattle.plane.specs.Point.{Point, at_coord}

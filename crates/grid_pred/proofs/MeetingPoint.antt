@@ -3,11 +3,11 @@ use mathlib.Core.List.{[], ◌∷◌}
 use Rattle.std.proofs.Common.{◌≡◌, inl, inr, sym, ◌∙◌, ap, refl, ℕ, ◌^◌, ℤ, pos, neg_ℤ, ◌+ℤ◌, ◌-ℤ◌, ◌*ℤ◌, ◌<ℤ◌, ◌≤ℤ◌, unsigned_abs, subst, FitsSigned, lit<, arith}
 use Rattle.std.proofs.lemmas.Int.{to_z-of_z}
 use mir.Syntax.{w128}
-use Rattle.exact.proofs.Ring.{lin, by_three, Term, Var, Lit, ◌⊕◌, ◌⊖◌, ◌⊗◌, Neg, mul_add, mul_comm}
-use Rattle.exact.proofs.Cast.{int_casts, positive_natural}
-use Rattle.exact.proofs.Compare.{le_cases, le_of_lt, apart_cases}
-use Rattle.exact.proofs.Order.{mul_le, cancel_lt_right}
-use Rattle.exact.proofs.Bound.{IsWithin, by_bound, within_fits, within_neg, abs_within}
+use Rattle.integer_laws.proofs.Ring.{lin, by_three, Term, Var, Lit, ◌⊕◌, ◌⊖◌, ◌⊗◌, Neg, mul_add, mul_comm}
+use Rattle.integer_laws.proofs.Cast.{int_casts, positive_natural}
+use Rattle.integer_laws.proofs.Compare.{le_cases, le_of_lt, apart_cases}
+use Rattle.integer_laws.proofs.Order.{mul_le, cancel_lt_right}
+use Rattle.integer_laws.proofs.Bound.{IsWithin, by_bound, within_fits, within_neg, abs_within}
 use Rattle.cov_types.specs.declared.coord.TheConstants.{LIMIT}
 use Rattle.cov_types.specs.declared.coord.Coord.{Coord}
 use Rattle.cov_types.specs.declared.seg.Seg.{Seg}

@@ -3,8 +3,8 @@ use Rattle.std.proofs.Common.{◌≡◌, sym, ◌∙◌, ap, ℤ, pos, ◌≤ℤ
 use Rattle.std.proofs.lemmas.Int.{ints}
 use Rattle.std.specs.Ordering.{partial_le, partial_lt}
 use mir.Syntax.{w128}
-use Rattle.exact.proofs.Ring.{lin}
-use Rattle.exact.proofs.Compare.{lt_or_ge}
+use Rattle.integer_laws.proofs.Ring.{lin}
+use Rattle.integer_laws.proofs.Compare.{lt_or_ge}
 use Rattle.cov_types.specs.declared.coord.Coord.{Coord}
 use Rattle.cov_types.specs.declared.seg.Seg.{Seg}
 use Rattle.cov_types.specs.Coord.{is_before}

@@ -2,8 +2,8 @@
 use Rattle.std.proofs.Common.{◌≡◌, sym, subst, ap, ◌^◌, ℤ, ◌-ℤ◌, ◌*ℤ◌, FitsSigned, to_z, of_z, lit<, arith}
 use Rattle.std.proofs.lemmas.Int.{to_z-of_z}
 use mir.Syntax.{w128}
-use Rattle.exact.proofs.Ring.{lin}
-use Rattle.exact.proofs.Bound.{IsWithin, within_product, within_difference, within_fits}
+use Rattle.integer_laws.proofs.Ring.{lin}
+use Rattle.integer_laws.proofs.Bound.{IsWithin, within_product, within_difference, within_fits}
 
 -- a number as its bits are read again
 abbrev pub read : ℤ → ℤ

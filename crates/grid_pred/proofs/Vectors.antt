@@ -1,8 +1,8 @@
 -- Whether an edge is over a point, from the vectors that lead from its ends to the point.
 use mathlib.Core.List.{[], ◌∷◌}
 use Rattle.std.proofs.Common.{◌≡◌, refl, sym, ◌∙◌, ◌^◌, Bool, true, false, IsTrue, ℤ, pos, ◌+ℤ◌, ◌-ℤ◌, ◌*ℤ◌, ◌<ℤ◌, ◌≤ℤ◌, int_lt, arith}
-use Rattle.exact.proofs.Ring.{lin, by_ring, Var, ◌⊕◌, ◌⊖◌, ◌⊗◌}
-use Rattle.exact.proofs.Compare.{int_lt_is}
+use Rattle.integer_laws.proofs.Ring.{lin, by_ring, Var, ◌⊕◌, ◌⊖◌, ◌⊗◌}
+use Rattle.integer_laws.proofs.Compare.{int_lt_is}
 use Rattle.cov_types.specs.declared.coord.Coord.{Coord}
 use Rattle.cov_types.specs.declared.seg.Seg.{Seg}
 use Rattle.plane.specs.Point.{Point, at_coord}

@@ -2,7 +2,7 @@
 use Rattle.std.proofs.Common.{◌≡◌, sym, subst, ◌^◌, ℤ, ◌+ℤ◌, ◌*ℤ◌, FitsSigned, to_z, of_z, lit<}
 use Rattle.std.proofs.lemmas.Int.{to_z-of_z}
 use mir.Syntax.{w32, w128}
-use Rattle.exact.proofs.Bound.{IsWithin, within_product, within_sum, within_fits}
+use Rattle.integer_laws.proofs.Bound.{IsWithin, within_product, within_sum, within_fits}
 use Rattle.grid_pred.proofs.Small.{read}
 
 -- a number of 32 bits as it is read in 128

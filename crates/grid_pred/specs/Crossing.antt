@@ -1,6 +1,6 @@
 -- The point in which two segments cross.
 use Rattle.std.specs.Prelude.{pos, neg_ℤ, ◌*ℤ◌, ◌≤ℤ◌, ◌^◌}
-use Rattle.exact.proofs.Cast.{positive_natural}
+use Rattle.integer_laws.proofs.Cast.{positive_natural}
 use Rattle.cov_types.specs.declared.coord.TheConstants.{LIMIT}
 use Rattle.cov_types.specs.declared.seg.Seg.{Seg}
 use Rattle.plane.specs.Point.{Point}

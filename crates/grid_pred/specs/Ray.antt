@@ -1,6 +1,6 @@
 -- Rational points and vectors of the code, whose numbers are small enough for 128 bits.
 use Rattle.std.specs.Prelude.{◌≡◌, ◌^◌, pos}
-use Rattle.exact.specs.Bound.{IsWithin}
+use Rattle.integer_laws.specs.Bound.{IsWithin}
 use Rattle.grid_pred.specs.declared.ray.RationalPoint.{RationalPoint}
 use Rattle.grid_pred.specs.declared.ray.Vector.{Vector}
 use Rattle.plane.specs.Point.{Point}

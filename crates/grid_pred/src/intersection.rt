@@ -1,5 +1,5 @@
 ghost use Rattle.std.specs.Prelude.{◌≡◌, ◌≤ℤ◌, ◌<ℤ◌, ◌+ℤ◌, ◌*ℤ◌, pos, ◌^◌, unsigned_abs, IsTrue, IsSome, IfSome, ◌↔◌};
-ghost use Rattle.exact.specs.Bound.{IsWithin};
+ghost use Rattle.integer_laws.specs.Bound.{IsWithin};
 ghost use Rattle.cov_types.specs.Range.{IsInRange, IsSegInRange};
 ghost use Rattle.plane.specs.Contact.{IsContact};
 ghost use Rattle.plane.specs.Segment.{turn_of};

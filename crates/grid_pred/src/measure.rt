@@ -1,5 +1,5 @@
 ghost use Rattle.std.specs.Prelude.{◌≡◌, ◌≤◌, ◌*◌, ◌^◌, ◌-ℤ◌, unsigned_abs};
-ghost use Rattle.exact.specs.Bound.{IsWithin};
+ghost use Rattle.integer_laws.specs.Bound.{IsWithin};
 ghost use Rattle.cov_types.specs.Range.{IsSegInRange};
 ghost use Rattle.plane.specs.Length.{root, edge_length};
 

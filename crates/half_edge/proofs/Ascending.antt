@@ -13,7 +13,7 @@ use Rattle.cov_types.specs.declared.seg.Seg.{Seg}
 use Rattle.cov_types.proofs.SegOrder.{is_lt-seg_cmp, is_seg_before-irrefl, is_seg_before-trans}
 use Rattle.half_edge.proofs.Places.{read_at}
 use Rattle.half_edge.specs.Arranged.{AreAscending}
-use Rattle.sectors.specs.Sector.{AreDistinct}
+use Rattle.sector_laws.specs.Sector.{AreDistinct}
 
 -- the test that an edge does not come before another one
 then_is : (a b : Ordering) → partial_ordering_then (Some a) (Some b) ≡ Some (ordering_then a b)

@@ -4,9 +4,9 @@ use Rattle.std.proofs.Common.{◌≡◌, refl, sym, ◌∙◌, ap, subst, ℕ, �
 use Rattle.std.proofs.lemmas.Option.{slice_get_within}
 use Rattle.cov_types.specs.declared.seg.Seg.{Seg}
 use Rattle.half_edge.proofs.Tables.{some_at}
-use Rattle.sectors.specs.Sector.{HalfEdge, origin, target, twin, half_edges, IsHalfEdge, IsNextNumber}
-use Rattle.sectors.proofs.Next.{twin-twin}
-use Rattle.sectors.proofs.Numbers.{twin_number, one_half_edge}
+use Rattle.sector_laws.specs.Sector.{HalfEdge, origin, target, twin, half_edges, IsHalfEdge, IsNextNumber}
+use Rattle.sector_laws.proofs.Next.{twin-twin}
+use Rattle.sector_laws.proofs.Numbers.{twin_number, one_half_edge}
 
 -- there are two for each edge
 pub length-half_edges : (edges : List Seg) → length (half_edges edges) ≡ 2 * length edges

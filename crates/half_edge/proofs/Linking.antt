@@ -11,9 +11,9 @@ use Rattle.half_edge.specs.Departures.{IsDeparture, AreDepartures}
 use Rattle.half_edge.specs.Directed.{half_edge_to}
 use Rattle.half_edge.specs.declared.departure.Departure.{Departure}
 use Rattle.half_edge.specs.declared.directed.HalfEdgeId.{HalfEdgeId}
-use Rattle.sectors.specs.Sector.{twin, IsHalfEdge, IsNextNumber, AreDistinct}
-use Rattle.sectors.proofs.Next.{twin-twin}
-use Rattle.sectors.proofs.Numbers.{one_number, one_half_edge, half_edge_among, some_number}
+use Rattle.sector_laws.specs.Sector.{twin, IsHalfEdge, IsNextNumber, AreDistinct}
+use Rattle.sector_laws.proofs.Next.{twin-twin}
+use Rattle.sector_laws.proofs.Numbers.{one_number, one_half_edge, half_edge_among, some_number}
 
 -- for the twins of the first departures the table has the half-edges that follow
 abbrev pub AreLinked : List Seg → List Departure → ℕ → List HalfEdgeId → Type 0

@@ -4,12 +4,12 @@ use Rattle.std.proofs.Common.{◌≡◌, sym, ◌∙◌, ap, subst, ℕ, not}
 use Rattle.std.specs.Ordering.{is_lt, is_ge}
 use Rattle.half_edge.proofs.Deciding.{ge-not_lt}
 use Rattle.cov_types.specs.declared.seg.Seg.{Seg}
-use Rattle.directions.specs.Direction.{direction_cmp}
-use Rattle.directions.proofs.AtVertex.{at_vertex}
-use Rattle.sectors.specs.Sector.{HalfEdge, twin, is_before_by_angle, IsHalfEdge, IsNext, IsNextNumber, IsPlanar}
-use Rattle.sectors.proofs.Next.{one_next}
-use Rattle.sectors.proofs.Numbers.{one_half_edge}
-use Rattle.sectors.proofs.Sectors.{twin_leaves}
+use Rattle.sector_laws.specs.Direction.{direction_cmp}
+use Rattle.sector_laws.proofs.AtVertex.{at_vertex}
+use Rattle.sector_laws.specs.Sector.{HalfEdge, twin, is_before_by_angle, IsHalfEdge, IsNext, IsNextNumber, IsPlanar}
+use Rattle.sector_laws.proofs.Next.{one_next}
+use Rattle.sector_laws.proofs.Numbers.{one_half_edge}
+use Rattle.sector_laws.proofs.Sectors.{twin_leaves}
 
 -- the test that the next does not come before the way back
 pub opens : (edges : List Seg) → IsPlanar edges → (n m k : ℕ) (next back : HalfEdge) → IsNextNumber edges n m → IsHalfEdge edges m next

@@ -5,7 +5,7 @@ use Rattle.std.proofs.lemmas.Option.{slice_get_read}
 use Rattle.cov_types.specs.declared.seg.Seg.{Seg}
 use Rattle.half_edge.specs.Arena.{IsArena}
 use Rattle.half_edge.specs.declared.directed.HalfEdgeId.{HalfEdgeId}
-use Rattle.sectors.specs.Sector.{IsNextNumber, IsPlanar, AreDistinct}
+use Rattle.sector_laws.specs.Sector.{IsNextNumber, IsPlanar, AreDistinct}
 
 pub next_at : (edges shown : List Seg) (table : List HalfEdgeId) (h : ℕ) (id : HalfEdgeId) → IsArena edges table → edges ≡ shown → h < 2 * length shown → id ≡ get_or table h id → IsNextNumber shown h id.number
 next_at edges shown table h id arena same below is =

@@ -5,8 +5,8 @@ use Rattle.std.proofs.lemmas.Bool.{cases_lt}
 use Rattle.std.proofs.lemmas.Option.{slice_get_within, slice_get-get_or, get_or_from_slice_get}
 use Rattle.std.specs.Ordering.{is_lt}
 use Rattle.cov_types.specs.declared.seg.Seg.{Seg}
-use Rattle.directions.specs.Direction.{direction_cmp}
-use Rattle.directions.proofs.AtVertex.{at_vertex}
+use Rattle.sector_laws.specs.Direction.{direction_cmp}
+use Rattle.sector_laws.proofs.AtVertex.{at_vertex}
 use Rattle.half_edge.proofs.Counts.{number_within}
 use Rattle.half_edge.proofs.InOrder.{in_order}
 use Rattle.half_edge.proofs.Latest.{IsBefore}
@@ -14,12 +14,12 @@ use Rattle.half_edge.specs.Departures.{IsDeparture, AreDepartures, AreInOrder}
 use Rattle.half_edge.specs.Directed.{half_edge_to}
 use Rattle.half_edge.specs.declared.departure.Departure.{Departure}
 use Rattle.half_edge.specs.declared.directed.HalfEdgeId.{HalfEdgeId}
-use Rattle.sectors.specs.Sector.{HalfEdge, origin, target, twin, is_before_by_angle, is_in_sector, IsHalfEdge, Leaves, IsNext, IsNextNumber, IsPlanar, AreDistinct}
-use Rattle.sectors.proofs.Angles.{not_both}
-use Rattle.sectors.proofs.Next.{twin-twin}
-use Rattle.sectors.proofs.Numbers.{half_edge_among, one_half_edge, some_number, one_number}
-use Rattle.sectors.proofs.Order.{one_or_before}
-use Rattle.sectors.proofs.Sectors.{twin_leaves}
+use Rattle.sector_laws.specs.Sector.{HalfEdge, origin, target, twin, is_before_by_angle, is_in_sector, IsHalfEdge, Leaves, IsNext, IsNextNumber, IsPlanar, AreDistinct}
+use Rattle.sector_laws.proofs.Angles.{not_both}
+use Rattle.sector_laws.proofs.Next.{twin-twin}
+use Rattle.sector_laws.proofs.Numbers.{half_edge_among, one_half_edge, some_number, one_number}
+use Rattle.sector_laws.proofs.Order.{one_or_before}
+use Rattle.sector_laws.proofs.Sectors.{twin_leaves}
 
 -- ---- what is outside a sector
 

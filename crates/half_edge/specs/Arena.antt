@@ -2,7 +2,7 @@
 use Rattle.std.specs.Prelude.{◌≡◌, ℕ, ◌*◌, List, length, Some, slice_get}
 use Rattle.cov_types.specs.declared.seg.Seg.{Seg}
 use Rattle.half_edge.specs.declared.directed.HalfEdgeId.{HalfEdgeId}
-use Rattle.sectors.specs.Sector.{IsNextNumber, IsPlanar, AreDistinct}
+use Rattle.sector_laws.specs.Sector.{IsNextNumber, IsPlanar, AreDistinct}
 
 -- the table says of each half-edge which one follows it
 pub record IsNextTable (edges : List Seg) (table : List HalfEdgeId) : Type 0 where

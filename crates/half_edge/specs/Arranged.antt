@@ -2,7 +2,7 @@
 use Rattle.std.specs.Prelude.{List, AllPairs, IsTrue}
 use Rattle.cov_types.specs.Seg.{is_seg_before}
 use Rattle.cov_types.specs.declared.seg.Seg.{Seg}
-use Rattle.sectors.specs.Sector.{IsPlanar}
+use Rattle.sector_laws.specs.Sector.{IsPlanar}
 
 -- each edge comes before those after it
 abbrev pub AreAscending : List Seg → Type 0

@@ -1,7 +1,7 @@
 -- Directed edges of the code as half-edges.
 use Rattle.half_edge.specs.declared.directed.DirectedEdge.{DirectedEdge}
 use Rattle.half_edge.specs.declared.direction.Direction.{Direction}
-use Rattle.sectors.specs.Sector.{HalfEdge}
+use Rattle.sector_laws.specs.Sector.{HalfEdge}
 
 -- the half-edge that the code's directed edge is
 abbrev pub half_edge_of : DirectedEdge → HalfEdge

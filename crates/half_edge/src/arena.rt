@@ -3,7 +3,7 @@ ghost use Rattle.cov_types.specs.declared.seg.Seg.{Seg};
 ghost use Rattle.plane.specs.Joined.{Joined};
 ghost use Rattle.plane.specs.Point.{Point};
 ghost use Rattle.plane.specs.Region.{IsSide};
-ghost use Rattle.sectors.specs.Sector.{HalfEdge, origin, target, twin, is_before_by_angle, IsHalfEdge, IsNext, IsNextNumber, IsPlanar, AreDistinct};
+ghost use Rattle.sector_laws.specs.Sector.{HalfEdge, origin, target, twin, is_before_by_angle, IsHalfEdge, IsNext, IsNextNumber, IsPlanar, AreDistinct};
 ghost use Rattle.half_edge.specs.Arena.{IsArena};
 
 use crate::departure::departures_in_order;

@@ -2,7 +2,7 @@ ghost use Rattle.std.specs.Prelude.{IsTrue, All, ◌↔◌};
 ghost use Rattle.cov_types.specs.Range.{IsSegInRange};
 ghost use Rattle.plane.specs.Noded.{MeetInEnds, IsNodedFully};
 ghost use Rattle.half_edge.specs.Arranged.{IsArranged, AreAscending};
-ghost use Rattle.sectors.specs.Sector.{IsPlanar, AreDistinct};
+ghost use Rattle.sector_laws.specs.Sector.{IsPlanar, AreDistinct};
 
 use cov_types::Seg;
 use grid_pred::{Contact, relation};

@@ -1,6 +1,6 @@
 ghost use Rattle.std.specs.Prelude.{◌≡◌, ℕ, ◌*◌, ◌<◌, ◌^◌, length, List};
 ghost use Rattle.cov_types.specs.declared.seg.Seg.{Seg};
-ghost use Rattle.sectors.specs.Sector.{HalfEdge, origin, twin, IsHalfEdge};
+ghost use Rattle.sector_laws.specs.Sector.{HalfEdge, origin, twin, IsHalfEdge};
 ghost use Rattle.half_edge.specs.Directed.{half_edge_of};
 
 use cov_types::{Coord, Seg};

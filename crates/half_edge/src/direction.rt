@@ -1,8 +1,8 @@
 ghost use Rattle.std.specs.Prelude.{refl};
 ghost use Rattle.std.specs.Cmp.{eq_by_cmp_equiv, partial_equiv_from_equiv, on_total, po};
 ghost use Rattle.std.specs.Ordering.{as_partial_cmp, eq_by_cmp, on};
-ghost use Rattle.directions.proofs.Turning.{direction_total};
-ghost use Rattle.directions.specs.Direction.{direction_cmp};
+ghost use Rattle.sector_laws.proofs.Turning.{direction_total};
+ghost use Rattle.sector_laws.specs.Direction.{direction_cmp};
 ghost use Rattle.half_edge.specs.Directed.{half_edge_to};
 
 use crate::directed::DirectedEdge;

@@ -1,7 +1,7 @@
 ghost use Rattle.std.specs.Prelude.{◌≡◌, ◌<◌, length, All, IfOk};
 ghost use Rattle.half_edge.specs.Arena.{IsNextTable};
 ghost use Rattle.half_edge.specs.Departures.{AreDepartures, AreInOrder, AreLast};
-ghost use Rattle.sectors.specs.Sector.{IsPlanar, AreDistinct};
+ghost use Rattle.sector_laws.specs.Sector.{IsPlanar, AreDistinct};
 
 use crate::departure::Departures;
 use crate::directed::{HalfEdgeId, twin_id};

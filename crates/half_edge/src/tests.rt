@@ -171,7 +171,7 @@ fn edges_that_cross_or_descend_or_lie_out_of_range_are_not_arranged(
     let touching = edges_between(alloc, &rt, &[(0, 0, 4, 0), (1, 5, 3, 5), (2, 0, 2, 3)])?;
     let descending = edges_between(alloc, &rt, &[(1, 0, 2, 0), (0, 0, 0, 1)])?;
     let repeated = edges_between(alloc, &rt, &[(0, 0, 0, 1), (0, 0, 0, 1)])?;
-    let far = edges_between(alloc, &rt, &[(0, 0, 16_777_217, 1)])?;
+    let far = edges_between(alloc, &rt, &[(0, 0, 268_435_457, 1)])?;
     assert!(rt; !are_arranged(&crossing));
     assert!(rt; !are_arranged(&touching));
     assert!(rt; !are_arranged(&descending));

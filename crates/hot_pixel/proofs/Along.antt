@@ -6,13 +6,13 @@ use Rattle.std.specs.Cmp.{IsTotalOrder, IsStrictWeakOrder}
 use Rattle.std.proofs.lemmas.Cmp.{int_cmp_total, then_total}
 use Rattle.std.proofs.lemmas.Int.{ints}
 use Rattle.std.proofs.lemmas.List.Sorted.{ranks_by, sorted_far, Contains-permutation, IsPermutation-sym}
-use Rattle.exact.proofs.Compare.{trichotomy}
+use Rattle.integer_laws.proofs.Compare.{trichotomy}
 use Rattle.cov_types.specs.Coord.{is_before}
 use Rattle.cov_types.specs.declared.coord.Coord.{Coord}
 use Rattle.cov_types.specs.declared.seg.Seg.{Seg}
 use Rattle.cov_types.proofs.Equal.{Decides-same_coords}
 use Rattle.cov_types.proofs.Order.{same_coords, is_before-irrefl}
-use Rattle.rounding.specs.Formulas.{ComesFirst}
+use Rattle.rounding_laws.specs.Formulas.{ComesFirst}
 use Rattle.hot_pixel.proofs.Ascending.{differ_permuted}
 
 abbrev pub down_cmp : Coord → Coord → Ordering

@@ -3,13 +3,13 @@ use mathlib.Core.List.{[], ◌∷◌}
 use Rattle.std.proofs.Common.{◌≡◌, ◌⊎◌, inl, inr, sym, ◌^◌, ℤ, pos, neg_ℤ, ◌+ℤ◌, ◌-ℤ◌, ◌*ℤ◌, ◌<ℤ◌, ◌≤ℤ◌, ◌↔◌, int_lt, int_le, IsTrue, false, true≢false, ◌∙◌, FitsSigned, to_z, of_z, arith}
 use Rattle.std.proofs.lemmas.Int.{ints, to_z-of_z}
 use mir.Syntax.{w32, w128}
-use Rattle.exact.proofs.Ring.{lin, Term, Var, ◌⊖◌, ◌⊗◌}
-use Rattle.exact.proofs.Compare.{int_lt_is, int_le_is, int_lt_false, lt_irrefl, lt_excludes_eq}
-use Rattle.exact.proofs.Bound.{IsWithin, by_bound, fits_within}
+use Rattle.integer_laws.proofs.Ring.{lin, Term, Var, ◌⊖◌, ◌⊗◌}
+use Rattle.integer_laws.proofs.Compare.{int_lt_is, int_le_is, int_lt_false, lt_irrefl, lt_excludes_eq}
+use Rattle.integer_laws.proofs.Bound.{IsWithin, by_bound, fits_within}
 use Rattle.cov_types.specs.declared.coord.Coord.{Coord}
 use Rattle.cov_types.specs.declared.seg.Seg.{Seg}
 use Rattle.plane.specs.Segment.{turn_of}
-use Rattle.rounding.specs.Formulas.{ComesFirst, IsBeside, IsBesideUp, IsBesideDown, reach_up, reach_down}
+use Rattle.rounding_laws.specs.Formulas.{ComesFirst, IsBeside, IsBesideUp, IsBesideDown, reach_up, reach_down}
 
 -- a number of 128 bits as it is read again
 abbrev pub read : ℤ → ℤ

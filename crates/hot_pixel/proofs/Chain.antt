@@ -7,8 +7,8 @@ use Rattle.cov_types.specs.declared.seg.Seg.{Seg}
 use Rattle.cov_types.specs.Range.{IsSegInRange}
 use Rattle.plane.specs.Snapping.{IsHot, MeetsPixel, PassesFirst, IsChain}
 use Rattle.plane.proofs.Sweeps.{rises-in_range}
-use Rattle.rounding.specs.Formulas.{ComesFirst}
-use Rattle.rounding.proofs.First.{passes-is}
+use Rattle.rounding_laws.specs.Formulas.{ComesFirst}
+use Rattle.rounding_laws.proofs.First.{passes-is}
 use Rattle.hot_pixel.specs.Centres.{AreHotCentres}
 
 pub chain_is : (segs shown : List Seg) (s : Seg) (centres listed met chain : List Coord) → IsSegInRange s → segs ≡ shown → AreHotCentres segs centres → listed ≡ centres

@@ -16,7 +16,7 @@ use Rattle.plane.specs.Snapping.{IsInPixel, IsHot, IsCrossingOf}
 use Rattle.plane.proofs.Points.{same_point-refl}
 use Rattle.plane.proofs.Contacts.{two_with_itself, one_is_not_two}
 use Rattle.grid_pred.specs.Crossing.{IsCrossing}
-use Rattle.rounding.proofs.Near.{pixel_same, pixel_own, pixel_unique}
+use Rattle.rounding_laws.proofs.Near.{pixel_same, pixel_own, pixel_unique}
 use Rattle.hot_pixel.specs.Centres.{Gains, HasEnd, CrossIn, IsCrossed}
 use Rattle.hot_pixel.proofs.Gains.{contains_none, gains_then, gains_nothing}
 

@@ -5,16 +5,16 @@ use Rattle.std.proofs.Math.Nat.{div-add-mod, mod-lt}
 use Rattle.std.proofs.lemmas.Int.{to_z-of_z}
 use Rattle.std.specs.Int.{int_div_euclid}
 use mir.Syntax.{w128}
-use Rattle.exact.proofs.Ring.{lin, by_ring, Var, Lit, ◌⊕◌, ◌⊖◌, ◌⊗◌, mul_comm, neg_mul, add_mul, one_mul, pos_times}
-use Rattle.exact.proofs.Cast.{positive_natural}
-use Rattle.exact.proofs.Order.{mul_le, cancel_le_right, cancel_lt_right}
-use Rattle.exact.proofs.Bound.{IsWithin, within_fits}
-use Rattle.exact.proofs.Compare.{le_of_lt}
+use Rattle.integer_laws.proofs.Ring.{lin, by_ring, Var, Lit, ◌⊕◌, ◌⊖◌, ◌⊗◌, mul_comm, neg_mul, add_mul, one_mul, pos_times}
+use Rattle.integer_laws.proofs.Cast.{positive_natural}
+use Rattle.integer_laws.proofs.Order.{mul_le, cancel_le_right, cancel_lt_right}
+use Rattle.integer_laws.proofs.Bound.{IsWithin, within_fits}
+use Rattle.integer_laws.proofs.Compare.{le_of_lt}
 use Rattle.cov_types.specs.declared.coord.TheConstants.{LIMIT}
 use Rattle.cov_types.specs.declared.coord.Coord.{Coord}
 use Rattle.plane.specs.Point.{Point}
 use Rattle.plane.specs.Snapping.{IsInPixel}
-use Rattle.rounding.proofs.Near.{pixel_unique}
+use Rattle.rounding_laws.proofs.Near.{pixel_unique}
 use Rattle.hot_pixel.specs.Pixel.{RoundsTo}
 use Rattle.hot_pixel.proofs.Beside.{read}
 

@@ -2,7 +2,7 @@ ghost use Rattle.std.specs.Prelude.{◌≡◌, All, AllPairs, Contains, IfOk, Is
 ghost use Rattle.cov_types.specs.Coord.{is_before};
 ghost use Rattle.cov_types.specs.Range.{IsSegInRange};
 ghost use Rattle.plane.specs.Snapping.{IsChain, MeetsPixel};
-ghost use Rattle.rounding.specs.Formulas.{ComesFirst};
+ghost use Rattle.rounding_laws.specs.Formulas.{ComesFirst};
 ghost use Rattle.hot_pixel.specs.HotSet.{segs_of};
 
 use crate::centres::hot_centres;

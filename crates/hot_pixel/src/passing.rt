@@ -1,9 +1,9 @@
 ghost use Rattle.std.specs.Prelude.{◌≡◌, ◌≤ℤ◌, ◌<ℤ◌, ◌-ℤ◌, ◌+ℤ◌, ◌*ℤ◌, pos, ◌^◌, IsTrue, ◌↔◌};
-ghost use Rattle.exact.specs.Bound.{IsWithin};
+ghost use Rattle.integer_laws.specs.Bound.{IsWithin};
 ghost use Rattle.cov_types.specs.Range.{IsSegInRange};
 ghost use Rattle.plane.specs.Segment.{turn_of};
 ghost use Rattle.plane.specs.Snapping.{MeetsPixel, PassesFirst};
-ghost use Rattle.rounding.specs.Formulas.{ComesFirst, IsBesideUp, IsBesideDown, reach_up, reach_down};
+ghost use Rattle.rounding_laws.specs.Formulas.{ComesFirst, IsBesideUp, IsBesideDown, reach_up, reach_down};
 
 use cov_types::{Coord, Seg};
 use grid_pred::turn;

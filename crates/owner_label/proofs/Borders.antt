@@ -4,8 +4,8 @@ use Rattle.std.proofs.Common.{◌≡◌, sym, ap, ℕ, ◌==◌, ◌&&◌, not, 
 use Rattle.std.specs.Cmp.Lexicographic.{pointwise}
 use Rattle.std.specs.Prelude.{nat_eq}
 use Rattle.smallvec.specs.SmallVec.{SmallVec}
-use Rattle.overlay.specs.Measure.{border, owned_border, is_member}
-use Rattle.overlay.specs.Overlay.{Overlay, label_of}
+use Rattle.arrangement.specs.Measure.{border, owned_border, is_member}
+use Rattle.arrangement.specs.Overlay.{Overlay, label_of}
 use Rattle.owner_label.specs.Labelled.{IsOverlay, owner_in}
 use Rattle.owner_label.specs.Lists.{sides_of, AreRegionLabels}
 use Rattle.owner_label.specs.Passes.{is_single, is_owned}

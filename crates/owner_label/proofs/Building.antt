@@ -9,10 +9,10 @@ use Rattle.cov_types.specs.declared.seg.Seg.{Seg}
 use Rattle.cov_types.specs.Uses.{HasEvenEnds}
 use Rattle.plane.specs.Point.{Point}
 use Rattle.plane.specs.Region.{side_points, IsRegionOf, IsOuter, IsOuterRegion}
-use Rattle.crossings.proofs.Located.{one_region}
-use Rattle.sectors.specs.Sector.{IsPlanar, AreDistinct}
-use Rattle.overlay.specs.declared.odd_use.OddUse.{OddUse}
-use Rattle.overlay.specs.Noding.{odd_uses}
+use Rattle.crossing_laws.proofs.Located.{one_region}
+use Rattle.sector_laws.specs.Sector.{IsPlanar, AreDistinct}
+use Rattle.arrangement.specs.declared.odd_use.OddUse.{OddUse}
+use Rattle.arrangement.specs.Noding.{odd_uses}
 use Rattle.owner_label.specs.Members.{has, members_of}
 use Rattle.owner_label.specs.Sided.{Sided, AreSided, region_at, IsOuterOf, AreFirstRegions}
 use Rattle.owner_label.proofs.Ascending.{has_first}

@@ -9,18 +9,18 @@ use Rattle.std.proofs.lemmas.Bool.{both_ways, eq-eqb, eqb-true}
 use Rattle.std.proofs.lemmas.List.Elements.{All-filter, filter_passes}
 use Rattle.std.proofs.lemmas.Option.{slice_get-get_or, same_Some}
 use Rattle.std.proofs.lemmas.Int.{ints}
-use Rattle.exact.proofs.Ring.{lin}
+use Rattle.integer_laws.proofs.Ring.{lin}
 use Rattle.cov_types.specs.declared.edge_use.EdgeUse.{EdgeUse}
 use Rattle.cov_types.specs.declared.seg.Seg.{Seg}
 use Rattle.plane.specs.Point.{Point}
 use Rattle.plane.specs.Region.{IsSide}
 use Rattle.plane.specs.Parity.{member_holds}
 use Rattle.plane.specs.Segment.{upper, lower}
-use Rattle.crossings.specs.Crossing.{int_sum_by}
-use Rattle.overlay.specs.declared.odd_use.OddUse.{OddUse}
-use Rattle.overlay.specs.Measure.{trapezoid, area_gain, member_area2}
-use Rattle.overlay.proofs.Numberings.{upper_side, lower_side}
-use Rattle.overlay.specs.Noding.{odd_uses}
+use Rattle.crossing_laws.specs.Crossing.{int_sum_by}
+use Rattle.arrangement.specs.declared.odd_use.OddUse.{OddUse}
+use Rattle.arrangement.specs.Measure.{trapezoid, area_gain, member_area2}
+use Rattle.arrangement.proofs.Numberings.{upper_side, lower_side}
+use Rattle.arrangement.specs.Noding.{odd_uses}
 use Rattle.owner_label.specs.Sided.{Sided, AreSided, uses_of}
 use Rattle.owner_label.specs.Sides.{pair_gain}
 use Rattle.owner_label.proofs.Sums.{int_sum-append}

@@ -17,13 +17,13 @@ use Rattle.plane.specs.Point.{Point}
 use Rattle.plane.specs.Region.{far_point, IsRegionOf, IsOuter}
 use Rattle.plane.specs.Segment.{upper, lower}
 use Rattle.plane.proofs.Sweeps.{rises-in_range}
-use Rattle.crossings.proofs.Located.{same_region}
-use Rattle.crossings.proofs.Sums.{member_holds-joined}
-use Rattle.sectors.specs.Sector.{IsPlanar, AreDistinct}
-use Rattle.overlay.specs.declared.odd_use.OddUse.{OddUse}
-use Rattle.overlay.specs.Noding.{IsAscending, AreLiveEdges, odd_uses, segments}
-use Rattle.overlay.proofs.Labels.{far_free}
-use Rattle.overlay.proofs.OddUses.{odd_use_listed}
+use Rattle.crossing_laws.proofs.Located.{same_region}
+use Rattle.crossing_laws.proofs.Sums.{member_holds-joined}
+use Rattle.sector_laws.specs.Sector.{IsPlanar, AreDistinct}
+use Rattle.arrangement.specs.declared.odd_use.OddUse.{OddUse}
+use Rattle.arrangement.specs.Noding.{IsAscending, AreLiveEdges, odd_uses, segments}
+use Rattle.arrangement.proofs.Labels.{far_free}
+use Rattle.arrangement.proofs.OddUses.{odd_use_listed}
 use Rattle.owner_label.specs.Members.{has, differs, members_of, IsToggled}
 use Rattle.owner_label.proofs.Ascending.{chosen_from, chosen_has}
 use Rattle.owner_label.proofs.Toggles.{mapped, member_below, named}

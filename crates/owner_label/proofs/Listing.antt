@@ -8,7 +8,7 @@ use Rattle.std.proofs.lemmas.List.{length-set, get_or-set_same, get_or-set_other
 use Rattle.std.proofs.lemmas.List.Elements.{filter-append}
 use Rattle.std.proofs.lemmas.Option.{slice_get-get_or, get_or_from_slice_get, slice_get_within, same_Some, none-some}
 use Rattle.smallvec.specs.SmallVec.{SmallVec}
-use Rattle.overlay.specs.declared.odd_use.OddUse.{OddUse}
+use Rattle.arrangement.specs.declared.odd_use.OddUse.{OddUse}
 use Rattle.owner_label.specs.Members.{members_of}
 use Rattle.cov_types.specs.declared.seg.Seg.{Seg}
 use Rattle.plane.specs.Point.{Point}

@@ -17,11 +17,11 @@ use Rattle.plane.specs.Point.{Point}
 use Rattle.plane.specs.Ray.{is_over}
 use Rattle.plane.specs.Region.{side_points, far_point, IsSide, IsRegionOf, IsOuterRegion, AreRegions}
 use Rattle.plane.specs.Segment.{upper, lower}
-use Rattle.crossings.proofs.Located.{one_region, same_region, region-joined}
-use Rattle.overlay.specs.declared.odd_use.OddUse.{OddUse}
-use Rattle.overlay.specs.Noding.{odd_uses}
-use Rattle.overlay.specs.Overlay.{Overlay, IsRegion, label_of, AreBeside}
-use Rattle.overlay.proofs.Numberings.{upper_side, lower_side}
+use Rattle.crossing_laws.proofs.Located.{one_region, same_region, region-joined}
+use Rattle.arrangement.specs.declared.odd_use.OddUse.{OddUse}
+use Rattle.arrangement.specs.Noding.{odd_uses}
+use Rattle.arrangement.specs.Overlay.{Overlay, IsRegion, label_of, AreBeside}
+use Rattle.arrangement.proofs.Numberings.{upper_side, lower_side}
 use Rattle.owner_label.specs.Labelled.{Labelled, IsOverlay}
 use Rattle.owner_label.specs.Lists.{sides_of, AreRegionLabels, AreRegionSides}
 use Rattle.owner_label.specs.Members.{has, differs}

@@ -6,10 +6,10 @@ use Rattle.plane.specs.Joined.{Joined}
 use Rattle.plane.specs.Parity.{member_holds}
 use Rattle.plane.specs.Point.{Point}
 use Rattle.plane.specs.Region.{side_points, far_point, IsSide, IsRegionOf, IsOuter, IsOuterRegion}
-use Rattle.crossings.proofs.Located.{same_region, region-joined, one_region}
-use Rattle.sectors.specs.Sector.{left, twin}
-use Rattle.sectors.proofs.Numbers.{half_edge_side}
-use Rattle.regions.proofs.Numbered.{side_half_edge}
+use Rattle.crossing_laws.proofs.Located.{same_region, region-joined, one_region}
+use Rattle.sector_laws.specs.Sector.{left, twin}
+use Rattle.sector_laws.proofs.Numbers.{half_edge_side}
+use Rattle.region_laws.proofs.Numbered.{side_half_edge}
 use Rattle.owner_label.specs.Members.{has, differs, members_of, IsToggled}
 use Rattle.owner_label.specs.Sided.{Sided, AreSided, across, region_at, uses_of, IsLabelAt, IsRegionLabel}
 use Rattle.owner_label.proofs.Labelling.{holds_alike, outer_free}

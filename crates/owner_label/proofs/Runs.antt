@@ -5,8 +5,8 @@ use Rattle.std.specs.List.Sorted.{IsNonDecreasingBy}
 use Rattle.std.proofs.lemmas.Bool.{cases_eq, eq-eqb, ne_eqb}
 use Rattle.std.proofs.lemmas.Bool.Decides.{nat_tests}
 use Rattle.std.proofs.lemmas.List.{get_or-drop, length-drop}
-use Rattle.overlay.specs.declared.odd_use.OddUse.{OddUse}
-use Rattle.overlay.specs.Noding.{is_odd_before}
+use Rattle.arrangement.specs.declared.odd_use.OddUse.{OddUse}
+use Rattle.arrangement.specs.Noding.{is_odd_before}
 use Rattle.owner_label.proofs.Toggles.{AreOddAscending}
 
 not_falling : (o p : OddUse) → IsTrue (is_odd_before o p) → o.member ≤ p.member

@@ -6,9 +6,9 @@ use Rattle.std.proofs.lemmas.Option.{none-some, same_Some}
 use Rattle.cov_types.specs.declared.seg.Seg.{Seg}
 use Rattle.plane.specs.Point.{Point}
 use Rattle.plane.specs.Region.{side_points, IsSide}
-use Rattle.sectors.specs.Sector.{HalfEdge, twin, half_edges, IsHalfEdge, AreDistinct}
-use Rattle.sectors.proofs.Numbers.{one_number, forwards_number}
-use Rattle.regions.proofs.Numbered.{index, index_is}
+use Rattle.sector_laws.specs.Sector.{HalfEdge, twin, half_edges, IsHalfEdge, AreDistinct}
+use Rattle.sector_laws.proofs.Numbers.{one_number, forwards_number}
+use Rattle.region_laws.proofs.Numbered.{index, index_is}
 use Rattle.owner_label.specs.Sided.{across}
 
 pub sides-length : (edges : List Seg) → length (side_points edges) ≡ 2 * length edges

@@ -12,11 +12,11 @@ use Rattle.std.specs.Prelude.{All}
 use Rattle.smallvec.specs.SmallVec.{SmallVec}
 use Rattle.plane.specs.Point.{Point}
 use Rattle.plane.specs.Region.{IsSide}
-use Rattle.sectors.specs.Sector.{HalfEdge, left as side_left, twin}
-use Rattle.sectors.proofs.Numbers.{half_edge_side, one_number}
-use Rattle.regions.specs.Crossed.{IsCrossed}
-use Rattle.regions.proofs.Outwards.{crossed_same}
-use Rattle.regions.proofs.Numbered.{index, index_is, side_half_edge}
+use Rattle.sector_laws.specs.Sector.{HalfEdge, left as side_left, twin}
+use Rattle.sector_laws.proofs.Numbers.{half_edge_side, one_number}
+use Rattle.region_laws.specs.Crossed.{IsCrossed}
+use Rattle.region_laws.proofs.Outwards.{crossed_same}
+use Rattle.region_laws.proofs.Numbered.{index, index_is, side_half_edge}
 use Rattle.owner_label.specs.declared.spread.Spread.{Spread}
 use Rattle.owner_label.specs.Lists.{AreEdgeMembers, AreRegionSides, AreRegionLabels}
 use Rattle.owner_label.specs.Members.{IsFrom, IsToggled, members_of}

@@ -5,17 +5,17 @@ use Rattle.std.specs.List.{enumerate_from}
 use Rattle.std.proofs.lemmas.Bool.{eq-eqb, ne_eqb, eqb-true, cond-true, cond-false}
 use Rattle.std.proofs.lemmas.Option.{slice_get_within}
 use Rattle.std.proofs.lemmas.List.Sums.{sum_by-cons, sum_by-append}
-use Rattle.exact.proofs.Ring.{lin}
+use Rattle.integer_laws.proofs.Ring.{lin}
 use Rattle.cov_types.specs.declared.seg.Seg.{Seg}
-use Rattle.crossings.specs.Crossing.{int_sum_by}
+use Rattle.crossing_laws.specs.Crossing.{int_sum_by}
 use Rattle.plane.specs.Label.{numbers_below}
 use Rattle.plane.specs.Length.{edge_length}
 use Rattle.plane.specs.Point.{Point}
 use Rattle.plane.specs.Region.{IsSide}
 use Rattle.plane.specs.Segment.{upper, lower}
-use Rattle.overlay.specs.Measure.{trapezoid, area_gain, region_area2, is_border, border_with}
-use Rattle.overlay.specs.Overlay.{Overlay, label_of}
-use Rattle.overlay.proofs.Numberings.{upper_side, lower_side}
+use Rattle.arrangement.specs.Measure.{trapezoid, area_gain, region_area2, is_border, border_with}
+use Rattle.arrangement.specs.Overlay.{Overlay, label_of}
+use Rattle.arrangement.proofs.Numberings.{upper_side, lower_side}
 use Rattle.owner_label.specs.Labelled.{IsOverlay}
 use Rattle.owner_label.specs.Lists.{sides_of}
 use Rattle.owner_label.specs.Sided.{Sided, AreSided, across, region_at}

@@ -14,13 +14,13 @@ use Rattle.cov_types.proofs.Equal.{Decides-same_segs}
 use Rattle.plane.specs.Noded.{MeetInEnds}
 use Rattle.plane.specs.Parity.{member_holds}
 use Rattle.plane.specs.Segment.{upper, lower}
-use Rattle.crossings.specs.Across.{AllMeetInEnds, is_same_seg, member_times}
-use Rattle.crossings.proofs.Changes.{member_holds-across}
-use Rattle.crossings.proofs.Lists.{contains_here, contains_there}
-use Rattle.sectors.specs.Sector.{HalfEdge, left, twin, IsPlanar, AreDistinct}
-use Rattle.overlay.specs.declared.odd_use.OddUse.{OddUse}
-use Rattle.overlay.specs.Noding.{is_odd_before, odd_uses}
-use Rattle.overlay.proofs.OddUses.{odd_use_listed}
+use Rattle.crossing_laws.specs.Across.{AllMeetInEnds, is_same_seg, member_times}
+use Rattle.crossing_laws.proofs.Changes.{member_holds-across}
+use Rattle.crossing_laws.proofs.Lists.{contains_here, contains_there}
+use Rattle.sector_laws.specs.Sector.{HalfEdge, left, twin, IsPlanar, AreDistinct}
+use Rattle.arrangement.specs.declared.odd_use.OddUse.{OddUse}
+use Rattle.arrangement.specs.Noding.{is_odd_before, odd_uses}
+use Rattle.arrangement.proofs.OddUses.{odd_use_listed}
 use Rattle.owner_label.specs.Members.{has, IsFrom, differs, members_of}
 use Rattle.owner_label.proofs.Ascending.{count_from}
 use Rattle.owner_label.proofs.Sides.{one_place}

@@ -3,7 +3,7 @@ use mir.Syntax.{w128}
 use Rattle.std.proofs.Common.{◌≡◌, ◌∙◌, ◌≤◌, ◌^◌, ℤ, pos, ◌+ℤ◌, ◌-ℤ◌, ◌*ℤ◌, unsigned_abs, to_z, of_z, arith}
 use Rattle.std.proofs.lemmas.Int.{ints}
 use Rattle.cov_types.specs.declared.seg.Seg.{Seg}
-use Rattle.overlay.specs.Measure.{trapezoid}
+use Rattle.arrangement.specs.Measure.{trapezoid}
 
 pub small_is : (x : ℤ) → unsigned_abs x ≤ 2 ^ 60 → to_z w128 (of_z w128 x) ≡ x
 small_is x h = omega (arith, ints)

@@ -2,9 +2,9 @@
 use Rattle.std.specs.Prelude.{◌≡◌, ℕ, ◌<◌, List, All, Option, None, slice_get, unwrap_or}
 use Rattle.cov_types.specs.declared.seg.Seg.{Seg}
 use Rattle.plane.specs.Region.{AreRegions}
-use Rattle.overlay.specs.declared.odd_use.OddUse.{OddUse}
-use Rattle.overlay.specs.Noding.{odd_uses}
-use Rattle.overlay.specs.Overlay.{Overlay}
+use Rattle.arrangement.specs.declared.odd_use.OddUse.{OddUse}
+use Rattle.arrangement.specs.Noding.{odd_uses}
+use Rattle.arrangement.specs.Overlay.{Overlay}
 
 -- edges, and the members that are odd for them
 pub record Labelled : Type 0 where

@@ -7,9 +7,9 @@ use Rattle.plane.specs.Label.{label_at}
 use Rattle.plane.specs.Point.{Point}
 use Rattle.plane.specs.Region.{IsOuter, IsRegionOf}
 use Rattle.plane.specs.Segment.{upper, lower}
-use Rattle.sectors.specs.Sector.{IsPlanar}
-use Rattle.overlay.specs.declared.odd_use.OddUse.{OddUse}
-use Rattle.overlay.specs.Noding.{AreLiveEdges, odd_uses}
+use Rattle.sector_laws.specs.Sector.{IsPlanar}
+use Rattle.arrangement.specs.declared.odd_use.OddUse.{OddUse}
+use Rattle.arrangement.specs.Noding.{AreLiveEdges, odd_uses}
 use Rattle.owner_label.specs.Members.{members_of, IsToggled}
 
 -- below a live edge the label is that above it, with exactly the members toggled for which the edge is odd

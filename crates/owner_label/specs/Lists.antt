@@ -5,7 +5,7 @@ use Rattle.smallvec.specs.SmallVec.{SmallVec}
 use Rattle.owner_label.specs.Members.{members_of}
 use Rattle.owner_label.specs.Sided.{Sided, AreSided, region_at, IsRegionLabel}
 use Rattle.plane.specs.Label.{numbers_below}
-use Rattle.overlay.specs.declared.odd_use.OddUse.{OddUse}
+use Rattle.arrangement.specs.declared.odd_use.OddUse.{OddUse}
 
 -- for each of so many edges the members for which it is odd
 pub record AreEdgeMembers (odd : List OddUse) (edges : ℕ) (lists : List (SmallVec ℕ)) : Type 0 where

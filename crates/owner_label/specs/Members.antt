@@ -1,7 +1,7 @@
 -- Ascending lists of members, and the members that are odd for an edge.
 use Rattle.std.specs.Prelude.{◌≡◌, ℕ, suc, ◌≤◌, ◌==◌, Bool, true, false, not, List, [], ◌∷◌, map, filter, ⊤}
 use Rattle.std.specs.List.{list_any}
-use Rattle.overlay.specs.declared.odd_use.OddUse.{OddUse}
+use Rattle.arrangement.specs.declared.odd_use.OddUse.{OddUse}
 
 -- whether the list has the member
 abbrev pub has : List ℕ → ℕ → Bool

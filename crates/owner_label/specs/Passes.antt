@@ -2,7 +2,7 @@
 use Rattle.std.specs.Prelude.{ℕ, ◌==◌, Bool, not, ◌&&◌, List, [], ◌∷◌, length, nat_eq, Option, Some, None, slice_get}
 use Rattle.std.specs.Cmp.Lexicographic.{pointwise}
 use Rattle.smallvec.specs.SmallVec.{SmallVec}
-use Rattle.overlay.specs.Measure.{is_member}
+use Rattle.arrangement.specs.Measure.{is_member}
 use Rattle.owner_label.specs.Labelled.{owner_in}
 
 -- the label at the number, and the empty one past the end

@@ -6,9 +6,9 @@ use Rattle.cov_types.specs.Uses.{HasEvenEnds}
 use Rattle.plane.specs.Parity.{member_holds}
 use Rattle.plane.specs.Point.{Point}
 use Rattle.plane.specs.Region.{IsSide, IsRegionOf, IsOuterRegion, AreRegions}
-use Rattle.sectors.specs.Sector.{IsPlanar, AreDistinct}
-use Rattle.overlay.specs.declared.odd_use.OddUse.{OddUse}
-use Rattle.overlay.specs.Noding.{is_odd_before, odd_uses}
+use Rattle.sector_laws.specs.Sector.{IsPlanar, AreDistinct}
+use Rattle.arrangement.specs.declared.odd_use.OddUse.{OddUse}
+use Rattle.arrangement.specs.Noding.{is_odd_before, odd_uses}
 use Rattle.owner_label.specs.Members.{has, IsFrom, members_of}
 
 -- the side on the other side of the same edge

@@ -5,7 +5,7 @@ use Rattle.cov_types.specs.declared.seg.Seg.{Seg}
 use Rattle.plane.specs.Length.{edge_length}
 use Rattle.plane.specs.Parity.{member_holds}
 use Rattle.plane.specs.Segment.{upper, lower}
-use Rattle.overlay.specs.Measure.{trapezoid, area_gain}
+use Rattle.arrangement.specs.Measure.{trapezoid, area_gain}
 use Rattle.owner_label.specs.Sided.{Sided, across, region_at}
 
 -- the trapezoid of an edge, turned round on its upper side

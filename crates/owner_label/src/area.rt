@@ -1,10 +1,10 @@
 ghost use Rattle.std.specs.Prelude.{◌≡◌, ◌≤◌, ◌*◌, ◌<◌, ◌^◌, ◌-ℤ◌, ◌+ℤ◌, ◌*ℤ◌, ◌==◌, All, AllPairs, IsTrue, filter, Some, slice_get, length, unsigned_abs};
 ghost use Rattle.cov_types.specs.Range.{IsSegInRange};
 ghost use Rattle.cov_types.specs.declared.seg.Seg.{Seg};
-ghost use Rattle.crossings.specs.Crossing.{int_sum_by};
-ghost use Rattle.exact.specs.Bound.{IsWithin};
-ghost use Rattle.overlay.specs.Measure.{trapezoid, member_area2};
-ghost use Rattle.overlay.specs.Noding.{is_odd_before};
+ghost use Rattle.crossing_laws.specs.Crossing.{int_sum_by};
+ghost use Rattle.integer_laws.specs.Bound.{IsWithin};
+ghost use Rattle.arrangement.specs.Measure.{trapezoid, member_area2};
+ghost use Rattle.arrangement.specs.Noding.{is_odd_before};
 ghost use Rattle.plane.specs.Parity.{member_holds};
 ghost use Rattle.plane.specs.Point.{Point};
 ghost use Rattle.plane.specs.Region.{IsSide};
@@ -15,7 +15,7 @@ ghost use Rattle.owner_label.specs.Sides.{side_area, pair_gain};
 use crate::label::Label;
 use crate::sided::SidedEdges;
 use cov_types::Seg;
-use overlay::OddUse;
+use arrangement::OddUse;
 
 /// The doubled area of a member, over its odd edges.
 pub fn area_of_member(map: &SidedEdges, labels: &[Label], member: u32) -> i128

@@ -3,9 +3,9 @@ ghost use Rattle.cov_types.specs.Uses.{HasEvenEnds};
 ghost use Rattle.plane.specs.Label.{label_at};
 ghost use Rattle.plane.specs.Point.{Point};
 ghost use Rattle.plane.specs.Region.{IsRegionOf, IsOuterRegion};
-ghost use Rattle.overlay.specs.Measure.{member_area2, region_area2, border, owned_border};
-ghost use Rattle.overlay.specs.Noding.{odd_uses};
-ghost use Rattle.overlay.specs.Overlay.{Overlay, IsRegion, label_of, AreBeside};
+ghost use Rattle.arrangement.specs.Measure.{member_area2, region_area2, border, owned_border};
+ghost use Rattle.arrangement.specs.Noding.{odd_uses};
+ghost use Rattle.arrangement.specs.Overlay.{Overlay, IsRegion, label_of, AreBeside};
 ghost use Rattle.owner_label.specs.Labelled.{IsOverlay, owner_in};
 
 use crate::area::{area_of_member, area_of_sides};

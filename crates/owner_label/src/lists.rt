@@ -5,7 +5,7 @@ ghost use Rattle.owner_label.specs.Sided.{Sided};
 use crate::label::Label;
 use crate::sided::SidedEdges;
 use cov_types::NoMemory;
-use overlay::OddUse;
+use arrangement::OddUse;
 use smallvec::SmallVec;
 use std::alloc::Global;
 

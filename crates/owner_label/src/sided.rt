@@ -2,13 +2,13 @@ ghost use Rattle.std.specs.Prelude.{◌≡◌, ◌*◌, ◌<◌, ◌^◌, length
 ghost use Rattle.cov_types.specs.Range.{IsSegInRange};
 ghost use Rattle.cov_types.specs.Uses.{HasEvenEnds};
 ghost use Rattle.cov_types.specs.declared.seg.Seg.{Seg};
-ghost use Rattle.overlay.specs.Noding.{odd_uses};
+ghost use Rattle.arrangement.specs.Noding.{odd_uses};
 ghost use Rattle.owner_label.specs.Sided.{across, region_at, AreSided, AreFirstRegions};
 
 use cov_types::{NoMemory, Seg};
 use face_walk::Regions;
 use half_edge::Arena;
-use overlay::OddUse;
+use arrangement::OddUse;
 use snap_noder::LiveEdges;
 use std::alloc::Global;
 use std::marker::Model;

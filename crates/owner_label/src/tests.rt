@@ -1,9 +1,9 @@
 ghost use Rattle.std.specs.Prelude.{◌≡◌, ◌*◌, length, IfOk};
 ghost use Rattle.cov_types.specs.Coverage.{AllInRange};
 ghost use Rattle.cov_types.specs.Uses.{HasEvenEnds};
-ghost use Rattle.overlay.specs.Noding.{odd_uses};
-ghost use Rattle.overlay.specs.Overlay.{IsRegion};
-ghost use Rattle.sectors.specs.Sector.{IsPlanar, AreDistinct};
+ghost use Rattle.arrangement.specs.Noding.{odd_uses};
+ghost use Rattle.arrangement.specs.Overlay.{IsRegion};
+ghost use Rattle.sector_laws.specs.Sector.{IsPlanar, AreDistinct};
 
 use crate::Labels;
 use cov_types::{Coord, Coverage, Member, NoMemory, Poly, Ring, in_range, uses};

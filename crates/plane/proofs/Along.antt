@@ -1,9 +1,9 @@
 -- Segments one after the other, and segments on a common line.
 use mathlib.Core.List.{[], ◌∷◌}
 use Rattle.std.proofs.Common.{◌≡◌, ◌⊎◌, inl, inr, refl, sym, ◌∙◌, ap, subst, ◌^◌, ℤ, pos, ◌+ℤ◌, ◌-ℤ◌, ◌*ℤ◌, ◌<ℤ◌, ◌≤ℤ◌, arith}
-use Rattle.exact.proofs.Ring.{lin, by_two, Term, Var, Lit, ◌⊕◌, ◌⊖◌, ◌⊗◌, Neg, mul_one, mul_zero}
-use Rattle.exact.proofs.Order.{cancel_eq, lt_mul}
-use Rattle.exact.proofs.Compare.{lt_or_ge}
+use Rattle.integer_laws.proofs.Ring.{lin, by_two, Term, Var, Lit, ◌⊕◌, ◌⊖◌, ◌⊗◌, Neg, mul_one, mul_zero}
+use Rattle.integer_laws.proofs.Order.{cancel_eq, lt_mul}
+use Rattle.integer_laws.proofs.Compare.{lt_or_ge}
 use Rattle.cov_types.specs.declared.coord.Coord.{Coord}
 use Rattle.cov_types.specs.declared.seg.Seg.{Seg}
 use Rattle.plane.specs.declared.contact.Contact.TheVariants.{CommonEnd}

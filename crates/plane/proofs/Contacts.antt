@@ -1,6 +1,6 @@
 -- Two segments meet in one way at most.
 use Rattle.std.proofs.Common.{◌≡◌, inl, inr, refl, sym, subst, ◌∙◌, ap, Bool, true, false, arith}
-use Rattle.exact.proofs.Ring.{lin, mul_one}
+use Rattle.integer_laws.proofs.Ring.{lin, mul_one}
 use Rattle.cov_types.specs.declared.seg.Seg.{Seg}
 use Rattle.cov_types.proofs.Order.{cases_before}
 use Rattle.plane.specs.declared.contact.Contact.{Contact}

@@ -1,7 +1,7 @@
 -- The examples, by computation.
 use Rattle.std.proofs.Common.{refl, ap, inl, inr, lit≤, pos, arith}
 use Rattle.std.proofs.lemmas.Int.{ints}
-use Rattle.exact.proofs.Ring.{lin}
+use Rattle.integer_laws.proofs.Ring.{lin}
 use Rattle.cov_types.specs.declared.seg.Seg.{Seg}
 use Rattle.plane.specs.Point.{Point, SamePoint, at_coord}
 use Rattle.plane.specs.Segment.{IsEnd, side}

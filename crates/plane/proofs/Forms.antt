@@ -1,9 +1,9 @@
 -- Linear forms a·x + b·y + c·d at points, and their signs between two points.
 use mathlib.Core.List.{[], ◌∷◌}
 use Rattle.std.proofs.Common.{◌≡◌, refl, ◌∙◌, ap, ℕ, zero, suc, ◌+◌, ◌*◌, ◌≤◌, ℤ, pos, neg_ℤ, ◌+ℤ◌, ◌*ℤ◌, ◌<ℤ◌, ◌≤ℤ◌, arith}
-use Rattle.exact.proofs.Ring.{lin, by_ring, by_two, Term, Var, ◌⊕◌, ◌⊗◌, Neg, mul_comm}
-use Rattle.exact.proofs.Compare.{le_of_lt}
-use Rattle.exact.proofs.Sign.{nonneg_times_nonneg, positive_times_positive, nonneg_factor, positive_factor}
+use Rattle.integer_laws.proofs.Ring.{lin, by_ring, by_two, Term, Var, ◌⊕◌, ◌⊗◌, Neg, mul_comm}
+use Rattle.integer_laws.proofs.Compare.{le_of_lt}
+use Rattle.integer_laws.proofs.Sign.{nonneg_times_nonneg, positive_times_positive, nonneg_factor, positive_factor}
 use Rattle.plane.specs.Point.{Point, SamePoint, IsBetween}
 use Rattle.plane.proofs.Points.{d_positive, weights_positive}
 

@@ -2,10 +2,10 @@
 -- common point, and the turns tell whether it is an end; where both ends lie strictly on one side, they have none.
 use mathlib.Core.List.{List, [], ◌∷◌}
 use Rattle.std.proofs.Common.{◌≡◌, ◌⊎◌, inl, inr, refl, sym, ◌∙◌, ap, ℕ, ◌≤◌, ℤ, pos, neg_ℤ, ◌+ℤ◌, ◌-ℤ◌, ◌*ℤ◌, ◌<ℤ◌, ◌≤ℤ◌, arith}
-use Rattle.exact.proofs.Ring.{lin, by_ring, by_one, by_two, Term, Var, Lit, ◌⊕◌, ◌⊖◌, ◌⊗◌, Neg, mul_one, mul_comm, mul_zero, zero_mul}
-use Rattle.exact.proofs.Order.{cancel_eq}
-use Rattle.exact.proofs.Cast.{positive_natural}
-use Rattle.exact.proofs.Compare.{trichotomy}
+use Rattle.integer_laws.proofs.Ring.{lin, by_ring, by_one, by_two, Term, Var, Lit, ◌⊕◌, ◌⊖◌, ◌⊗◌, Neg, mul_one, mul_comm, mul_zero, zero_mul}
+use Rattle.integer_laws.proofs.Order.{cancel_eq}
+use Rattle.integer_laws.proofs.Cast.{positive_natural}
+use Rattle.integer_laws.proofs.Compare.{trichotomy}
 use Rattle.cov_types.specs.declared.coord.Coord.{Coord}
 use Rattle.cov_types.specs.declared.seg.Seg.{Seg}
 use Rattle.plane.specs.Point.{Point, SamePoint, at_coord}

@@ -2,10 +2,10 @@
 use mathlib.Core.List.{[], ◌∷◌}
 use Rattle.std.proofs.Common.{◌≡◌, inl, inr, sym, ◌∙◌, ap, refl, ◌*◌, ◌^◌, ℤ, pos, ◌+ℤ◌, ◌*ℤ◌, ◌<ℤ◌, ◌≤ℤ◌, arith}
 use Rattle.std.proofs.Math.Nat.{one-le-mul}
-use Rattle.exact.proofs.Ring.{lin, by_ring, Var, Lit, ◌⊕◌, ◌⊗◌, mul_one, zero_mul}
-use Rattle.exact.proofs.Order.{cancel_eq_right, le_mul, by_le_two}
-use Rattle.exact.proofs.Cast.{pos_nonneg}
-use Rattle.exact.proofs.Compare.{le_of_lt}
+use Rattle.integer_laws.proofs.Ring.{lin, by_ring, Var, Lit, ◌⊕◌, ◌⊗◌, mul_one, zero_mul}
+use Rattle.integer_laws.proofs.Order.{cancel_eq_right, le_mul, by_le_two}
+use Rattle.integer_laws.proofs.Cast.{pos_nonneg}
+use Rattle.integer_laws.proofs.Compare.{le_of_lt}
 use Rattle.cov_types.specs.declared.seg.Seg.{Seg}
 use Rattle.plane.specs.Point.{Point, SamePoint, at_coord}
 use Rattle.plane.specs.Segment.{IsOn, IsEnd, side}

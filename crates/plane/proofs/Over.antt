@@ -2,11 +2,11 @@
 use mathlib.Core.List.{[], ◌∷◌}
 use mathlib.Core.Bool.{Bool, true, false, not, ◌&&◌}
 use Rattle.std.proofs.Common.{◌≡◌, refl, sym, ◌∙◌, ap, ℕ, ◌+◌, ◌≤◌, ◌^◌, ℤ, pos, negsuc, ◌+ℤ◌, ◌-ℤ◌, ◌*ℤ◌, ◌<ℤ◌, ◌≤ℤ◌, ⊎_elim, IsTrue, ◌↔◌, int_lt, arith}
-use Rattle.exact.proofs.Ring.{lin, by_one, by_two, Term, Var, Lit, ◌⊕◌, ◌⊖◌, ◌⊗◌, mul_zero, mul_one, one_mul}
-use Rattle.exact.proofs.Compare.{int_lt_is, not_int_lt_is, le_of_lt, le_cases}
-use Rattle.exact.proofs.Cast.{natural, positive_natural}
-use Rattle.exact.proofs.Order.{cancel_eq, cancel_le, cancel_lt, by_le_eq, by_lt_eq}
-use Rattle.exact.proofs.Sign.{positive_times_negative, negative_factor}
+use Rattle.integer_laws.proofs.Ring.{lin, by_one, by_two, Term, Var, Lit, ◌⊕◌, ◌⊖◌, ◌⊗◌, mul_zero, mul_one, one_mul}
+use Rattle.integer_laws.proofs.Compare.{int_lt_is, not_int_lt_is, le_of_lt, le_cases}
+use Rattle.integer_laws.proofs.Cast.{natural, positive_natural}
+use Rattle.integer_laws.proofs.Order.{cancel_eq, cancel_le, cancel_lt, by_le_eq, by_lt_eq}
+use Rattle.integer_laws.proofs.Sign.{positive_times_negative, negative_factor}
 use Rattle.cov_types.specs.declared.seg.Seg.{Seg}
 use Rattle.plane.specs.Point.{Point, at_coord}
 use Rattle.plane.specs.Segment.{IsOn, side}

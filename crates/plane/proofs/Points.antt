@@ -1,9 +1,9 @@
 -- One point, and points between two points.
 use mathlib.Core.List.{[], ◌∷◌}
 use Rattle.std.proofs.Common.{◌≡◌, ◌⊎◌, inl, inr, refl, sym, ℕ, zero, suc, ◌+◌, ◌*◌, ◌≤◌, ◌<◌, ℤ, pos, negsuc, ◌+ℤ◌, ◌*ℤ◌, ◌<ℤ◌, ◌≤ℤ◌, arith}
-use Rattle.exact.proofs.Ring.{lin, by_ring, by_one, by_two, Var, Lit, ◌⊕◌, ◌⊗◌, Neg}
-use Rattle.exact.proofs.Compare.{eq_or_not}
-use Rattle.exact.proofs.Order.{cancel_eq}
+use Rattle.integer_laws.proofs.Ring.{lin, by_ring, by_one, by_two, Var, Lit, ◌⊕◌, ◌⊗◌, Neg}
+use Rattle.integer_laws.proofs.Compare.{eq_or_not}
+use Rattle.integer_laws.proofs.Order.{cancel_eq}
 use Rattle.plane.specs.Point.{Point, SamePoint, IsBetween}
 
 -- a denominator is positive

@@ -2,10 +2,10 @@
 use mathlib.Core.Bool.{Bool, true, false}
 use Rattle.std.specs.Prelude.{count_by, List, ◌&&◌, ◌%◌, ◌==◌}
 use Rattle.std.proofs.Common.{◌≡◌, refl, sym, ap, ℕ, pos, ◌*ℤ◌, ◌<ℤ◌, ◌↔◌, IsTrue, arith}
-use Rattle.exact.proofs.Ring.{lin, mul_comm, zero_mul}
-use Rattle.exact.proofs.Compare.{le_of_lt}
-use Rattle.exact.proofs.Order.{cancel_eq_right}
-use Rattle.exact.proofs.Sign.{positive_times_negative, negative_factor}
+use Rattle.integer_laws.proofs.Ring.{lin, mul_comm, zero_mul}
+use Rattle.integer_laws.proofs.Compare.{le_of_lt}
+use Rattle.integer_laws.proofs.Order.{cancel_eq_right}
+use Rattle.integer_laws.proofs.Sign.{positive_times_negative, negative_factor}
 use Rattle.cov_types.specs.declared.edge_use.EdgeUse.{EdgeUse}
 use Rattle.cov_types.specs.declared.seg.Seg.{Seg}
 use Rattle.plane.specs.Point.{Point, SamePoint, at_coord}

@@ -1,7 +1,7 @@
 -- Turns of three grid points, and the side of a point against a segment.
 use mathlib.Core.List.{List, [], ◌∷◌}
 use Rattle.std.proofs.Common.{◌≡◌, refl, sym, ◌∙◌, ap, ℤ, pos, neg_ℤ, ◌+ℤ◌, ◌-ℤ◌, ◌*ℤ◌}
-use Rattle.exact.proofs.Ring.{by_ring, Term, Var, Lit, ◌⊕◌, ◌⊖◌, ◌⊗◌, Neg}
+use Rattle.integer_laws.proofs.Ring.{by_ring, Term, Var, Lit, ◌⊕◌, ◌⊖◌, ◌⊗◌, Neg}
 use Rattle.cov_types.specs.declared.coord.Coord.{Coord}
 use Rattle.cov_types.specs.declared.seg.Seg.{Seg}
 use Rattle.plane.specs.Point.{Point, SamePoint, at_coord}

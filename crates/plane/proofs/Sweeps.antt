@@ -2,10 +2,10 @@
 use mathlib.Core.List.{[], ◌∷◌}
 use Rattle.std.proofs.Common.{◌≡◌, refl, sym, ◌∙◌, ap, ◌^◌, ℤ, pos, negsuc, neg_ℤ, ◌+ℤ◌, ◌-ℤ◌, ◌*ℤ◌, ◌<ℤ◌, ◌≤ℤ◌, IsTrue, ◌↔◌, inl, inr, arith}
 use borrow.Author.Differences.{product_is}
-use Rattle.exact.proofs.Ring.{lin, by_ring, by_one, by_three, Term, Var, Lit, ◌⊕◌, ◌⊖◌, ◌⊗◌, Neg, mul_one}
-use Rattle.exact.proofs.Compare.{int_lt_is, le_of_lt}
-use Rattle.exact.proofs.Order.{cancel_eq}
-use Rattle.exact.proofs.Sign.{positive_times_positive}
+use Rattle.integer_laws.proofs.Ring.{lin, by_ring, by_one, by_three, Term, Var, Lit, ◌⊕◌, ◌⊖◌, ◌⊗◌, Neg, mul_one}
+use Rattle.integer_laws.proofs.Compare.{int_lt_is, le_of_lt}
+use Rattle.integer_laws.proofs.Order.{cancel_eq}
+use Rattle.integer_laws.proofs.Sign.{positive_times_positive}
 use Rattle.cov_types.specs.declared.coord.Coord.{Coord}
 use Rattle.cov_types.specs.declared.seg.Seg.{Seg}
 use Rattle.cov_types.specs.Coord.{is_before}

@@ -9,8 +9,8 @@ use Rattle.std.proofs.lemmas.List.Elements.{Contains-append_left, Contains-push,
 use Rattle.std.proofs.lemmas.List.Quantifiers.{all_pairs_push}
 use Rattle.std.proofs.lemmas.List.Sorted.{sorted_far}
 use Rattle.std.proofs.Math.Seq.{get_or-append_seam}
-use Rattle.overlay.specs.declared.odd_use.OddUse.{OddUse}
-use Rattle.overlay.specs.Noding.{is_odd_before}
+use Rattle.arrangement.specs.declared.odd_use.OddUse.{OddUse}
+use Rattle.arrangement.specs.Noding.{is_odd_before}
 use Rattle.snap_noder.specs.Order.{odd_cmp, AreOddAscending}
 use Rattle.snap_noder.specs.Places.{odd_times, IsLast}
 use Rattle.snap_noder.proofs.OddOrder.{is_same_odd, Decides-same_odds, odd_weak, is_lt-odd_cmp, odds_from_neither, is_odd_before-irrefl}

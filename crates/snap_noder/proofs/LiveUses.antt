@@ -16,12 +16,12 @@ use Rattle.cov_types.specs.Uses.{ends_inside, HasEvenEnds}
 use Rattle.cov_types.specs.declared.edge_use.EdgeUse.{EdgeUse}
 use Rattle.cov_types.specs.declared.seg.Seg.{Seg}
 use Rattle.cov_types.proofs.SegOrder.{is_seg_before-irrefl}
-use Rattle.sectors.specs.Sector.{AreDistinct, IsPlanar}
-use Rattle.crossings.specs.Across.{member_times}
+use Rattle.sector_laws.specs.Sector.{AreDistinct, IsPlanar}
+use Rattle.crossing_laws.specs.Across.{member_times}
 use Rattle.hot_pixel.proofs.Ascending.{all_pairs_head, all_pairs_tail}
-use Rattle.overlay.specs.declared.odd_use.OddUse.{OddUse}
-use Rattle.overlay.specs.Noding.{IsAscending, IsOdd, AreEdges, AreLiveEdges, odd_uses}
-use Rattle.overlay.proofs.OddUses.{is_same_use, Decides-same_use, distinct_uses, are_odd, same_parity, odd_used, odd_use_listed}
+use Rattle.arrangement.specs.declared.odd_use.OddUse.{OddUse}
+use Rattle.arrangement.specs.Noding.{IsAscending, IsOdd, AreEdges, AreLiveEdges, odd_uses}
+use Rattle.arrangement.proofs.OddUses.{is_same_use, Decides-same_use, distinct_uses, are_odd, same_parity, odd_used, odd_use_listed}
 use Rattle.snap_noder.specs.Order.{AreOddAscending}
 use Rattle.snap_noder.specs.Places.{HavePlaces, AreAllUsed}
 use Rattle.snap_noder.proofs.ParityLemmas.{contains_mapped}

@@ -5,8 +5,8 @@ use Rattle.std.proofs.lemmas.Bool.{and_parts, and_from}
 use Rattle.std.proofs.lemmas.Bool.Decides.{Decides-eqb}
 use Rattle.std.proofs.lemmas.Cmp.{nat_cmp_total, then_total}
 use Rattle.std.proofs.lemmas.List.Sorted.{ranks_by}
-use Rattle.overlay.specs.declared.odd_use.OddUse.{OddUse}
-use Rattle.overlay.specs.Noding.{is_odd_before}
+use Rattle.arrangement.specs.declared.odd_use.OddUse.{OddUse}
+use Rattle.arrangement.specs.Noding.{is_odd_before}
 use Rattle.snap_noder.specs.Order.{odd_cmp}
 
 abbrev pub is_same_odd : OddUse → OddUse → Bool

@@ -13,11 +13,11 @@ use Rattle.cov_types.specs.declared.edge_use.EdgeUse.{EdgeUse}
 use Rattle.cov_types.specs.declared.seg.Seg.{Seg}
 use Rattle.cov_types.proofs.Equal.{same_uses}
 use Rattle.plane.specs.Noded.{IsNodedFully}
-use Rattle.crossings.specs.Across.{member_times}
-use Rattle.crossings.proofs.Lists.{contains_here, contains_there, contains-map}
-use Rattle.overlay.specs.declared.odd_use.OddUse.{OddUse}
-use Rattle.overlay.specs.Noding.{segments, IsAscending, IsOdd, AreEdges}
-use Rattle.overlay.proofs.OddUses.{is_same_use, Decides-same_use, one_place}
+use Rattle.crossing_laws.specs.Across.{member_times}
+use Rattle.crossing_laws.proofs.Lists.{contains_here, contains_there, contains-map}
+use Rattle.arrangement.specs.declared.odd_use.OddUse.{OddUse}
+use Rattle.arrangement.specs.Noding.{segments, IsAscending, IsOdd, AreEdges}
+use Rattle.arrangement.proofs.OddUses.{is_same_use, Decides-same_use, one_place}
 use Rattle.snap_noder.specs.Order.{AreOddAscending}
 use Rattle.snap_noder.specs.Places.{HavePlaces, odd_times, IsPlaced, ArePlacesOf}
 use Rattle.snap_noder.proofs.OddOrder.{is_same_odd, Decides-same_odds, same_odds}

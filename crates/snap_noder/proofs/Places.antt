@@ -10,7 +10,7 @@ use Rattle.std.proofs.lemmas.Option.{get_or_from_slice_get, slice_get-get_or, sl
 use Rattle.cov_types.specs.Seg.{seg_cmp}
 use Rattle.cov_types.specs.declared.seg.Seg.{Seg}
 use Rattle.cov_types.proofs.SegOrder.{seg_cmp_total, is_lt-seg_cmp, is_gt-seg_cmp, is_seg_before-asymm, is_seg_before-irrefl, same_segs_from_neither}
-use Rattle.overlay.specs.Noding.{IsAscending}
+use Rattle.arrangement.specs.Noding.{IsAscending}
 
 pub contained_at : {X : Type 0} (xs : List X) (k : ℕ) (x : X) → slice_get xs k ≡ Some x → Contains xs x
 contained_at xs k x at = (k, slice_get_within xs k x at, get_or_from_slice_get xs k x x at)

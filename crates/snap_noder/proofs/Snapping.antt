@@ -15,14 +15,14 @@ use Rattle.cov_types.specs.declared.seg.Seg.{Seg}
 use Rattle.plane.specs.Noded.{IsNodedFully}
 use Rattle.plane.specs.Snapping.{IsChain, chain_edges}
 use Rattle.plane.proofs.Sweeps.{rises-in_range}
-use Rattle.rounding.specs.Laws.{IsNodedEdge}
-use Rattle.rounding.proofs.Edges.{chain_edge, edge_in_range}
-use Rattle.rounding.proofs.Ends.{even_ends}
-use Rattle.rounding.proofs.Noded.{list_fully_noded}
-use Rattle.rounding.proofs.Shadow.{half_unit}
-use Rattle.overlay.specs.declared.odd_use.OddUse.{OddUse}
-use Rattle.overlay.specs.Noding.{segments, AreChains, snapped_uses, AreSnapped, AreEdges, IsNoded, odd_uses}
-use Rattle.crossings.proofs.Lists.{contains_here, contains_there, contains-map}
+use Rattle.rounding_laws.specs.Laws.{IsNodedEdge}
+use Rattle.rounding_laws.proofs.Edges.{chain_edge, edge_in_range}
+use Rattle.rounding_laws.proofs.Ends.{even_ends}
+use Rattle.rounding_laws.proofs.Noded.{list_fully_noded}
+use Rattle.rounding_laws.proofs.Shadow.{half_unit}
+use Rattle.arrangement.specs.declared.odd_use.OddUse.{OddUse}
+use Rattle.arrangement.specs.Noding.{segments, AreChains, snapped_uses, AreSnapped, AreEdges, IsNoded, odd_uses}
+use Rattle.crossing_laws.proofs.Lists.{contains_here, contains_there, contains-map}
 use Rattle.snap_noder.specs.Snapped.{chain_uses, IsNearSegments}
 use Rattle.snap_noder.proofs.LiveUses.{even_odd}
 use Rattle.snap_noder.proofs.ParityLemmas.{contains_mapped}

@@ -3,7 +3,7 @@ use mathlib.Core.List.{[], ◌∷◌}
 use Rattle.std.proofs.Common.{◌≡◌, ◌⊎◌, inl, inr, refl, sym, ◌∙◌, ap, subst, zero, suc, ◌+◌, ◌<◌, ◌%◌, Bool, true, false, cond, List, ◌++◌, Decides, arith}
 use Rattle.std.specs.Prelude.{Contains, count_by}
 use Rattle.std.proofs.lemmas.Bool.{false≢true}
-use Rattle.crossings.proofs.Lists.{contains_here, contains_there}
+use Rattle.crossing_laws.proofs.Lists.{contains_here, contains_there}
 use Rattle.std.proofs.lemmas.List.Sums.{sum_by-append, sum_by-cons}
 
 pub contains_cases : {X : Type 0} (y x : X) (xs : List X) → Contains (y ∷ xs) x → (y ≡ x) ⊎ Contains xs x

@@ -2,8 +2,8 @@
 use Rattle.std.specs.Prelude.{IsTrue, List, AllPairs}
 use Rattle.std.specs.Ordering.{nat_cmp, ordering_then}
 use Rattle.std.specs.declared.cmp.Ordering.{Ordering}
-use Rattle.overlay.specs.Noding.{is_odd_before}
-use Rattle.overlay.specs.declared.odd_use.OddUse.{OddUse}
+use Rattle.arrangement.specs.Noding.{is_odd_before}
+use Rattle.arrangement.specs.declared.odd_use.OddUse.{OddUse}
 
 -- what `cmp` answers of two odd pairs
 abbrev pub odd_cmp : OddUse → OddUse → Ordering

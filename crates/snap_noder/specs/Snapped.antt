@@ -7,7 +7,7 @@ use Rattle.plane.specs.Point.{Point}
 use Rattle.plane.specs.Segment.{IsOn}
 use Rattle.plane.specs.Snapping.{IsChain, chain_edges}
 use Rattle.plane.specs.Noded.{IsWithinHalf}
-use Rattle.overlay.specs.Noding.{segments}
+use Rattle.arrangement.specs.Noding.{segments}
 
 -- the uses of the edges of a chain in place of the use of its segment
 abbrev pub chain_uses : EdgeUse × List Coord → List EdgeUse

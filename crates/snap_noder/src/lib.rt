@@ -2,7 +2,7 @@
 //! number of times.
 //!
 //! Its promise: `node` gives exactly the edges of the chains, any two of them equal or with at most common ends in common. What
-//! noded, odd and live edges are is defined in `overlay`, whose `noding_law` says that uses have one noding.
+//! noded, odd and live edges are is defined in `arrangement`, whose `noding_law` says that uses have one noding.
 #![tactic(auto)]
 
 mod live_edges;
@@ -15,7 +15,7 @@ pub use live_edges::LiveEdges;
 pub use liveness::{live, uses_of_odd};
 pub use noded::Noded;
 pub use noding::{node, plain};
-pub use overlay::OddUse;
+pub use arrangement::OddUse;
 
 #[cfg(test)]
 mod tests;

@@ -1,7 +1,7 @@
 ghost use Rattle.std.specs.Prelude.{◌≡◌, Contains, IfOk, ◌↔◌};
 ghost use Rattle.cov_types.specs.Uses.{HasEvenEnds};
-ghost use Rattle.overlay.specs.Noding.{AreLiveEdges, odd_uses};
-ghost use Rattle.sectors.specs.Sector.{AreDistinct, IsPlanar};
+ghost use Rattle.arrangement.specs.Noding.{AreLiveEdges, odd_uses};
+ghost use Rattle.sector_laws.specs.Sector.{AreDistinct, IsPlanar};
 
 use crate::live_edges::LiveEdges;
 use crate::noded::Noded;

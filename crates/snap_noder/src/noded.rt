@@ -1,9 +1,9 @@
-ghost use Rattle.overlay.specs.Noding.{IsAscending};
+ghost use Rattle.arrangement.specs.Noding.{IsAscending};
 ghost use Rattle.snap_noder.specs.Order.{AreOddAscending};
 ghost use Rattle.snap_noder.specs.Places.{HavePlaces};
 
 use cov_types::Seg;
-use overlay::OddUse;
+use arrangement::OddUse;
 
 /// Edges, and for each member those that it has an odd number of times.
 #[derive(Drop)]

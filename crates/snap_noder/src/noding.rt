@@ -2,7 +2,7 @@ ghost use Rattle.std.specs.Prelude.{◌≡◌, ◌++◌, All, IfOk, OnOk};
 ghost use Rattle.cov_types.specs.Range.{IsSegInRange};
 ghost use Rattle.cov_types.specs.Uses.{HasEvenEnds};
 ghost use Rattle.plane.specs.Noded.{IsNodedFully};
-ghost use Rattle.overlay.specs.Noding.{AreEdges, AreSnapped, IsNoded, odd_uses, segments};
+ghost use Rattle.arrangement.specs.Noding.{AreEdges, AreSnapped, IsNoded, odd_uses, segments};
 ghost use Rattle.snap_noder.specs.Snapped.{IsNearSegments, chain_uses};
 
 use crate::noded::Noded;

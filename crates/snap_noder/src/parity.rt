@@ -1,11 +1,11 @@
 ghost use Rattle.std.specs.Prelude.{◌≡◌, ◌%◌, All, Contains, IfOk, IsSorted, IsTrue, ◌↔◌, slice_get};
-ghost use Rattle.overlay.specs.Noding.{AreEdges, IsAscending, segments};
+ghost use Rattle.arrangement.specs.Noding.{AreEdges, IsAscending, segments};
 ghost use Rattle.snap_noder.specs.Order.{AreOddAscending, odd_cmp};
 ghost use Rattle.snap_noder.specs.Places.{ArePlacesOf, IsLast, odd_times};
 
 use crate::noded::Noded;
 use cov_types::{EdgeUse, NoMemory, Seg};
-use overlay::OddUse;
+use arrangement::OddUse;
 use std::alloc::Global;
 
 /// The edges of a list of uses, and for each member those that it uses an odd number of times.

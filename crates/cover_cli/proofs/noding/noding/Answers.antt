@@ -7,8 +7,8 @@ use Rattle.cov_types.specs.declared.seg.Seg.{Seg}
 use Rattle.cov_write.specs.Written.{lines_text}
 use Rattle.cover_cli.proofs.Listing.{member_lists_are, lists_moved}
 use Rattle.cover_cli.specs.Lines.{AreMemberLists}
-use Rattle.overlay.specs.Noding.{IsNoded, odd_uses}
-use Rattle.overlay.specs.declared.odd_use.OddUse.{OddUse}
+use Rattle.arrangement.specs.Noding.{IsNoded, odd_uses}
+use Rattle.arrangement.specs.declared.odd_use.OddUse.{OddUse}
 use Rattle.cover_cli.proofs.noding.noding.Goals as goal
 
 pub returns : goal.returns

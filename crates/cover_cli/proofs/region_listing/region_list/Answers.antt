@@ -5,10 +5,10 @@ use Rattle.std.proofs.lemmas.Result.{IfOk-weaker}
 use Rattle.cov_types.specs.Uses.{uses_of}
 use Rattle.cov_types.specs.declared.edge_use.EdgeUse.{EdgeUse}
 use Rattle.cov_types.specs.declared.seg.Seg.{Seg}
-use Rattle.sectors.specs.Sector.{IsPlanar}
-use Rattle.regions.proofs.Exists.{regions_exist}
-use Rattle.overlay.specs.Noding.{IsNoded}
-use Rattle.overlay.specs.declared.odd_use.OddUse.{OddUse}
+use Rattle.sector_laws.specs.Sector.{IsPlanar}
+use Rattle.region_laws.proofs.Exists.{regions_exist}
+use Rattle.arrangement.specs.Noding.{IsNoded}
+use Rattle.arrangement.specs.declared.odd_use.OddUse.{OddUse}
 use Rattle.cover_cli.proofs.Overlays.{overlay_of, odd_members, snapped_overlay, is_overlay_of}
 use Rattle.cover_cli.proofs.region_listing.region_list.Goals as goal
 

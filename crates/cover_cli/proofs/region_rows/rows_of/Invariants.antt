@@ -1,5 +1,5 @@
 -- The rows of the regions below the side are written.
-use Rattle.overlay.specs.Overlay.{Overlay}
+use Rattle.arrangement.specs.Overlay.{Overlay}
 use Rattle.owner_label.specs.Labelled.{IsOverlay}
 use Rattle.cover_cli.specs.Regions.{AreRows}
 use Rattle.cover_cli.proofs.RegionRows.{regions_below}

@@ -2,7 +2,7 @@ use Rattle.std.proofs.Common.{FitsSigned, rules}
 use mir.Syntax.{w128}
 use Rattle.plane.specs.Point.{at_coord}
 use Rattle.plane.specs.Segment.{side}
-use Rattle.regions.specs.Below.{sweep_rise}
+use Rattle.region_laws.specs.Below.{sweep_rise}
 use Rattle.face_walk.proofs.Depth.{depth_is, nearer_by_turn, nearer_by_depth}
 use Rattle.face_walk.proofs.below.is_nearer.Goals as goal
 

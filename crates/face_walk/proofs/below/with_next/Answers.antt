@@ -1,7 +1,7 @@
 use Rattle.std.proofs.Common.{refl, sym, ◌∙◌, subst, length, true≢false, IsTrue}
 use Rattle.std.proofs.lemmas.Option.{same_Some, slice_get_read, slice_get_within}
 use Rattle.plane.specs.Point.{at_coord}
-use Rattle.regions.specs.Below.{is_under}
+use Rattle.region_laws.specs.Below.{is_under}
 use Rattle.face_walk.specs.Nearest.{IsNearestOfFirst, IsBestOfFirst}
 use Rattle.face_walk.proofs.Scan.{next_not_under, next_first, next_farther, next_nearer}
 use Rattle.face_walk.proofs.below.with_next.Goals as goal

@@ -1,5 +1,5 @@
 use Rattle.std.proofs.Common.{◌≡◌, sym, ◌∙◌, ap, subst, ◌+◌, List, [], ◌∷◌, ◌++◌, arith}
-use Rattle.connected.specs.declared.link.Link.{Link}
+use Rattle.components.specs.declared.link.Link.{Link}
 use Rattle.face_walk.specs.Cycles.{AreAlong, AreFirst}
 use Rattle.face_walk.proofs.Cycles.{first-shown, first-within}
 use Rattle.face_walk.proofs.LinksSoFar.{AreLinksOfFirst, links_first, links_same, links_push, links_of_all}

@@ -1,7 +1,7 @@
 use Rattle.std.proofs.Common.{◌^◌, FitsSigned, sym, subst, lit<}
 use Rattle.std.proofs.lemmas.Int.{to_z-of_z}
 use mir.Syntax.{w32, w128}
-use Rattle.exact.proofs.Bound.{IsWithin, within_fits}
+use Rattle.integer_laws.proofs.Bound.{IsWithin, within_fits}
 use Rattle.grid_pred.proofs.Small.{offset_is, offset_within}
 use Rattle.grid_pred.proofs.ray.offset.Goals as goal
 

@@ -1,6 +1,6 @@
 use Rattle.std.proofs.Common.{◌/◌, length, arith, refl}
 use Rattle.std.proofs.lemmas.Option.{slice_get_read}
-use Rattle.sectors.proofs.Numbers.{half_edge_at}
+use Rattle.sector_laws.proofs.Numbers.{half_edge_at}
 use Rattle.half_edge.proofs.directed.directed.Goals as goal
 
 pub returns : goal.returns

@@ -1,5 +1,5 @@
 use Rattle.plane.proofs.Sweeps.{rises-in_range}
-use Rattle.rounding.proofs.First.{passes-is}
+use Rattle.rounding_laws.proofs.First.{passes-is}
 use Rattle.hot_pixel.proofs.passing.before.Goals as goal
 
 pub returns : goal.returns

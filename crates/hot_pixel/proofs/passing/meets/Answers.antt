@@ -1,6 +1,6 @@
 use Rattle.std.proofs.Common.{sym, true≢false, arith}
 use Rattle.std.proofs.lemmas.Int.{ints}
-use Rattle.rounding.proofs.Meets.{meets-is}
+use Rattle.rounding_laws.proofs.Meets.{meets-is}
 use Rattle.hot_pixel.proofs.Beside.{beside_up, beside_down}
 use Rattle.hot_pixel.proofs.passing.meets.Goals as goal
 use Rattle.hot_pixel.proofs.passing.meets.Goals.{then-r-s-via-then-r-s, then-r-s-via-else-r-s+then-s-r}

@@ -1,6 +1,6 @@
 use Rattle.std.proofs.Common.{◌^◌, sym, subst, arith, rules}
 use Rattle.std.proofs.lemmas.Int.{ints}
-use Rattle.exact.proofs.Bound.{IsWithin}
+use Rattle.integer_laws.proofs.Bound.{IsWithin}
 use Rattle.hot_pixel.proofs.Beside.{turn_small}
 use Rattle.hot_pixel.proofs.passing.twice_turn.Goals as goal
 

@@ -1,7 +1,7 @@
 use Rattle.std.proofs.Common.{FitsSigned, subst, rules}
 use Rattle.std.proofs.lemmas.Int.{to_z-of_z}
 use mir.Syntax.{w32, w128}
-use Rattle.exact.proofs.Cast.{positive_natural}
+use Rattle.integer_laws.proofs.Cast.{positive_natural}
 use Rattle.grid_pred.specs.Crossing.{at_cross}
 use Rattle.hot_pixel.specs.Pixel.{RoundsTo}
 use Rattle.hot_pixel.proofs.Rounded.{pixel_is}

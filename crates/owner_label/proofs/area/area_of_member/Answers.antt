@@ -1,6 +1,6 @@
 use mir.Syntax.{w128}
 use Rattle.std.proofs.Common.{◌∙◌, ◌<◌, ◌^◌, ◌==◌, ℤ, List, filter, ap, to_z, arith}
-use Rattle.overlay.specs.declared.odd_use.OddUse.{OddUse}
+use Rattle.arrangement.specs.declared.odd_use.OddUse.{OddUse}
 use Rattle.owner_label.proofs.Gains.{sum_is, sum_small, gains_place, gains_more, gains_whole}
 use Rattle.owner_label.proofs.area.area_of_member.Goals as goal
 

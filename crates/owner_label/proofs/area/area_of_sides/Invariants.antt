@@ -1,5 +1,5 @@
 use Rattle.std.proofs.Common.{◌≡◌, ◌≤◌, ◌*◌, ◌^◌, take, unsigned_abs}
-use Rattle.crossings.specs.Crossing.{int_sum_by}
+use Rattle.crossing_laws.specs.Crossing.{int_sum_by}
 use Rattle.owner_label.specs.Sides.{side_area}
 use Rattle.owner_label.proofs.area.area_of_sides.Given as goal
 

@@ -1,5 +1,5 @@
 use Rattle.std.proofs.Common.{◌≡◌, take}
-use Rattle.overlay.specs.Noding.{odd_uses}
+use Rattle.arrangement.specs.Noding.{odd_uses}
 use Rattle.snap_noder.proofs.liveness.uses_of_odd.Given as goal
 
 abbrev pub invariant-loop-o : goal.invariant-loop-o

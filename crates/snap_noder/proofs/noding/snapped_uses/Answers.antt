@@ -1,7 +1,7 @@
 use Rattle.std.proofs.Common.{subst, List}
 use Rattle.cov_types.specs.declared.seg.Seg.{Seg}
 use Rattle.plane.specs.Snapping.{IsChain}
-use Rattle.overlay.specs.Noding.{segments}
+use Rattle.arrangement.specs.Noding.{segments}
 use Rattle.snap_noder.proofs.Snapping.{snapped_start, snapped_more, snapped_all}
 use Rattle.snap_noder.proofs.noding.snapped_uses.Goals as goal
 

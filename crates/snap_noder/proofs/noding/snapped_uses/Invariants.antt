@@ -1,5 +1,5 @@
 use Rattle.std.proofs.Common.{take}
-use Rattle.overlay.specs.Noding.{segments}
+use Rattle.arrangement.specs.Noding.{segments}
 use Rattle.snap_noder.proofs.Snapping.{SnappedSoFar}
 use Rattle.snap_noder.proofs.noding.snapped_uses.Given as goal
 

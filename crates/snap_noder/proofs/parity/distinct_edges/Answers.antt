@@ -6,7 +6,7 @@ use Rattle.cov_types.specs.declared.seg.Seg.{Seg}
 use Rattle.cov_types.proofs.Equal.{Decides-same_segs}
 use Rattle.cov_types.proofs.SegOrder.{seg_cmp_total, is_lt-seg_cmp, same_segs_from_neither}
 use Rattle.hot_pixel.proofs.Ascending.{set_ascending, set_contains}
-use Rattle.crossings.specs.Across.{is_same_seg}
+use Rattle.crossing_laws.specs.Across.{is_same_seg}
 use Rattle.snap_noder.proofs.parity.distinct_edges.Goals as goal
 
 pub returns-clause-exact : goal.returns-clause-exact

@@ -1,6 +1,6 @@
 use Rattle.std.proofs.Common.{ap, ◌∙◌, sym, true≢false, ◌-◌, take, Vec, Global}
 use Rattle.std.proofs.lemmas.List.{get_or_default}
-use Rattle.overlay.specs.declared.odd_use.OddUse.{OddUse}
+use Rattle.arrangement.specs.declared.odd_use.OddUse.{OddUse}
 use Rattle.snap_noder.proofs.Cancel.{odd_start, odd_all, odd_gone, odd_come, still_not_last}
 use Rattle.snap_noder.proofs.parity.odd_ones.Goals as goal
 use Rattle.snap_noder.proofs.parity.odd_ones.Goals.{then-is_last, else-is_last+in_ok-push}

@@ -1,7 +1,7 @@
 use Rattle.std.proofs.Common.{sym, subst, ℕ, ◌+◌, ◌<◌, List, All}
 use Rattle.cov_types.specs.declared.seg.Seg.{Seg}
-use Rattle.connected.specs.declared.link.Link.{Link}
-use Rattle.connected.specs.Connected.{AreComponents}
+use Rattle.components.specs.declared.link.Link.{Link}
+use Rattle.components.specs.Connected.{AreComponents}
 use Rattle.face_walk.specs.Links.{AreLinks}
 use Rattle.face_walk.specs.Numbers.{AreNumbered}
 use Rattle.face_walk.proofs.Numbering.{numbered}

@@ -1,6 +1,6 @@
 use Rattle.half_edge.proofs.Counts.{next_begins, next_within}
 use Rattle.half_edge.proofs.Reading.{next_at, planar_of, distinct_of}
-use Rattle.sectors.proofs.Numbers.{sides_joined, one_next_number, next_of_one_number}
+use Rattle.sector_laws.proofs.Numbers.{sides_joined, one_next_number, next_of_one_number}
 use Rattle.half_edge.proofs.arena.Arena.next.Goals as goal
 
 pub returns-clause-next : goal.returns-clause-next

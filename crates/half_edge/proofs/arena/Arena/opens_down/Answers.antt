@@ -4,7 +4,7 @@ use Rattle.half_edge.proofs.Counts.{next_within}
 use Rattle.half_edge.proofs.Opening.{opens}
 use Rattle.half_edge.proofs.Reading.{next_at, planar_of}
 use Rattle.half_edge.specs.Directed.{half_edge_of}
-use Rattle.sectors.specs.Sector.{IsHalfEdge}
+use Rattle.sector_laws.specs.Sector.{IsHalfEdge}
 use Rattle.half_edge.proofs.arena.Arena.opens_down.Goals as goal
 
 pub directed-requires : goal.directed-requires

@@ -1,9 +1,0 @@
-ghost use Rattle.crossings.specs.Laws.{BesideLaw, AcrossLaw, MemberAcrossLaw, SumAcrossLaw};
-
-/// From the side point below an edge to the one above it, only that edge changes. A call does nothing.
-pub fn across_law()
-    ensures beside { BesideLaw }
-    ensures edges { AcrossLaw }
-    ensures members { MemberAcrossLaw }
-    ensures sums { SumAcrossLaw }
-{}

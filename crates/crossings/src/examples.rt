@@ -1,8 +1,0 @@
-ghost use Rattle.crossings.specs.Examples.{IslandExample, TriangleExample, WindingExamples};
-
-/// Points that are joined, points that are not, and how often rings wind round points. A call does nothing.
-pub fn joined_examples()
-    ensures island { IslandExample }
-    ensures triangle { TriangleExample }
-    ensures winding { WindingExamples }
-{}

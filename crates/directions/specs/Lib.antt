@@ -1,3 +1,0 @@
-pub mod Direction
-pub mod Laws
-pub mod Examples

@@ -1,6 +1,0 @@
-ghost use Rattle.regions.specs.Examples.{UnderExamples};
-
-/// Which edges of a square are under which points. A call does nothing.
-pub fn below_examples()
-    ensures under { UnderExamples }
-{}

@@ -1,0 +1,17 @@
+pub mod Lines
+pub mod Sliver
+pub mod Near
+pub mod Vectors
+pub mod Leaving
+pub mod Turns
+pub mod Ends
+pub mod Angles
+pub mod Sectors
+pub mod Order
+pub mod Next
+pub mod Exists
+pub mod Shapes
+pub mod Numbers
+pub mod Fans
+pub mod Turning
+pub mod AtVertex

@@ -1,8 +1,0 @@
-use Rattle.sectors.proofs.Fans.{fan_next, fan_round}
-use Rattle.sectors.proofs.angle.fan_law.Goals as goal
-
-pub returns-clause-neighbours : goal.returns-clause-neighbours
-returns-clause-neighbours c = fan_next
-
-pub returns-clause-round : goal.returns-clause-round
-returns-clause-round c = fan_round

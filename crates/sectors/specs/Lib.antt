@@ -1,3 +1,0 @@
-pub mod Sector
-pub mod Laws
-pub mod Examples

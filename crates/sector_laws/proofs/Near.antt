@@ -27,10 +27,10 @@ fine = pos (2 ^ 200)
 abbrev pub near : Coord → ℤ → ℤ → Point
 near v x y = record { x = (v.x *ℤ fine) +ℤ x; y = (v.y *ℤ fine) +ℤ y; d = 2 ^ 200; positive = lit≤ tt }
 
--- the way to it is at most 2^-32 long in x and in y
+-- the way to it is at most 2^-30 long in x and in y
 pub record IsSlight (x y : ℤ) : Type 0 where
-  pub x_within : IsWithin (2 ^ 168) x
-  pub y_within : IsWithin (2 ^ 168) y
+  pub x_within : IsWithin (2 ^ 169 + 2 ^ 30) x
+  pub y_within : IsWithin (2 ^ 169 + 2 ^ 30) y
 
 -- its sweep value and its side
 near_sweep_is : (k n vx vy x y : ℤ) → (k *ℤ ((vx *ℤ n) +ℤ x)) +ℤ ((vy *ℤ n) +ℤ y) ≡ (n *ℤ ((k *ℤ vx) +ℤ vy)) +ℤ ((k *ℤ x) +ℤ y)
@@ -55,7 +55,7 @@ side-near e v x y = near_side_is fine e.lo.x e.lo.y e.hi.x e.hi.y v.x v.y x y
 
 -- ---- how little they change
 
-sweep_slight : (x y : ℤ) → IsSlight x y → IsWithin (2 ^ 199) ((pos (2 ^ 30) *ℤ x) +ℤ y)
+sweep_slight : (x y : ℤ) → IsSlight x y → IsWithin (2 ^ 199 + 2 ^ 198) ((pos (2 ^ 30) *ℤ x) +ℤ y)
 sweep_slight x y h = record {
   low = omega (arith, lin, pos_times (2 ^ 30) x, h.x_within.low, h.y_within.low);
   high = omega (arith, lin, pos_times (2 ^ 30) x, h.x_within.high, h.y_within.high);
@@ -67,22 +67,22 @@ length_within e h = (
   record { low = omega (arith, lin, h.hi.bottom, h.lo.top); high = omega (arith, lin, h.hi.top, h.lo.bottom) },
 )
 
-side_slight : (e : Seg) (x y : ℤ) → IsSegInRange e → IsSlight x y → IsWithin (2 ^ 199) (((e.hi.x -ℤ e.lo.x) *ℤ y) -ℤ ((e.hi.y -ℤ e.lo.y) *ℤ x))
+side_slight : (e : Seg) (x y : ℤ) → IsSegInRange e → IsSlight x y → IsWithin (2 ^ 199 + 2 ^ 198) (((e.hi.x -ℤ e.lo.x) *ℤ y) -ℤ ((e.hi.y -ℤ e.lo.y) *ℤ x))
 side_slight e x y he h =
     let (across, up) = length_within e he in
-    within_more {m = 2 ^ 29 * 2 ^ 168 + 2 ^ 29 * 2 ^ 168} (lit≤ tt) (within_difference (within_product across h.y_within) (within_product up h.x_within))
+    within_more {m = 2 ^ 29 * (2 ^ 169 + 2 ^ 30) + 2 ^ 29 * (2 ^ 169 + 2 ^ 30)} (lit≤ tt) (within_difference (within_product across h.y_within) (within_product up h.x_within))
 
 -- over plain variables: n times a whole number that is not 0, and less than n more, keeps the sign
-still_positive : (s x : ℤ) → pos 0 <ℤ s → IsWithin (2 ^ 199) x → pos 0 <ℤ ((fine *ℤ s) +ℤ x)
+still_positive : (s x : ℤ) → pos 0 <ℤ s → IsWithin (2 ^ 199 + 2 ^ 198) x → pos 0 <ℤ ((fine *ℤ s) +ℤ x)
 still_positive s x h w = omega (arith, lin, pos_times (2 ^ 200) s, w.low)
 
-still_negative : (s x : ℤ) → s <ℤ pos 0 → IsWithin (2 ^ 199) x → ((fine *ℤ s) +ℤ x) <ℤ pos 0
+still_negative : (s x : ℤ) → s <ℤ pos 0 → IsWithin (2 ^ 199 + 2 ^ 198) x → ((fine *ℤ s) +ℤ x) <ℤ pos 0
 still_negative s x h w = omega (arith, lin, pos_times (2 ^ 200) s, w.high)
 
-still_below : (s l x : ℤ) → s <ℤ l → IsWithin (2 ^ 199) x → ((fine *ℤ s) +ℤ x) <ℤ (l *ℤ fine)
+still_below : (s l x : ℤ) → s <ℤ l → IsWithin (2 ^ 199 + 2 ^ 198) x → ((fine *ℤ s) +ℤ x) <ℤ (l *ℤ fine)
 still_below s l x h w = omega (arith, lin, pos_times (2 ^ 200) s, mul_comm l fine, pos_times (2 ^ 200) l, w.high)
 
-still_above : (s l x : ℤ) → l <ℤ s → IsWithin (2 ^ 199) x → (l *ℤ fine) <ℤ ((fine *ℤ s) +ℤ x)
+still_above : (s l x : ℤ) → l <ℤ s → IsWithin (2 ^ 199 + 2 ^ 198) x → (l *ℤ fine) <ℤ ((fine *ℤ s) +ℤ x)
 still_above s l x h w = omega (arith, lin, pos_times (2 ^ 200) s, mul_comm l fine, pos_times (2 ^ 200) l, w.low)
 
 -- ---- an edge that the vertex is not on misses the ways between points near the vertex

@@ -11,7 +11,7 @@
 //!
 //! - `Lines`: a way on one side of a line misses an edge on the other (`parted_above`); forms made of the sweep value and the side (`mix`).
 //! - `Sliver`: nothing that meets an edge in ends alone comes into the flat triangle on a side of it (`sliver_free`, `sliver_clear`).
-//! - `Near`: the points within 2^-32 of a vertex (`near`); edges that do not end there are far (`far_misses`), and those that do are missed
+//! - `Near`: the points within 2^-30 of a vertex (`near`); edges that do not end there are far (`far_misses`), and those that do are missed
 //!   where their other end is not in the sector of the way (`parted_misses`). `Vectors` says when that is, over plain numbers.
 //! - `Leaving`: the half-edges of a vertex as ways from it, on the left or the right of the ray (`heading_same`, `heading_other`).
 //! - `Turns`: clear steps round a vertex, to the ray, from it, within a half, and round an empty half (`to_ray`, `from_ray`, `in_half`,

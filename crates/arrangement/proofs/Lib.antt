@@ -9,3 +9,4 @@ pub mod HalfCrossing
 pub mod Squares
 pub mod SquareRegions
 pub mod SquareOverlay
+pub mod LiveOverlays

@@ -1,16 +1,19 @@
 -- The laws that make the definitions of overlays believable.
-use Rattle.std.specs.Prelude.{◌≡◌, ℕ, List, All, Contains, Option, false}
+use Rattle.std.specs.Prelude.{◌≡◌, ℕ, ◌<◌, List, All, Contains, Option, false}
 use Rattle.cov_types.specs.declared.edge_use.EdgeUse.{EdgeUse}
 use Rattle.cov_types.specs.declared.seg.Seg.{Seg}
 use Rattle.cov_types.specs.Range.{IsSegInRange}
+use Rattle.cov_types.specs.Uses.{HasEvenEnds}
 use Rattle.plane.specs.Parity.{member_holds}
 use Rattle.plane.specs.Point.{Point}
-use Rattle.plane.specs.Region.{IsSide, AreRegions, far_point}
+use Rattle.plane.specs.Label.{label_at}
+use Rattle.plane.specs.Region.{IsSide, IsRegionOf, AreRegions, far_point}
 use Rattle.plane.specs.Segment.{upper, lower}
 use Rattle.sector_laws.specs.Sector.{IsPlanar}
 use Rattle.arrangement.specs.declared.odd_use.OddUse.{OddUse}
 use Rattle.arrangement.specs.Noding.{segments, AreEdges, AreLiveEdges, odd_uses, IsNoded}
-use Rattle.arrangement.specs.Overlay.{Overlay}
+use Rattle.arrangement.specs.Overlay.{Overlay, IsOverlayOf, label_of}
+use Rattle.arrangement.specs.Live.{IsLiveOverlay}
 use Rattle.arrangement.specs.Measure.{region_area2, border, owned_border}
 
 -- ---- odd edges
@@ -64,3 +67,14 @@ pub record HaveSameMeasures (o q : Overlay) (r : ℕ) : Type 0 where
 abbrev pub MeasuresLaw : Type 0
 MeasuresLaw = (o : Overlay) (number : ℕ → ℕ) → AreRegions o.edges o.number → AreRegions o.edges number
     → (r : ℕ) → HaveSameMeasures o (record o { number = number }) r
+
+-- ---- overlays
+
+-- an overlay of uses that have even ends is live, where its edges are in range and meet in ends alone
+abbrev pub OverlayLaw : Type 0
+OverlayLaw = (uses : List EdgeUse) (members : ℕ) (o : Overlay) → IsOverlayOf uses members o → IsPlanar o.edges → HasEvenEnds uses
+    → All (λ u. u.member < members) uses → IsLiveOverlay o
+
+-- the label of a region is that of each of its points
+abbrev pub LabelLaw : Type 0
+LabelLaw = (o : Overlay) → IsLiveOverlay o → (p : Point) (r : ℕ) → IsRegionOf o.edges p r → label_of o r ≡ label_at o.uses o.members p

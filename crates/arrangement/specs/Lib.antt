@@ -1,6 +1,7 @@
 pub mod Ascending
 pub mod Noding
 pub mod Overlay
+pub mod Live
 pub mod Measure
 pub mod Laws
 pub mod Examples

@@ -1,4 +1,4 @@
-ghost use Rattle.arrangement.specs.Laws.{OddUsesLaw, LiveUsesLaw, LiveAgainLaw, NodingLaw, SidesDifferLaw, FarLaw, NumberingLaw, MeasuresLaw};
+ghost use Rattle.arrangement.specs.Laws.{OddUsesLaw, LiveUsesLaw, LiveAgainLaw, NodingLaw, SidesDifferLaw, FarLaw, NumberingLaw, MeasuresLaw, OverlayLaw, LabelLaw};
 
 /// Members hold points by their odd edges alone. A call does nothing.
 pub fn odd_uses_law()
@@ -22,4 +22,10 @@ pub fn label_law()
 pub fn numbering_law()
     ensures sides { NumberingLaw }
     ensures measures { MeasuresLaw }
+{}
+
+/// What an overlay of a coverage keeps, and the labels of its regions. A call does nothing.
+pub fn overlay_law()
+    ensures live { OverlayLaw }
+    ensures labels { LabelLaw }
 {}

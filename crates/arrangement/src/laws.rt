@@ -1,4 +1,4 @@
-ghost use Rattle.arrangement.specs.Laws.{OddUsesLaw, LiveUsesLaw, LiveAgainLaw, NodingLaw, SidesDifferLaw, FarLaw, NumberingLaw, MeasuresLaw, ClearanceLaw, NarrowLaw, PickLaw, OwnerLaw, PartLaw, AngleLaw};
+ghost use Rattle.arrangement.specs.Laws.{OddUsesLaw, LiveUsesLaw, LiveAgainLaw, NodingLaw, SidesDifferLaw, FarLaw, NumberingLaw, MeasuresLaw};
 
 /// Members hold points by their odd edges alone. A call does nothing.
 pub fn odd_uses_law()
@@ -22,30 +22,4 @@ pub fn label_law()
 pub fn numbering_law()
     ensures sides { NumberingLaw }
     ensures measures { MeasuresLaw }
-{}
-
-/// A region has one clearance at most, and is narrow where that is passed. A call does nothing.
-pub fn clearance_law()
-    ensures one { ClearanceLaw }
-    ensures narrow { NarrowLaw }
-{}
-
-/// What the four rules pick. A call does nothing.
-pub fn pick_law()
-    ensures { PickLaw }
-{}
-
-/// A region has one owner at most. A call does nothing.
-pub fn owner_law<State>()
-    ensures { OwnerLaw State }
-{}
-
-/// The parts of an owner are disjoint. A call does nothing.
-pub fn part_law()
-    ensures { PartLaw }
-{}
-
-/// The angles at a vertex are the sectors between half-edges. A call does nothing.
-pub fn angle_law()
-    ensures { AngleLaw }
 {}

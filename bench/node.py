@@ -13,7 +13,7 @@ import sys
 import tempfile
 
 TOP = pathlib.Path(__file__).resolve().parent.parent
-PROGRAM = pathlib.Path(os.environ.get("PROGRAM", TOP / "crates/cover/out/cover")).resolve()
+PROGRAM = pathlib.Path(os.environ.get("PROGRAM", TOP / "build/cover")).resolve()
 
 
 def square(number):

@@ -1,9 +1,9 @@
 -- An overlay of uses in range that meet in ends alone and have even ends is live, and its labels tell the sides of an edge apart.
 use mathlib.Core.List.{[], ◌∷◌}
-use Rattle.std.proofs.Common.{◌≡◌, refl, sym, ◌∙◌, ap, subst, ℕ, zero, suc, ◌<◌, ◌+◌, ◌%◌, ◌==◌, ◌&&◌, Bool, true, false, cond, List, ◌++◌, inl, inr, nat_lt, arith}
-use Rattle.std.specs.Prelude.{All, Contains, filter, sum_by, Some, slice_get, flat_map, option_to_list}
+use Rattle.std.proofs.Common.{◌≡◌, refl, sym, ◌∙◌, ap, subst, ℕ, zero, suc, ◌<◌, ◌%◌, ◌==◌, ◌&&◌, Bool, true, false, cond, List, ◌++◌, inl, inr, arith}
+use Rattle.std.specs.Prelude.{All, Contains, filter, Some, slice_get, flat_map, option_to_list}
 use Rattle.std.proofs.lemmas.Bool.{false≢true, and_parts, cases_order}
-use Rattle.std.proofs.lemmas.Bool.Decides.{nat_tests, Decides-eqb}
+use Rattle.std.proofs.lemmas.Bool.Decides.{Decides-eqb}
 use Rattle.std.proofs.lemmas.List.{get_or_default}
 use Rattle.std.proofs.lemmas.List.Elements.{All-contains, Contains-append_left, Contains-push_cases}
 use Rattle.cov_types.specs.declared.edge_use.EdgeUse.{EdgeUse}
@@ -13,13 +13,12 @@ use Rattle.cov_types.specs.Uses.{ends_inside, HasEvenEnds}
 use Rattle.plane.specs.Label.{numbers_below, label_at}
 use Rattle.plane.specs.Parity.{member_holds}
 use Rattle.plane.specs.Point.{Point}
-use Rattle.plane.specs.Region.{side_points, IsSide, IsRegionOf}
+use Rattle.plane.specs.Region.{side_points, IsRegionOf}
 use Rattle.plane.specs.Segment.{upper, lower}
 use Rattle.crossing_laws.specs.Across.{AllMeetInEnds, is_same_seg}
 use Rattle.crossing_laws.proofs.Changes.{member_holds-across}
 use Rattle.crossing_laws.proofs.Coverages.{swept_in_range}
-use Rattle.crossing_laws.proofs.Lists.{contains_here, contains_there}
-use Rattle.crossing_laws.proofs.Located.{same_region}
+use Rattle.crossing_laws.proofs.Lists.{contains_there}
 use Rattle.crossing_laws.proofs.Sums.{label-joined}
 use Rattle.sector_laws.specs.Sector.{IsPlanar}
 use Rattle.arrangement.specs.Live.{IsLiveOverlay}

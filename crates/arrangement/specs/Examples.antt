@@ -1,5 +1,5 @@
 -- Examples of the definitions of overlays, with numbers.
-use Rattle.std.specs.Prelude.{◌≡◌, ℕ, List, [], ◌∷◌, ◌++◌, map, option_to_list, slice_index, pos}
+use Rattle.std.specs.Prelude.{◌≡◌, ℕ, List, [], ◌∷◌, ◌++◌, map, option_to_list, pos}
 use Rattle.cov_types.specs.declared.coord.Coord.{Coord}
 use Rattle.cov_types.specs.declared.edge_use.EdgeUse.{EdgeUse}
 use Rattle.cov_types.specs.declared.seg.Seg.{Seg}
@@ -81,7 +81,7 @@ overlap = record {
   edges = overlap_edges;
   uses = odd_uses overlap_edges (pairs 0 (0 ∷ 1 ∷ 2 ∷ 4 ∷ 5 ∷ 6 ∷ []) ++ pairs 1 (3 ∷ 4 ∷ 5 ∷ 7 ∷ 8 ∷ 9 ∷ []));
   members = 2;
-  number = λ n. slice_index (0 ∷ 1 ∷ 1 ∷ 0 ∷ 0 ∷ 1 ∷ 1 ∷ 7 ∷ 7 ∷ 0 ∷ 0 ∷ 7 ∷ 7 ∷ 13 ∷ 13 ∷ 0 ∷ 0 ∷ 13 ∷ 13 ∷ 0 ∷ []) n;
+  numbers = 0 ∷ 1 ∷ 1 ∷ 0 ∷ 0 ∷ 1 ∷ 1 ∷ 7 ∷ 7 ∷ 0 ∷ 0 ∷ 7 ∷ 7 ∷ 13 ∷ 13 ∷ 0 ∷ 0 ∷ 13 ∷ 13 ∷ 0 ∷ [];
 }
 
 -- what is measured there

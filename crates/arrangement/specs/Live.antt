@@ -1,5 +1,5 @@
 -- What an overlay of a coverage keeps.
-use Rattle.std.specs.Prelude.{ℕ, ◌<◌, List, All, Contains}
+use Rattle.std.specs.Prelude.{ℕ, ◌<◌, All, Contains}
 use Rattle.cov_types.specs.declared.edge_use.EdgeUse.{EdgeUse}
 use Rattle.cov_types.specs.declared.seg.Seg.{Seg}
 use Rattle.cov_types.specs.Uses.{HasEvenEnds}
@@ -16,4 +16,4 @@ pub record IsLiveOverlay (o : Overlay) : Type 0 where
   pub listed : (u : EdgeUse) → Contains o.uses u → Contains o.edges u.seg
   pub below : All (λ u. u.member < o.members) o.uses
   pub even : HasEvenEnds o.uses
-  pub regions : AreRegions o.edges o.number
+  pub regions : AreRegions o.edges o.numbers

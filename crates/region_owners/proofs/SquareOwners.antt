@@ -1,6 +1,6 @@
 -- The owner of the square of size 10.
 use mathlib.Core.List.{[], ◌∷◌}
-use Rattle.std.proofs.Common.{◌≡◌, ◌⊎◌, inl, inr, refl, sym, ap, subst, ℕ, zero, suc, List, length, arith}
+use Rattle.std.proofs.Common.{slice_index, ◌≡◌, ◌⊎◌, inl, inr, refl, sym, ap, subst, ℕ, zero, suc, List, length, arith}
 use Rattle.std.proofs.lemmas.Option.{none-some}
 use Rattle.plane.specs.Examples.{left}
 use Rattle.plane.specs.Point.{Point}
@@ -9,7 +9,7 @@ use Rattle.plane.specs.Region.{IsSide}
 use Rattle.plane.specs.Segment.{side, lower}
 use Rattle.crossing_laws.proofs.Located.{one_region}
 use Rattle.arrangement.specs.Overlay.{IsRegion, label_of}
-use Rattle.arrangement.specs.Square.{square_edges, square_number, lone}
+use Rattle.arrangement.specs.Square.{square_edges, square_numbers, lone}
 use Rattle.arrangement.proofs.SquareRegions.{square_regions, outer_region, inside_not_outer}
 use Rattle.region_owners.specs.Gap.{IsGap}
 use Rattle.region_owners.specs.Owner.{IsOwner, AreOwners}
@@ -20,7 +20,7 @@ use Rattle.region_owners.proofs.SquareClearance.{square_clearance}
 -- ---- owners
 
 -- a region has the number 0 or 1
-zero_or_one : (r : ℕ) (p : Point) → IsSide square_edges r p → r ≡ square_number r → (r ≡ 0) ⊎ (r ≡ 1)
+zero_or_one : (r : ℕ) (p : Point) → IsSide square_edges r p → r ≡ slice_index square_numbers r → (r ≡ 0) ⊎ (r ≡ 1)
 zero_or_one zero p h own = inl refl
 zero_or_one (suc zero) p h own = inr refl
 zero_or_one (suc (suc zero)) p h own = absurd (omega arith)
@@ -32,7 +32,7 @@ zero_or_one (suc (suc (suc (suc (suc (suc (suc zero))))))) p h own = absurd (ome
 zero_or_one (suc (suc (suc (suc (suc (suc (suc (suc n)))))))) p h own = absurd (none-some p h)
 
 region_cases : (r : ℕ) → IsRegion square_edges r → (r ≡ 0) ⊎ (r ≡ 1)
-region_cases r h = zero_or_one r h.at h.side (one_region square_edges h.at r (square_number r) h.own (square_regions r h.at h.side))
+region_cases r h = zero_or_one r h.at h.side (one_region square_edges h.at r (slice_index square_numbers r) h.own (square_regions.each r h.at h.side))
 
 not_empty : (x : ℕ) (xs : List ℕ) → (x ∷ xs) ≡ [] → ⊥
 not_empty x xs e = let l = ap length e in omega arith
@@ -44,7 +44,7 @@ inside_labelled e = not_empty 0 [] e
 -- where no member holds it, the inside is a gap
 inside_gap : IsGap unheld 1
 inside_gap = record {
-  region = record { at = lower left; side = refl; own = square_regions 1 (lower left) refl };
+  region = record { at = lower left; side = refl; own = square_regions.each 1 (lower left) refl };
   not_outer = inside_not_outer;
   empty = refl;
 }

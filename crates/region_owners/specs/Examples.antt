@@ -1,5 +1,5 @@
 -- Examples of gaps, rules and owners, with numbers.
-use Rattle.std.specs.Prelude.{◌≡◌, ℕ, ◌+◌, List, [], ◌∷◌, ◌++◌, map, Option, Some, None, slice_index, pos}
+use Rattle.std.specs.Prelude.{◌≡◌, ℕ, ◌+◌, List, [], ◌∷◌, ◌++◌, map, Option, Some, None, pos}
 use Rattle.cov_types.specs.declared.seg.Seg.{Seg}
 use Rattle.arrangement.specs.Examples.{edge, pairs, overlap}
 use Rattle.arrangement.specs.Measure.{region_area2, owned_border}
@@ -48,7 +48,7 @@ moat = record {
   edges = moat_edges;
   uses = odd_uses moat_edges (pairs 0 (0 ∷ 1 ∷ 2 ∷ 3 ∷ 4 ∷ 5 ∷ 9 ∷ 12 ∷ []) ++ pairs 1 (9 ∷ 10 ∷ 11 ∷ 12 ∷ 13 ∷ 14 ∷ 16 ∷ 17 ∷ []) ++ pairs 2 (6 ∷ 7 ∷ 8 ∷ 15 ∷ []));
   members = 3;
-  number = λ n. slice_index (0 ∷ 1 ∷ 1 ∷ 0 ∷ 0 ∷ 1 ∷ 1 ∷ 7 ∷ 7 ∷ 1 ∷ 1 ∷ 7 ∷ 7 ∷ 13 ∷ 13 ∷ 7 ∷ 7 ∷ 13 ∷ 1 ∷ 19 ∷ 19 ∷ 0 ∷ 7 ∷ 19 ∷ 1 ∷ 19 ∷ 19 ∷ 7 ∷ 0 ∷ 19 ∷ 13 ∷ 7 ∷ 7 ∷ 19 ∷ 19 ∷ 0 ∷ []) n;
+  numbers = 0 ∷ 1 ∷ 1 ∷ 0 ∷ 0 ∷ 1 ∷ 1 ∷ 7 ∷ 7 ∷ 1 ∷ 1 ∷ 7 ∷ 7 ∷ 13 ∷ 13 ∷ 7 ∷ 7 ∷ 13 ∷ 1 ∷ 19 ∷ 19 ∷ 0 ∷ 7 ∷ 19 ∷ 1 ∷ 19 ∷ 19 ∷ 7 ∷ 0 ∷ 19 ∷ 13 ∷ 7 ∷ 7 ∷ 19 ∷ 19 ∷ 0 ∷ [];
 }
 
 -- the owners of the regions with a label

@@ -70,7 +70,7 @@ polygon_sound : IsSoundFor lone lone_owners 0 1 polygon
 polygon_sound = record { inside = λ r. r == 1; part = square_part; sound = square_sound }
 
 inside_owned : IsOwned lone lone_owners 0 1
-inside_owned = record { region = record { at = _; side = refl; own = square_regions 1 _ refl }; owned = refl }
+inside_owned = record { region = record { at = _; side = refl; own = square_regions.each 1 _ refl }; owned = refl }
 
 owned_is_inside : (r : ℕ) → IsOwned lone lone_owners 0 r → r ≡ 1
 owned_is_inside r h = (Decides-eqb r 1).0 (owned_is (r == 1) h.owned)

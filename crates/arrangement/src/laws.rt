@@ -1,4 +1,4 @@
-ghost use Rattle.arrangement.specs.Laws.{OddUsesLaw, LiveUsesLaw, LiveAgainLaw, NodingLaw, SidesDifferLaw, FarLaw, OverlayLaw, LabelLaw};
+ghost use Rattle.arrangement.specs.Laws.{OddUsesLaw, LiveUsesLaw, LiveAgainLaw, NodingLaw, SidesDifferLaw, FarLaw, OverlayLaw, LabelLaw, ValidLiveLaw, ValidOverlayLaw};
 
 /// Members hold points by their odd edges alone. A call does nothing.
 pub fn odd_uses_law()
@@ -22,4 +22,10 @@ pub fn label_law()
 pub fn overlay_law()
     ensures live { OverlayLaw }
     ensures labels { LabelLaw }
+{}
+
+/// The segments of a valid coverage are its live edges. A call does nothing.
+pub fn valid_law()
+    ensures live { ValidLiveLaw }
+    ensures overlay { ValidOverlayLaw }
 {}

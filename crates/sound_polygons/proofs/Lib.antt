@@ -4,3 +4,4 @@ pub mod Computed
 pub mod Ways
 pub mod SquareCleaned
 pub mod Reached
+pub mod Polygons

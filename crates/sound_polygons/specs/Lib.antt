@@ -3,3 +3,4 @@ pub mod Cleaned
 pub mod Laws
 pub mod Examples
 pub mod Square
+pub mod Instances

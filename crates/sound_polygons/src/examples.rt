@@ -1,4 +1,5 @@
 ghost use Rattle.sound_polygons.specs.Examples.{OverlapExamples, MoatExamples, NotchedExamples, AngleExamples};
+ghost use Rattle.sound_polygons.specs.Instances.{PolygonExamples};
 ghost use Rattle.sound_polygons.specs.Square.{SquareExamples};
 
 /// Examples with numbers, by computation. A call does nothing.
@@ -11,5 +12,6 @@ pub fn vectors()
 
 /// Small instances of the definitions that do not compute. A call does nothing.
 pub fn instances()
-    ensures { SquareExamples }
+    ensures square { SquareExamples }
+    ensures polygons { PolygonExamples }
 {}

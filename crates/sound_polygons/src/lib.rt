@@ -9,14 +9,14 @@
 //!
 //! - `Parts`: edge-connected parts, simple rings, angles, and polygons that are sound for a part.
 //! - `Cleaned`: the polygons of owners, the canonical order, and the cleaned coverage.
-//! - `Laws`; `Examples`; `Square`: the instances over one square.
+//! - `Laws`; `Examples`; `Square`: the instances over one square; `Instances`: those of parts and polygons.
 //!
 //! A crate above takes a lemma by `use Rattle.sound_polygons.proofs.FILE.{NAME}` in its `proofs/`. The files:
 //!
 //! - `SameParts`: parts are disjoint (`part_equivalence`). `Reached`: the part of an owned region exists (`part_exists`).
 //! - `Ways`: lists that are one list in another order, by a test (`reordered`, `ways_reordered`).
 //! - `Angles`: the angle between two half-edges that leave a vertex is the sector between them (`angle_is_sector`).
-//! - `Computed`, `SquareCleaned`: the examples and instances.
+//! - `Computed`, `SquareCleaned`, `Polygons`: the examples and instances.
 #![tactic(auto)]
 
 mod examples;

@@ -6,3 +6,7 @@ pub mod Threads
 pub mod OneLine
 pub mod Computed
 pub mod Straightening
+pub mod Spots
+pub mod Borders
+pub mod Blocked
+pub mod BorderExamples

@@ -1,7 +1,7 @@
 -- The square with a point in the middle of its bottom: its node, its line and the run at tolerance 0.
 use mathlib.Core.List.{[], ◌∷◌}
 use Rattle.std.proofs.Common.{◌≡◌, inl, inr, refl, sym, ◌∙◌, ap, subst, ℕ, zero, suc, ◌+◌, ◌<◌, ◌≤◌, ◌==◌, Bool, true, false, not, ◌&&◌, ◌||◌, true≢false, List, ◌++◌, length, ℤ, pos, ◌+ℤ◌, ◌*ℤ◌, ◌≢◌, unsigned_abs, IsTrue, arith}
-use Rattle.std.specs.Prelude.{All, Contains, Some, slice_get, option_and_then, unwrap_or}
+use Rattle.std.specs.Prelude.{All, Contains, Some, slice_get, unwrap_or}
 use Rattle.std.specs.List.{AllByRecursion}
 use Rattle.std.specs.Ordering.{is_le}
 use Rattle.std.proofs.lemmas.Bool.{and_parts, and_from, or_parts, not-true, false≢true}
@@ -23,8 +23,8 @@ use Rattle.plane.specs.Segment.{turn_of}
 use Rattle.plane.specs.Snapping.{chain_edges}
 use Rattle.greedy_run.specs.Lines.{degree, steps, IsAlongEdge, IsPathAlong, IsNode, IsLine, AreLines}
 use Rattle.greedy_run.specs.Run.{current_edges, point_before, point_after, is_removed, Spot, spot_cmp, Triangle, IsInTriangle, IsTriangleAt, IsRemovable, IsNextPoint, IsFinalState}
-use Rattle.greedy_run.proofs.Kept.{before_is, after_is}
 use Rattle.greedy_run.proofs.OneLine.{covering}
+use Rattle.greedy_run.proofs.Spots.{of_line}
 use Rattle.arrangement.specs.Examples.{at, pairs}
 use Rattle.greedy_run.specs.Examples.{round_line}
 use Rattle.greedy_run.specs.Runs.{five_edges, bent_square, straightening, RunExamples}
@@ -268,34 +268,10 @@ middle_removable = record {
   inner = λ only. absurd (false≢true only);
 }
 
--- the one line of what is simplified
-one_line : (line : ℕ) (points : List Coord) → slice_get (round_line ∷ []) line ≡ Some points → (line ≡ 0) × (round_line ≡ points)
-one_line zero points h = (refl, ap (λ o. unwrap_or o round_line) h)
-one_line (suc line) points h = absurd (none-some points h)
-
--- a triangle at a spot is one of neighbours in what is left of the line
-record IsOfLine (removed : List Coord) (spot : Spot) (t : Triangle) : Type 0 where
-  line : spot.line ≡ 0
-  before : point_before removed round_line spot.place ≡ Some t.a
-  here : slice_get round_line spot.place ≡ Some t.b
-  there : is_removed removed t.b ≡ false
-  after : point_after removed round_line spot.place ≡ Some t.c
-
-of_line : (removed : List Coord) (spot : Spot) (t : Triangle) → IsTriangleAt (round_line ∷ []) removed spot t → IsOfLine removed spot t
-of_line removed spot t h =
-    let line = one_line spot.line h.points h.line in
-    record {
-      line = line.0;
-      before = subst (λ ps. point_before removed ps spot.place ≡ Some t.a) (sym line.1) ((before_is removed h.points spot.place t.a).1 (h.from, h.before));
-      here = subst (λ ps. slice_get ps spot.place ≡ Some t.b) (sym line.1) (sym (ap (option_and_then (λ points. slice_get points spot.place)) h.line) ∙ h.here);
-      there = h.there;
-      after = subst (λ ps. point_after removed ps spot.place ≡ Some t.c) (sym line.1) ((after_is removed h.points spot.place t.c).1 (h.to, h.after));
-    }
-
 -- no spot is less than the middle
 middle_least : (other : Spot) → IsRemovable (straightening the_lines) [] other → IsTrue (is_le (spot_cmp middle other))
 middle_least other h =
-    let at = of_line [] other h.t h.triangle in
+    let at = of_line round_line [] other h.t h.triangle in
     let none : other.size ≡ 0 = (let small = h.small in omega arith) in
     let place = middle_alone other.place h.t.a h.t.b h.t.c other.size at.before at.here at.after h.sized h.small in
     subst (λ t. IsTrue (is_le (spot_cmp middle t))) (λ i. record { size = sym none i; line = sym at.line i; place = sym place i }) refl
@@ -307,7 +283,7 @@ run_ends : IsFinalState (straightening the_lines) (at 5 0)
 run_ends = record {
   run = (tt, middle_next);
   done = λ spot h. (
-      let at = of_line (at 5 0) spot h.t h.triangle in
+      let at = of_line round_line (at 5 0) spot h.t h.triangle in
       nothing_left spot.place h.t.a h.t.b h.t.c spot.size at.before at.here at.there at.after h.sized h.small);
 }
 

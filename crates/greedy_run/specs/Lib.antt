@@ -3,3 +3,4 @@ pub mod Run
 pub mod Laws
 pub mod Examples
 pub mod Runs
+pub mod Borders

@@ -1,3 +1,4 @@
+ghost use Rattle.greedy_run.specs.Borders.{BorderExamples};
 ghost use Rattle.greedy_run.specs.Examples.{StateExamples};
 ghost use Rattle.greedy_run.specs.Runs.{RunExamples};
 
@@ -8,5 +9,6 @@ pub fn vectors()
 
 /// Small instances of the definitions that do not compute. A call does nothing.
 pub fn instances()
-    ensures { RunExamples }
+    ensures run { RunExamples }
+    ensures borders { BorderExamples }
 {}

@@ -8,7 +8,7 @@
 //!
 //! - `Lines`: nodes, and lines from node to node.
 //! - `Run`: states, neighbours, removable points, the greedy run, and the coverage of a state.
-//! - `Laws`; `Examples`; `Runs`: the instance of a run.
+//! - `Laws`; `Examples`; `Runs`: the instance of a run; `Borders`: two neighbours and a triangle.
 //!
 //! A crate above takes a lemma by `use Rattle.greedy_run.proofs.FILE.{NAME}` in its `proofs/`. The files:
 //!
@@ -19,7 +19,7 @@
 //! - `Kept`: the neighbours of a place are what filtering gives (`before_is`, `after_is`). `NoNodes`: a removable point is no node.
 //! - `OneRun`: one list of lines (`one_list`), one next point (`one_next`), one last state (`one_last`), one coverage
 //!   (`one_simplified`).
-//! - `Computed`, `Straightening`: the examples and instances.
+//! - `Computed`, `Spots`, `Straightening`, `Borders`, `Blocked`, `BorderExamples`: the examples and instances.
 #![tactic(auto)]
 
 mod examples;

@@ -1,5 +1,9 @@
+use Rattle.greedy_run.proofs.BorderExamples.{border_examples}
 use Rattle.greedy_run.proofs.Straightening.{run_examples}
 use Rattle.greedy_run.proofs.examples.instances.Goals as goal
 
-pub returns : goal.returns
-returns c = run_examples
+pub returns-clause-run : goal.returns-clause-run
+returns-clause-run c = run_examples
+
+pub returns-clause-borders : goal.returns-clause-borders
+returns-clause-borders c = border_examples

@@ -1,6 +1,6 @@
 -- The coverage of one square is what clean makes of it.
 use mathlib.Core.List.{[], ◌∷◌}
-use Rattle.std.proofs.Common.{◌≡◌, ◌⊎◌, inl, inr, refl, sym, ◌∙◌, ap, subst, ℕ, zero, suc, ◌<◌, ◌==◌, ◌&&◌, Bool, true, false, List, ◌++◌, length, IsTrue, cond, arith}
+use Rattle.std.proofs.Common.{slice_index, ◌≡◌, ◌⊎◌, inl, inr, refl, sym, ◌∙◌, ap, subst, ℕ, zero, suc, ◌<◌, ◌==◌, ◌&&◌, Bool, true, false, List, ◌++◌, length, IsTrue, cond, arith}
 use Rattle.std.specs.Prelude.{Contains, Option, Some, None, slice_get, flat_map, unwrap_or}
 use Rattle.std.proofs.lemmas.Bool.{and_parts}
 use Rattle.std.proofs.lemmas.Bool.Decides.{Decides-eqb}
@@ -36,7 +36,7 @@ use Rattle.arrangement.specs.Owner.{IsOwner, AreOwners}
 use Rattle.arrangement.specs.Parts.{LeadsWithin, IsPartOf, IsSimple, IsSound, boundary, corners, is_free_corner}
 use Rattle.arrangement.specs.Cleaned.{IsSnappedOverlay, IsPolyCanonical, IsSoundFor, IsOwned, ArePolygonsOf, IsBuilt, BeginsAtLeast}
 use Rattle.arrangement.specs.Examples.{at, pairs, shell}
-use Rattle.arrangement.specs.Square.{square_edges, square_number, lone, unheld, lone_owners, lone_square, by_index, SquareExamples}
+use Rattle.arrangement.specs.Square.{square_edges, square_numbers, lone, unheld, lone_owners, lone_square, by_index, SquareExamples}
 use Rattle.arrangement.proofs.Clearances.{narrow_is}
 use Rattle.arrangement.proofs.HalfCrossing.{own_pixel}
 use Rattle.arrangement.proofs.OddUses.{odd_used, some_passes}
@@ -193,7 +193,7 @@ square_overlay = record {
 -- ---- owners
 
 -- a region has the number 0 or 1
-zero_or_one : (r : ℕ) (p : Point) → IsSide square_edges r p → r ≡ square_number r → (r ≡ 0) ⊎ (r ≡ 1)
+zero_or_one : (r : ℕ) (p : Point) → IsSide square_edges r p → r ≡ slice_index square_numbers r → (r ≡ 0) ⊎ (r ≡ 1)
 zero_or_one zero p h own = inl refl
 zero_or_one (suc zero) p h own = inr refl
 zero_or_one (suc (suc zero)) p h own = absurd (omega arith)
@@ -205,7 +205,7 @@ zero_or_one (suc (suc (suc (suc (suc (suc (suc zero))))))) p h own = absurd (ome
 zero_or_one (suc (suc (suc (suc (suc (suc (suc (suc n)))))))) p h own = absurd (none-some p h)
 
 region_cases : (r : ℕ) → IsRegion square_edges r → (r ≡ 0) ⊎ (r ≡ 1)
-region_cases r h = zero_or_one r h.at h.side (one_region square_edges h.at r (square_number r) h.own (square_regions r h.at h.side))
+region_cases r h = zero_or_one r h.at h.side (one_region square_edges h.at r (slice_index square_numbers r) h.own (square_regions.each r h.at h.side))
 
 not_empty : (x : ℕ) (xs : List ℕ) → (x ∷ xs) ≡ [] → ⊥
 not_empty x xs e = let l = ap length e in omega arith
@@ -217,7 +217,7 @@ inside_labelled e = not_empty 0 [] e
 -- where no member holds it, the inside is a gap
 inside_gap : IsGap unheld 1
 inside_gap = record {
-  region = record { at = lower left; side = refl; own = square_regions 1 (lower left) refl };
+  region = record { at = lower left; side = refl; own = square_regions.each 1 (lower left) refl };
   not_outer = inside_not_outer;
   empty = refl;
 }
@@ -285,7 +285,7 @@ polygon_sound : IsSoundFor lone lone_owners 0 1 polygon
 polygon_sound = record { inside = λ r. r == 1; part = square_part; sound = square_sound }
 
 inside_owned : IsOwned lone lone_owners 0 1
-inside_owned = record { region = record { at = _; side = refl; own = square_regions 1 _ refl }; owned = refl }
+inside_owned = record { region = record { at = _; side = refl; own = square_regions.each 1 _ refl }; owned = refl }
 
 owned_is_inside : (r : ℕ) → IsOwned lone lone_owners 0 r → r ≡ 1
 owned_is_inside r h = (Decides-eqb r 1).0 (owned_is (r == 1) h.owned)

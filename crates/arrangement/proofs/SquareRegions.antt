@@ -1,7 +1,7 @@
 -- The regions of the square of size 10, and the clearance of its inside.
 use mathlib.Core.List.{[], ◌∷◌}
 use Rattle.std.proofs.Common.{◌≡◌, inl, inr, refl, sym, ◌∙◌, ap, subst, ℕ, zero, suc, ◌*◌, ◌≤◌, ℤ, pos, negsuc, ◌+ℤ◌, ◌-ℤ◌, ◌*ℤ◌, ◌≤ℤ◌, arith}
-use Rattle.std.specs.Prelude.{Contains, Some, unwrap_or}
+use Rattle.std.specs.Prelude.{Contains, Some, slice_index, unwrap_or}
 use Rattle.std.proofs.lemmas.Bool.{cases_lt}
 use Rattle.std.proofs.lemmas.Int.{ints}
 use Rattle.std.proofs.lemmas.List.Elements.{All-from_recursion, All-contains}
@@ -16,13 +16,13 @@ use Rattle.integer_laws.proofs.Sign.{square_nonneg}
 use Rattle.plane.specs.Examples.{grid, left, bottom, top, right}
 use Rattle.plane.specs.Joined.{Joined}
 use Rattle.plane.specs.Point.{Point, at_coord}
-use Rattle.plane.specs.Region.{IsJoinedSide, IsRegionOf, AreRegions, IsOuterRegion, far_point}
+use Rattle.plane.specs.Region.{IsSide, IsJoinedSide, IsRegionOf, AreRegions, IsOuterRegion, far_point}
 use Rattle.plane.specs.Segment.{IsOn, side, upper, lower}
 use Rattle.plane.proofs.Points.{between_by}
 use Rattle.plane.proofs.Sides.{side_zero-on}
 use Rattle.crossing_laws.proofs.Ways.{joined-sym, joined-trans}
 use Rattle.arrangement.specs.Gap.{squared_distance, HasRoom, HasRoomWithin, IsClearance}
-use Rattle.arrangement.specs.Square.{square_edges, square_number}
+use Rattle.arrangement.specs.Square.{square_edges, square_numbers}
 use Rattle.arrangement.proofs.Squares.{corner, west_joined, south_joined, east_joined, north_joined, IsInside, inside_joined, sides_apart}
 
 -- ---- side points
@@ -55,23 +55,29 @@ inside_is p h = inside_region p (inside_joined p (lower left) h inner)
 at_side : (n : ℕ) (p q : Point) (r : ℕ) → Some p ≡ Some q → IsRegionOf square_edges p r → IsRegionOf square_edges q r
 at_side n p q r h region = subst (λ at. IsRegionOf square_edges at r) (ap (λ o. unwrap_or o p) h) region
 
-pub square_regions : AreRegions square_edges square_number
-square_regions zero p h = at_side 0 (upper left) p 0 h (outside_region (upper left) (west_joined (upper left) (record { lt = tt })))
-square_regions (suc zero) p h = at_side 1 (lower left) p 1 h (inside_is (lower left) inner)
-square_regions (suc (suc zero)) p h = at_side 2 (upper bottom) p 1 h (inside_is (upper bottom) (record { right_of = record { lt = tt }; left_of = record { lt = tt }; above = record { lt = tt }; below = record { lt = tt } }))
-square_regions (suc (suc (suc zero))) p h = at_side 3 (lower bottom) p 0 h (outside_region (lower bottom) (south_joined (lower bottom) (record { lt = tt })))
-square_regions (suc (suc (suc (suc zero)))) p h = at_side 4 (upper top) p 0 h (outside_region (upper top) (north_joined (upper top) (record { lt = tt })))
-square_regions (suc (suc (suc (suc (suc zero))))) p h = at_side 5 (lower top) p 1 h (inside_is (lower top) (record { right_of = record { lt = tt }; left_of = record { lt = tt }; above = record { lt = tt }; below = record { lt = tt } }))
-square_regions (suc (suc (suc (suc (suc (suc zero)))))) p h = at_side 6 (upper right) p 1 h (inside_is (upper right) (record { right_of = record { lt = tt }; left_of = record { lt = tt }; above = record { lt = tt }; below = record { lt = tt } }))
-square_regions (suc (suc (suc (suc (suc (suc (suc zero))))))) p h = at_side 7 (lower right) p 0 h (outside_region (lower right) (east_joined (lower right) (record { lt = tt })))
-square_regions (suc (suc (suc (suc (suc (suc (suc (suc n)))))))) p h = absurd (none-some p h)
+side_regions : (n : ℕ) (p : Point) → IsSide square_edges n p → IsRegionOf square_edges p (slice_index square_numbers n)
+side_regions zero p h = at_side 0 (upper left) p 0 h (outside_region (upper left) (west_joined (upper left) (record { lt = tt })))
+side_regions (suc zero) p h = at_side 1 (lower left) p 1 h (inside_is (lower left) inner)
+side_regions (suc (suc zero)) p h = at_side 2 (upper bottom) p 1 h (inside_is (upper bottom) (record { right_of = record { lt = tt }; left_of = record { lt = tt }; above = record { lt = tt }; below = record { lt = tt } }))
+side_regions (suc (suc (suc zero))) p h = at_side 3 (lower bottom) p 0 h (outside_region (lower bottom) (south_joined (lower bottom) (record { lt = tt })))
+side_regions (suc (suc (suc (suc zero)))) p h = at_side 4 (upper top) p 0 h (outside_region (upper top) (north_joined (upper top) (record { lt = tt })))
+side_regions (suc (suc (suc (suc (suc zero))))) p h = at_side 5 (lower top) p 1 h (inside_is (lower top) (record { right_of = record { lt = tt }; left_of = record { lt = tt }; above = record { lt = tt }; below = record { lt = tt } }))
+side_regions (suc (suc (suc (suc (suc (suc zero)))))) p h = at_side 6 (upper right) p 1 h (inside_is (upper right) (record { right_of = record { lt = tt }; left_of = record { lt = tt }; above = record { lt = tt }; below = record { lt = tt } }))
+side_regions (suc (suc (suc (suc (suc (suc (suc zero))))))) p h = at_side 7 (lower right) p 0 h (outside_region (lower right) (east_joined (lower right) (record { lt = tt })))
+side_regions (suc (suc (suc (suc (suc (suc (suc (suc n)))))))) p h = absurd (none-some p h)
 
--- region 0 is outer
+pub square_regions : AreRegions square_edges square_numbers
+square_regions = record { count = refl; each = side_regions }
+
+-- region 0 is the outer one
 pub outer_region : IsOuterRegion square_edges 0
 outer_region = record {
-  at = upper left;
-  side = refl;
-  outer = joined-trans square_edges (upper left) corner far_point (west_joined (upper left) (record { lt = tt })) (joined-sym square_edges far_point corner (east_joined far_point (record { lt = tt })));
+  outer = record {
+    at = upper left;
+    side = refl;
+    outer = joined-trans square_edges (upper left) corner far_point (west_joined (upper left) (record { lt = tt })) (joined-sym square_edges far_point corner (east_joined far_point (record { lt = tt })));
+  };
+  least = λ n h. omega arith;
 }
 
 -- ---- room in the middle
@@ -148,8 +154,8 @@ module _ (q : Coord) (j : Joined square_edges (at_coord q) (lower left)) where
 -- so it is not outer
 pub inside_not_outer : ¬ IsOuterRegion square_edges 1
 inside_not_outer h =
-    let here : lower left ≡ h.at = ap (λ o. unwrap_or o (lower left)) h.side in
-    let out = joined-trans square_edges (lower left) far_point corner (subst (λ at. Joined square_edges at far_point) (sym here) h.outer) (east_joined far_point (record { lt = tt })) in
+    let here : lower left ≡ h.outer.at = ap (λ o. unwrap_or o (lower left)) h.outer.side in
+    let out = joined-trans square_edges (lower left) far_point corner (subst (λ at. Joined square_edges at far_point) (sym here) h.outer.outer) (east_joined far_point (record { lt = tt })) in
     not_outside (lower left) (inside_joined (lower left) (lower left) inner inner) out
 
 -- ---- no more than 10

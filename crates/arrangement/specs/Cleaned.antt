@@ -21,7 +21,7 @@ pub record IsOverlayOf (uses : List EdgeUse) (members : ℕ) (o : Overlay) : Typ
   pub live : AreLiveEdges uses o.edges odd
   pub by_odd : o.uses ≡ odd_uses o.edges odd
   pub count : o.members ≡ members
-  pub numbered : AreRegions o.edges o.number
+  pub numbered : AreRegions o.edges o.numbers
 
 -- the overlay of the snapped members
 pub record IsSnappedOverlay (uses : List EdgeUse) (members : ℕ) (o : Overlay) : Type 0 where

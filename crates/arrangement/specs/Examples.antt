@@ -1,5 +1,5 @@
 -- Examples of the definitions of overlays, with numbers.
-use Rattle.std.specs.Prelude.{◌≡◌, ℕ, ◌+◌, ◌==◌, ◌&&◌, ◌||◌, Bool, true, false, List, [], ◌∷◌, ◌++◌, map, flat_map, option_to_list, Option, Some, None, slice_index, pos}
+use Rattle.std.specs.Prelude.{◌≡◌, ℕ, ◌+◌, ◌==◌, ◌&&◌, ◌||◌, Bool, true, false, List, [], ◌∷◌, ◌++◌, map, flat_map, option_to_list, Option, Some, None, pos}
 use Rattle.std.specs.List.{list_any, list_all}
 use Rattle.cov_types.specs.declared.coord.Coord.{Coord}
 use Rattle.cov_types.specs.declared.edge_use.EdgeUse.{EdgeUse}
@@ -100,7 +100,7 @@ overlap = record {
   edges = overlap_edges;
   uses = odd_uses overlap_edges (pairs 0 (0 ∷ 1 ∷ 2 ∷ 4 ∷ 5 ∷ 6 ∷ []) ++ pairs 1 (3 ∷ 4 ∷ 5 ∷ 7 ∷ 8 ∷ 9 ∷ []));
   members = 2;
-  number = λ n. slice_index (0 ∷ 1 ∷ 1 ∷ 0 ∷ 0 ∷ 1 ∷ 1 ∷ 7 ∷ 7 ∷ 0 ∷ 0 ∷ 7 ∷ 7 ∷ 13 ∷ 13 ∷ 0 ∷ 0 ∷ 13 ∷ 13 ∷ 0 ∷ []) n;
+  numbers = 0 ∷ 1 ∷ 1 ∷ 0 ∷ 0 ∷ 1 ∷ 1 ∷ 7 ∷ 7 ∷ 0 ∷ 0 ∷ 7 ∷ 7 ∷ 13 ∷ 13 ∷ 0 ∷ 0 ∷ 13 ∷ 13 ∷ 0 ∷ [];
 }
 
 -- the rule that counts the regions that it is asked for
@@ -147,7 +147,7 @@ moat = record {
   edges = moat_edges;
   uses = odd_uses moat_edges (pairs 0 (0 ∷ 1 ∷ 2 ∷ 3 ∷ 4 ∷ 5 ∷ 9 ∷ 12 ∷ []) ++ pairs 1 (9 ∷ 10 ∷ 11 ∷ 12 ∷ 13 ∷ 14 ∷ 16 ∷ 17 ∷ []) ++ pairs 2 (6 ∷ 7 ∷ 8 ∷ 15 ∷ []));
   members = 3;
-  number = λ n. slice_index (0 ∷ 1 ∷ 1 ∷ 0 ∷ 0 ∷ 1 ∷ 1 ∷ 7 ∷ 7 ∷ 1 ∷ 1 ∷ 7 ∷ 7 ∷ 13 ∷ 13 ∷ 7 ∷ 7 ∷ 13 ∷ 1 ∷ 19 ∷ 19 ∷ 0 ∷ 7 ∷ 19 ∷ 1 ∷ 19 ∷ 19 ∷ 7 ∷ 0 ∷ 19 ∷ 13 ∷ 7 ∷ 7 ∷ 19 ∷ 19 ∷ 0 ∷ []) n;
+  numbers = 0 ∷ 1 ∷ 1 ∷ 0 ∷ 0 ∷ 1 ∷ 1 ∷ 7 ∷ 7 ∷ 1 ∷ 1 ∷ 7 ∷ 7 ∷ 13 ∷ 13 ∷ 7 ∷ 7 ∷ 13 ∷ 1 ∷ 19 ∷ 19 ∷ 0 ∷ 7 ∷ 19 ∷ 1 ∷ 19 ∷ 19 ∷ 7 ∷ 0 ∷ 19 ∷ 13 ∷ 7 ∷ 7 ∷ 19 ∷ 19 ∷ 0 ∷ [];
 }
 
 -- the owners of the regions with a label
@@ -177,7 +177,7 @@ notched = record {
   edges = notched_edges;
   uses = odd_uses notched_edges (pairs 0 (0 ∷ 1 ∷ 2 ∷ 3 ∷ 4 ∷ 5 ∷ 6 ∷ []));
   members = 1;
-  number = λ n. slice_index (0 ∷ 1 ∷ 1 ∷ 3 ∷ 3 ∷ 1 ∷ 1 ∷ 0 ∷ 0 ∷ 1 ∷ 1 ∷ 3 ∷ 1 ∷ 0 ∷ []) n;
+  numbers = 0 ∷ 1 ∷ 1 ∷ 3 ∷ 3 ∷ 1 ∷ 1 ∷ 0 ∷ 0 ∷ 1 ∷ 1 ∷ 3 ∷ 1 ∷ 0 ∷ [];
 }
 
 -- its two rings

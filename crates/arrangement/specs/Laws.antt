@@ -7,14 +7,13 @@ use Rattle.cov_types.specs.declared.seg.Seg.{Seg}
 use Rattle.cov_types.specs.Range.{IsSegInRange}
 use Rattle.plane.specs.Parity.{member_holds}
 use Rattle.plane.specs.Point.{Point}
-use Rattle.plane.specs.Region.{IsSide, AreRegions, far_point}
+use Rattle.plane.specs.Region.{far_point}
 use Rattle.plane.specs.Segment.{upper, lower}
 use Rattle.sector_laws.specs.Sector.{HalfEdge, target, is_in_sector, Leaves, IsPlanar}
 use Rattle.arrangement.specs.declared.candidate.Candidate.{Candidate}
 use Rattle.arrangement.specs.declared.odd_use.OddUse.{OddUse}
 use Rattle.arrangement.specs.Noding.{segments, AreEdges, AreLiveEdges, odd_uses, IsNoded}
 use Rattle.arrangement.specs.Overlay.{Overlay}
-use Rattle.arrangement.specs.Measure.{region_area2, border, owned_border}
 use Rattle.arrangement.specs.Gap.{IsClearance, IsNarrow}
 use Rattle.arrangement.specs.Owner.{Rule, least_index, greatest_area, least_area, longest_border, IsOwner}
 use Rattle.arrangement.specs.Parts.{InOnePart, is_in_angle}
@@ -53,23 +52,6 @@ SidesDifferLaw = (uses : List EdgeUse) (edges : List Seg) (odd : List OddUse) �
 -- no member with segments in range holds the point past the range
 abbrev pub FarLaw : Type 0
 FarLaw = (uses : List EdgeUse) → All IsSegInRange (segments uses) → (member : ℕ) → member_holds uses member far_point ≡ false
-
--- ---- numberings
-
--- two numberings of the regions agree at each side
-abbrev pub NumberingLaw : Type 0
-NumberingLaw = (edges : List Seg) (f g : ℕ → ℕ) → AreRegions edges f → AreRegions edges g → (n : ℕ) (p : Point) → IsSide edges n p → f n ≡ g n
-
--- the measures of region r in both overlays are equal
-pub record HaveSameMeasures (o q : Overlay) (r : ℕ) : Type 0 where
-  pub areas : region_area2 o r ≡ region_area2 q r
-  pub borders : (member : ℕ) → border o r member ≡ border q r member
-  pub owned_borders : (owners : ℕ → Option ℕ) (member : ℕ) → owned_border o owners r member ≡ owned_border q owners r member
-
--- so the measures do not depend on the numbering that is taken
-abbrev pub MeasuresLaw : Type 0
-MeasuresLaw = (o : Overlay) (number : ℕ → ℕ) → AreRegions o.edges o.number → AreRegions o.edges number
-    → (r : ℕ) → HaveSameMeasures o (record o { number = number }) r
 
 -- ---- clearances
 

@@ -3,7 +3,7 @@ use Rattle.std.specs.Prelude.{◌≡◌, ◌⊎◌, ℕ, ◌*◌, ◌==◌, Bool
 use Rattle.std.specs.List.{position_or_len, list_any}
 use Rattle.plane.specs.Label.{numbers_below}
 use Rattle.arrangement.specs.declared.candidate.Candidate.{Candidate}
-use Rattle.arrangement.specs.Overlay.{Overlay, IsRegion, label_of}
+use Rattle.arrangement.specs.Overlay.{Overlay, region_numbers, IsRegion, label_of}
 use Rattle.arrangement.specs.Measure.{member_area2, region_area2, border, owned_border}
 use Rattle.arrangement.specs.Gap.{IsGap, IsNarrow}
 
@@ -55,7 +55,7 @@ facts_of o r = record { candidates = candidates_of o r; region_area2 = region_ar
 
 -- the shared regions, where members overlap, ascending: those with two members or more in their label
 abbrev pub shared_regions : Overlay → List ℕ
-shared_regions o = filter (λ r. (o.number r == r) && nat_le 2 (length (label_of o r))) (numbers_below (2 * length o.edges))
+shared_regions o = filter (λ r. nat_le 2 (length (label_of o r))) (region_numbers o)
 
 -- the state of the rule after these regions
 abbrev pub state_after : {State : Type 0} → Rule State → State → Overlay → List ℕ → State

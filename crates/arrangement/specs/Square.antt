@@ -1,5 +1,5 @@
 -- Instances over one square of size 10: its regions and their clearance, its ring, and that clean leaves it as it is.
-use Rattle.std.specs.Prelude.{ℕ, ◌==◌, List, [], ◌∷◌, Option, Some, None, cond, slice_index}
+use Rattle.std.specs.Prelude.{ℕ, ◌==◌, List, [], ◌∷◌, Option, Some, None, cond}
 use Rattle.cov_types.specs.declared.coord.Coord.{Coord}
 use Rattle.cov_types.specs.declared.seg.Seg.{Seg}
 use Rattle.cov_types.specs.Uses.{ring_uses}
@@ -18,12 +18,12 @@ abbrev pub square_edges : List Seg
 square_edges = left ∷ bottom ∷ top ∷ right ∷ []
 
 -- the region of each of its sides
-abbrev pub square_number : ℕ → ℕ
-square_number n = slice_index (0 ∷ 1 ∷ 1 ∷ 0 ∷ 0 ∷ 1 ∷ 1 ∷ 0 ∷ []) n
+abbrev pub square_numbers : List ℕ
+square_numbers = 0 ∷ 1 ∷ 1 ∷ 0 ∷ 0 ∷ 1 ∷ 1 ∷ 0 ∷ []
 
 -- the overlay of the one member that has it
 abbrev pub lone : Overlay
-lone = record { edges = square_edges; uses = odd_uses square_edges (pairs 0 (0 ∷ 1 ∷ 2 ∷ 3 ∷ [])); members = 1; number = square_number }
+lone = record { edges = square_edges; uses = odd_uses square_edges (pairs 0 (0 ∷ 1 ∷ 2 ∷ 3 ∷ [])); members = 1; numbers = square_numbers }
 
 -- the same square, of which no member has an edge
 abbrev pub unheld : Overlay
@@ -43,7 +43,7 @@ by_index = rule_by least_index
 
 -- what the definitions say of it
 pub record SquareExamples : Type 0 where
-  pub regions : AreRegions square_edges square_number
+  pub regions : AreRegions square_edges square_numbers
   pub clearance : IsClearance square_edges 1 10
   pub narrow : IsNarrow square_edges 1 11
   pub not_narrow : ¬ IsNarrow square_edges 1 10

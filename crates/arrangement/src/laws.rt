@@ -1,4 +1,4 @@
-ghost use Rattle.arrangement.specs.Laws.{OddUsesLaw, LiveUsesLaw, LiveAgainLaw, NodingLaw, SidesDifferLaw, FarLaw, NumberingLaw, MeasuresLaw, ClearanceLaw, NarrowLaw, PickLaw, OwnerLaw, PartLaw, AngleLaw};
+ghost use Rattle.arrangement.specs.Laws.{OddUsesLaw, LiveUsesLaw, LiveAgainLaw, NodingLaw, SidesDifferLaw, FarLaw, ClearanceLaw, NarrowLaw, PickLaw, OwnerLaw, PartLaw, AngleLaw};
 
 /// Members hold points by their odd edges alone. A call does nothing.
 pub fn odd_uses_law()
@@ -16,12 +16,6 @@ pub fn noding_law()
 pub fn label_law()
     ensures sides { SidesDifferLaw }
     ensures far { FarLaw }
-{}
-
-/// Areas and borders are those of any numbering of the regions. A call does nothing.
-pub fn numbering_law()
-    ensures sides { NumberingLaw }
-    ensures measures { MeasuresLaw }
 {}
 
 /// A region has one clearance at most, and is narrow where that is passed. A call does nothing.

@@ -23,7 +23,7 @@
 //!   odd uses are distinct (`distinct_uses`), and any sum over them has the parity of that over all uses (`same_parity`).
 //! - `OneNoding`: uses in range have one noding (`one_noding`); two lists in order with the same elements are one (`same_ordered`).
 //! - `Labels`: some member holds just one side of a live edge (`sides_differ`), and none the point past the range (`far_free`).
-//! - `Numberings`: the sides of edge k (`upper_side`, `lower_side`), and measures under another numbering (`measures_same`).
+//! - `Numberings`: the sides of edge k (`upper_side`, `lower_side`).
 //! - `Clearances`: one clearance (`clearance_unique`), and narrow by it (`narrow_is`).
 //! - `Picks`: the first best place (`first_best_is`). `Owners`: one owner. `SameParts`: parts are disjoint (`part_equivalence`).
 //! - `Angles`: the angle between two half-edges that leave a vertex is the sector between them (`angle_is_sector`).
@@ -39,7 +39,6 @@ mod odd_use;
 pub use candidate::Candidate;
 pub use examples::{instances, vectors};
 pub use laws::{
-    angle_law, clearance_law, label_law, noding_law, numbering_law, odd_uses_law, owner_law,
-    part_law, pick_law,
+    angle_law, clearance_law, label_law, noding_law, odd_uses_law, owner_law, part_law, pick_law,
 };
 pub use odd_use::OddUse;

@@ -1,20 +1,15 @@
 -- What listing the regions of a file writes.
-use Rattle.std.specs.Prelude.{◌≡◌, ◌⊎◌, ℕ, ◌*◌, ◌==◌, List, length, filter}
+use Rattle.std.specs.Prelude.{◌≡◌, ◌⊎◌, ℕ, List, length}
 use Rattle.std.specs.List.{AllZip, concat}
 use Rattle.cov_io.specs.State.{State}
 use Rattle.cov_types.specs.declared.coord.Coord.{Coord}
 use Rattle.cov_types.specs.Uses.{uses_of}
-use Rattle.plane.specs.Label.{numbers_below}
 use Rattle.plane.specs.Region.{IsOuterRegion}
-use Rattle.arrangement.specs.Overlay.{Overlay, label_of}
+use Rattle.arrangement.specs.Overlay.{Overlay, region_numbers, label_of}
 use Rattle.arrangement.specs.Measure.{region_area2}
 use Rattle.arrangement.specs.Cleaned.{IsSnappedOverlay}
 use Rattle.cover_cli.specs.Input.{HoldsCoverage}
 use Rattle.cover_cli.specs.Rows.{outer_row, inner_row}
-
--- the numbers of the regions, ascending: each is that of the least side of its region
-abbrev pub region_numbers : Overlay → List ℕ
-region_numbers o = filter (λ r. o.number r == r) (numbers_below (2 * length o.edges))
 
 -- the line is the row of the region
 abbrev pub IsRow : Overlay → ℕ → List ℕ → Type 0

@@ -90,7 +90,7 @@ rounds_under l n d r positive h rounds =
 -- ---- in 128 bits
 
 module _ (n d : ℤ) (positive : pos 0 <ℤ d) (small : d ≤ℤ pos (2 ^ 60)) (low : ((neg_ℤ LIMIT) *ℤ d) ≤ℤ n) (high : n ≤ℤ (LIMIT *ℤ d)) where
-  num_small : IsWithin (2 ^ 84) n
+  num_small : IsWithin (2 ^ 88) n
   num_small = let most = mul_le LIMIT (omega (arith, lin)) small in record { low = omega (arith, lin, neg_mul LIMIT d); high = omega (arith, lin) }
 
   den_small : IsWithin (2 ^ 60) d
@@ -102,9 +102,9 @@ module _ (n d : ℤ) (positive : pos 0 <ℤ d) (small : d ≤ℤ pos (2 ^ 60)) (
       let d_small = den_small in
       let fits_n : FitsSigned w128 n = within_fits w128 (lit< tt) n_small in
       let fits_d : FitsSigned w128 d = within_fits w128 (lit< tt) d_small in
-      let twice_n : IsWithin (2 ^ 85) (pos 2 *ℤ n) = record { low = omega (arith, lin, pos_times 2 n); high = omega (arith, lin, pos_times 2 n) } in
+      let twice_n : IsWithin (2 ^ 89) (pos 2 *ℤ n) = record { low = omega (arith, lin, pos_times 2 n); high = omega (arith, lin, pos_times 2 n) } in
       let twice_d : IsWithin (2 ^ 61) (pos 2 *ℤ d) = record { low = omega (arith, lin, pos_times 2 d); high = omega (arith, lin, pos_times 2 d) } in
-      let sum : IsWithin (2 ^ 86) ((pos 2 *ℤ n) +ℤ d) = record { low = omega (arith, lin); high = omega (arith, lin) } in
+      let sum : IsWithin (2 ^ 90) ((pos 2 *ℤ n) +ℤ d) = record { low = omega (arith, lin); high = omega (arith, lin) } in
       let fits_2n : FitsSigned w128 (pos 2 *ℤ n) = within_fits w128 (lit< tt) twice_n in
       let fits_2d : FitsSigned w128 (pos 2 *ℤ d) = within_fits w128 (lit< tt) twice_d in
       let fits_sum : FitsSigned w128 ((pos 2 *ℤ n) +ℤ d) = within_fits w128 (lit< tt) sum in

@@ -1,5 +1,5 @@
 use Rattle.std.specs.List.{AllWithin}
-use Rattle.cov_valid.proofs.kinds.is_meeting.Given as goal
+use Rattle.cov_valid.proofs.kinds.has_bad_contact.Given as goal
 use Rattle.plane.specs.Contact.{MeetsBadly}
 
 abbrev pub invariant-loop-other : goal.invariant-loop-other

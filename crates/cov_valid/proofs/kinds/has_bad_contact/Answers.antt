@@ -2,7 +2,7 @@ use Rattle.std.proofs.Common.{refl}
 use Rattle.std.proofs.lemmas.Bool.{false≢true, iff_false}
 use Rattle.std.proofs.lemmas.List.Elements.{AllWithin-more, at_read}
 use Rattle.cov_valid.proofs.Searches.{meeting_at, meeting_none}
-use Rattle.cov_valid.proofs.kinds.is_meeting.Goals as goal
+use Rattle.cov_valid.proofs.kinds.has_bad_contact.Goals as goal
 use Rattle.plane.specs.Contact.{MeetsBadly}
 
 pub returns-then-meets_badly : goal.returns-then-meets_badly

@@ -4,3 +4,5 @@ pub mod Owners
 pub mod Computed
 pub mod SquareClearance
 pub mod SquareOwners
+pub mod Held
+pub mod Neighbours

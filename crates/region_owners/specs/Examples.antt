@@ -60,4 +60,4 @@ pub record MoatExamples : Type 0 where
   pub labels : map (label_of moat) (0 ∷ 1 ∷ 7 ∷ 13 ∷ 19 ∷ []) ≡ [] ∷ (0 ∷ []) ∷ [] ∷ (2 ∷ []) ∷ (1 ∷ []) ∷ []
   pub areas : map (region_area2 moat) (1 ∷ 7 ∷ 13 ∷ 19 ∷ []) ≡ pos 800 ∷ pos 72 ∷ pos 128 ∷ pos 800 ∷ []
   pub borders : map (owned_border moat moat_owners 7) (0 ∷ 1 ∷ 2 ∷ []) ≡ 5120 ∷ 5120 ∷ 8192 ∷ []
-  pub neighbour : neighbour_of moat moat_owners 7 ≡ 2
+  pub neighbour : neighbour_of moat moat_owners 7 ≡ Some 2

@@ -1,5 +1,5 @@
 -- The owners of regions: the one member of the label, the pick of a rule among several, or the longest border with a narrow gap.
-use Rattle.std.specs.Prelude.{◌≡◌, ◌⊎◌, ℕ, Bool, not, nat_lt, nat_le, List, [], ◌∷◌, length, filter, fold, Option, Some, None, option_map, slice_get, int_lt}
+use Rattle.std.specs.Prelude.{◌≡◌, ◌⊎◌, ℕ, ◌<◌, Bool, not, nat_lt, nat_le, List, [], ◌∷◌, length, filter, fold, Option, Some, None, option_map, slice_get, int_lt}
 use Rattle.std.specs.List.{position_or_len, list_any}
 use Rattle.plane.specs.Label.{numbers_below}
 use Rattle.region_owners.specs.declared.candidate.Candidate.{Candidate}
@@ -16,6 +16,10 @@ use Rattle.region_owners.specs.Gap.{IsGap, IsNarrow}
 pub record Rule (State : Type 0) : Type 0 where
   pub pick : State → RegionFacts → ℕ
   pub next : State → RegionFacts → State
+
+-- a lawful rule picks a place in the candidates wherever there are some
+abbrev pub IsLawful : {State : Type 0} → Rule State → Type 0
+IsLawful {State} rule = (state : State) (facts : RegionFacts) → 0 < length facts.candidates → rule.pick state facts < length facts.candidates
 
 -- the first place whose element no element beats
 abbrev pub first_best : {X : Type 0} → (X → X → Bool) → List X → ℕ
@@ -79,9 +83,13 @@ owner_by rule state o r (i ∷ j ∷ more) = picked_owner rule state o r
 abbrev pub label_owner : {State : Type 0} → Rule State → State → Overlay → ℕ → Option ℕ
 label_owner rule state o r = owner_by rule state o r (label_of o r)
 
--- the member with the longest owned border with the region, of several the least
-abbrev pub neighbour_of : Overlay → (ℕ → Option ℕ) → ℕ → ℕ
-neighbour_of o owners r = first_best (λ i j. nat_lt (owned_border o owners r j) (owned_border o owners r i)) (numbers_below o.members)
+-- the members that share an owned border with the region, ascending
+abbrev pub neighbours_of : Overlay → (ℕ → Option ℕ) → ℕ → List ℕ
+neighbours_of o owners r = filter (λ i. nat_lt 0 (owned_border o owners r i)) (numbers_below o.members)
+
+-- the one of them with the longest, of several the least, and none where there is none
+abbrev pub neighbour_of : Overlay → (ℕ → Option ℕ) → ℕ → Option ℕ
+neighbour_of o owners r = slice_get (neighbours_of o owners r) (first_best (λ i j. nat_lt (owned_border o owners r j) (owned_border o owners r i)) (neighbours_of o owners r))
 
 -- a gap that is narrow at w
 pub record IsNarrowGap (o : Overlay) (r w : ℕ) : Type 0 where
@@ -91,7 +99,7 @@ pub record IsNarrowGap (o : Overlay) (r w : ℕ) : Type 0 where
 -- the owner of a region at the gap width w: by its label, or of a narrow gap the neighbour with the longest border, or none
 abbrev pub IsOwner : {State : Type 0} → Rule State → State → Overlay → ℕ → ℕ → Option ℕ → Type 0
 IsOwner rule state o w r owner =
-    (IsNarrowGap o r w × (owner ≡ Some (neighbour_of o (label_owner rule state o) r)))
+    (IsNarrowGap o r w × (owner ≡ neighbour_of o (label_owner rule state o) r))
     ⊎ (¬ IsNarrowGap o r w × (owner ≡ label_owner rule state o r))
 
 -- the owners of all regions

@@ -5,7 +5,9 @@ use Rattle.cov_types.specs.declared.edge_use.EdgeUse.{EdgeUse}
 use Rattle.cov_types.specs.declared.seg.Seg.{Seg}
 use Rattle.plane.specs.Label.{label_at, numbers_below}
 use Rattle.plane.specs.Point.{Point}
-use Rattle.plane.specs.Region.{side_points, IsSide, IsRegionOf}
+use Rattle.plane.specs.Region.{side_points, IsSide, IsRegionOf, AreRegions}
+use Rattle.arrangement.specs.declared.odd_use.OddUse.{OddUse}
+use Rattle.arrangement.specs.Noding.{AreSnapped, AreLiveEdges, odd_uses}
 
 -- edges that meet in ends alone, the uses of them by members below a number, and for each side the number of its region
 pub record Overlay : Type 0 where
@@ -49,3 +51,19 @@ pub record AreBeside (o : Overlay) (r s : ℕ) : Type 0 where
   pub edge : ℕ
   pub listed : edge < length o.edges
   pub sides : ((region_above o edge ≡ r) × (region_below o edge ≡ s)) ⊎ ((region_above o edge ≡ s) × (region_below o edge ≡ r))
+
+-- ---- overlays of a coverage
+
+-- the overlay of the uses of so many members: their live edges, odd uses and regions
+pub record IsOverlayOf (uses : List EdgeUse) (members : ℕ) (o : Overlay) : Type 0 where
+  pub odd : List OddUse
+  pub live : AreLiveEdges uses o.edges odd
+  pub by_odd : o.uses ≡ odd_uses o.edges odd
+  pub count : o.members ≡ members
+  pub numbered : AreRegions o.edges o.numbers
+
+-- the overlay of the snapped members
+pub record IsSnappedOverlay (uses : List EdgeUse) (members : ℕ) (o : Overlay) : Type 0 where
+  pub snapped : List EdgeUse
+  pub are_snapped : AreSnapped uses snapped
+  pub overlay : IsOverlayOf snapped members o

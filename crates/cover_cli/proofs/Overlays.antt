@@ -14,8 +14,7 @@ use Rattle.crossing_laws.specs.Across.{is_same_seg}
 use Rattle.crossing_laws.proofs.Lists.{contains_here, contains_there}
 use Rattle.arrangement.specs.declared.odd_use.OddUse.{OddUse}
 use Rattle.arrangement.specs.Noding.{IsOdd, snapped_uses, AreLiveEdges, IsNoded, odd_uses}
-use Rattle.arrangement.specs.Overlay.{Overlay}
-use Rattle.arrangement.specs.Cleaned.{IsSnappedOverlay}
+use Rattle.arrangement.specs.Overlay.{Overlay, IsSnappedOverlay}
 use Rattle.owner_label.specs.Labelled.{Labelled, IsOverlay}
 use Rattle.arrangement.proofs.OddUses.{some_passes, live_again_law}
 use Rattle.snap_noder.proofs.ParityLemmas.{contains_mapped}

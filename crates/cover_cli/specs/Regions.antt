@@ -5,9 +5,8 @@ use Rattle.cov_io.specs.State.{State}
 use Rattle.cov_types.specs.declared.coord.Coord.{Coord}
 use Rattle.cov_types.specs.Uses.{uses_of}
 use Rattle.plane.specs.Region.{IsOuterRegion}
-use Rattle.arrangement.specs.Overlay.{Overlay, region_numbers, label_of}
+use Rattle.arrangement.specs.Overlay.{Overlay, region_numbers, label_of, IsSnappedOverlay}
 use Rattle.arrangement.specs.Measure.{region_area2}
-use Rattle.arrangement.specs.Cleaned.{IsSnappedOverlay}
 use Rattle.cover_cli.specs.Input.{HoldsCoverage}
 use Rattle.cover_cli.specs.Rows.{outer_row, inner_row}
 

@@ -1,0 +1,6 @@
+pub mod Clearances
+pub mod Picks
+pub mod Owners
+pub mod Computed
+pub mod SquareClearance
+pub mod SquareOwners

@@ -3,6 +3,10 @@ use Rattle.std.specs.Prelude.{◌≤◌, ◌<◌, ◌^◌, List, length, All}
 use Rattle.cov_types.specs.Range.{IsInRange}
 use Rattle.cov_types.specs.declared.coord.Coord.{Coord}
 
+-- the members of a coverage: lists of polygons, which are lists of rings, which are lists of points
+abbrev pub Members : Type 0
+Members = List (List (List (List Coord)))
+
 -- every point of the ring is in range
 abbrev pub IsRingInRange : List Coord → Type 0
 IsRingInRange points = All IsInRange points
@@ -16,7 +20,7 @@ abbrev pub IsMemberInRange : List (List (List Coord)) → Type 0
 IsMemberInRange polys = All IsPolyInRange polys
 
 -- every coordinate is in range, and there are fewer than 2 ^ 32 members
-pub record AllInRange (members : List (List (List (List Coord)))) : Type 0 where
+pub record AllInRange (members : Members) : Type 0 where
   pub coords : All IsMemberInRange members
   pub count : length members < 2 ^ 32
 
@@ -33,6 +37,6 @@ abbrev pub IsMemberFormed : List (List (List Coord)) → Type 0
 IsMemberFormed polys = All IsPolyFormed polys
 
 -- the coverage is in range, every polygon has a ring and every ring has three points or more
-pub record IsFormed (members : List (List (List (List Coord)))) : Type 0 where
+pub record IsFormed (members : Members) : Type 0 where
   pub in_range : AllInRange members
   pub shapes : All IsMemberFormed members

@@ -3,3 +3,4 @@ pub mod SameParts
 pub mod Computed
 pub mod Ways
 pub mod SquareCleaned
+pub mod Reached

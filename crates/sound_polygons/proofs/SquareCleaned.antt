@@ -20,7 +20,7 @@ use Rattle.region_owners.proofs.SquareOwners.{square_owners}
 use Rattle.sound_polygons.specs.Parts.{LeadsWithin, IsPartOf, IsSimple, IsSound, boundary, corners, is_free_corner}
 use Rattle.sound_polygons.specs.Cleaned.{IsPolyCanonical, IsSoundFor, IsOwned, ArePolygonsOf, IsBuilt, BeginsAtLeast}
 use Rattle.sound_polygons.specs.Square.{lone_square, SquareExamples}
-use Rattle.sound_polygons.proofs.Ways.{ways_apart, ways_in}
+use Rattle.sound_polygons.proofs.Ways.{ways_reordered}
 
 -- ---- the part of region 1
 
@@ -51,8 +51,7 @@ square_simple = record {
 square_sound : IsSound lone (λ r. r == 1) (shell ∷ [])
 unfolding sweep side turn_of
 square_sound = record {
-  exact = λ way. (ways_in (flat_map sides (shell ∷ [])) (boundary lone (λ r. r == 1)) refl way, ways_in (boundary lone (λ r. r == 1)) (flat_map sides (shell ∷ [])) refl way);
-  once = ways_apart (flat_map sides (shell ∷ [])) refl;
+  round = ways_reordered (flat_map sides (shell ∷ [])) (boundary lone (λ r. r == 1)) refl;
   simple = All-from_recursion IsSimple (shell ∷ []) (square_simple, tt);
   shell_first = (refl, λ k d within. absurd (omega arith));
   free = All-from_recursion IsFree (flat_map corners (shell ∷ [])) (refl, (refl, (refl, (refl, tt))));
@@ -99,8 +98,8 @@ polygons = record {
     only x y (zero, within, is) = is
     only x y (suc k, within, is) = absurd (omega arith)
 
-square_built : IsBuilt lone lone_owners lone_square
-square_built = record { count = refl; members = λ i polys is. member i polys is }
+square_built : IsBuilt lone lone_owners 1 lone_square
+square_built = record { count = refl; each = λ i polys is. member i polys is }
   where
     member : (i : ℕ) (polys : List (List (List Coord))) → slice_get lone_square i ≡ Some polys → ArePolygonsOf lone lone_owners i polys
     member zero polys is = subst (ArePolygonsOf lone lone_owners 0) (ap (λ o. unwrap_or o (polygon ∷ [])) is) polygons

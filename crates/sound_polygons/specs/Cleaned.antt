@@ -3,6 +3,7 @@ use Rattle.std.specs.Prelude.{◌≡◌, ℕ, Bool, false, IsTrue, List, [], ◌
 use Rattle.std.specs.Ordering.{is_lt}
 use Rattle.cov_types.specs.declared.coord.Coord.{Coord}
 use Rattle.cov_types.specs.Coord.{is_before, points_cmp}
+use Rattle.cov_types.specs.Coverage.{Members}
 use Rattle.cov_types.specs.Uses.{uses_of}
 use Rattle.arrangement.specs.Overlay.{Overlay, IsRegion, IsSnappedOverlay}
 use Rattle.region_owners.specs.Owner.{Rule, AreOwners}
@@ -50,15 +51,15 @@ pub record ArePolygonsOf (o : Overlay) (owners : ℕ → Option ℕ) (i : ℕ) (
       → IsSoundFor o owners i r a → IsSoundFor o owners i r b → m ≡ n
   pub canonical : IsMemberCanonical polys
 
--- each member has the polygons of the regions that it owns
-pub record IsBuilt (o : Overlay) (owners : ℕ → Option ℕ) (out : List (List (List (List Coord)))) : Type 0 where
-  pub count : length out ≡ o.members
-  pub members : (i : ℕ) (polys : List (List (List Coord))) → slice_get out i ≡ Some polys → ArePolygonsOf o owners i polys
+-- each of so many members has the polygons of the regions that it owns
+pub record IsBuilt (o : Overlay) (owners : ℕ → Option ℕ) (members : ℕ) (out : Members) : Type 0 where
+  pub count : length out ≡ members
+  pub each : (i : ℕ) (polys : List (List (List Coord))) → slice_get out i ≡ Some polys → ArePolygonsOf o owners i polys
 
 -- out is the coverage, cleaned by the rule from this state at the gap width w
-pub record IsCleaned {State : Type 0} (members : List (List (List (List Coord)))) (rule : Rule State) (state : State) (w : ℕ) (out : List (List (List (List Coord)))) : Type 0 where
+pub record IsCleaned {State : Type 0} (members : Members) (rule : Rule State) (state : State) (w : ℕ) (out : Members) : Type 0 where
   pub overlay : Overlay
   pub is_overlay : IsSnappedOverlay (uses_of members) (length members) overlay
   pub owners : ℕ → Option ℕ
   pub are_owners : AreOwners rule state overlay w owners
-  pub built : IsBuilt overlay owners out
+  pub built : IsBuilt overlay owners (length members) out

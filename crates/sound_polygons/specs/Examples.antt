@@ -1,6 +1,6 @@
 -- Examples of rings, angles and polygons, with numbers.
-use Rattle.std.specs.Prelude.{◌≡◌, ℕ, ◌==◌, ◌&&◌, ◌||◌, Bool, true, false, List, [], ◌∷◌, ◌++◌, map, flat_map, pos}
-use Rattle.std.specs.List.{list_any, list_all}
+use Rattle.std.specs.Prelude.{◌≡◌, ℕ, ◌==◌, ◌&&◌, ◌||◌, Bool, true, false, List, [], ◌∷◌, ◌++◌, length, map, flat_map, cond, Option, Some, None, option_map, unwrap_or, pos}
+use Rattle.std.specs.List.{list_all}
 use Rattle.cov_types.specs.declared.coord.Coord.{Coord}
 use Rattle.cov_types.specs.declared.seg.Seg.{Seg}
 use Rattle.cov_types.specs.Coord.{is_same_coord}
@@ -17,17 +17,23 @@ use Rattle.sound_polygons.specs.Parts.{is_counter_clockwise, is_clockwise, is_in
 
 -- ---- rings and boundaries
 
--- whether each way is one of the others, and each of the others one of the ways
+-- whether two ways are one
 abbrev pub is_same_way : Coord × Coord → Coord × Coord → Bool
 is_same_way a b = is_same_coord a.0 b.0 && is_same_coord a.1 b.1
 
--- whether the two lists have the same ways
-abbrev pub are_same_ways : List (Coord × Coord) → List (Coord × Coord) → Bool
-are_same_ways xs ys = list_all (λ x. list_any (is_same_way x) ys) xs && list_all (λ y. list_any (is_same_way y) xs) ys
+-- the list without the first element that is the same, or none where none is
+abbrev pub without : {X : Type 0} → (X → X → Bool) → X → List X → Option (List X)
+without same x [] = None
+without same x (y ∷ ys) = cond (same x y) (Some ys) (option_map (λ rest. y ∷ rest) (without same x ys))
+
+-- whether the second list is the first in another order
+abbrev pub is_reordered : {X : Type 0} → (X → X → Bool) → List X → List X → Bool
+is_reordered same [] ys = length ys == 0
+is_reordered same (x ∷ xs) ys = unwrap_or (option_map (is_reordered same xs) (without same x ys)) false
 
 -- whether the rings go round the regions inside, with them on the left
 abbrev pub goes_round : Overlay → (ℕ → Bool) → List (List Coord) → Bool
-goes_round o inside rings = are_same_ways (flat_map sides rings) (boundary o inside)
+goes_round o inside rings = is_reordered is_same_way (flat_map sides rings) (boundary o inside)
 
 -- ---- two squares that overlap
 

@@ -1,10 +1,10 @@
 -- The laws that make the definitions of parts and polygons believable.
-use Rattle.std.specs.Prelude.{◌≡◌, ℕ, List, Option, Some}
+use Rattle.std.specs.Prelude.{◌≡◌, ℕ, Bool, List, Option, Some}
 use Rattle.cov_types.specs.declared.coord.Coord.{Coord}
 use Rattle.cov_types.specs.declared.seg.Seg.{Seg}
 use Rattle.sector_laws.specs.Sector.{HalfEdge, target, is_in_sector, Leaves, IsPlanar}
 use Rattle.arrangement.specs.Overlay.{Overlay}
-use Rattle.sound_polygons.specs.Parts.{InOnePart, is_in_angle}
+use Rattle.sound_polygons.specs.Parts.{InOnePart, IsPartOf, is_in_angle}
 
 -- ---- parts
 
@@ -17,6 +17,10 @@ pub record IsPartEquivalence (o : Overlay) (owners : ℕ → Option ℕ) (i : �
 -- and it is so for every owner of every overlay
 abbrev pub PartLaw : Type 0
 PartLaw = (o : Overlay) (owners : ℕ → Option ℕ) (i : ℕ) → IsPartEquivalence o owners i
+
+-- each region that a member owns is in a part, whose regions a test tells
+abbrev pub PartsLaw : Type 0
+PartsLaw = (o : Overlay) (owners : ℕ → Option ℕ) (i r : ℕ) → owners r ≡ Some i → (inside : ℕ → Bool) × IsPartOf o owners i r inside
 
 -- ---- angles
 

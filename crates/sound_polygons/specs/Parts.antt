@@ -1,6 +1,7 @@
 -- The parts of an owner's regions, which are edge-connected components, and the polygons that are sound for them.
-use Rattle.std.specs.Prelude.{◌≡◌, ◌≢◌, ℕ, ◌≤◌, Bool, true, false, ◌&&◌, ◌||◌, not, cond, IsTrue, ◌↔◌, List, [], ◌∷◌, ◌++◌, length, take, drop, zip, flat_map, option_to_list, All, AllPairs, Contains, Option, Some, pos, int_lt}
+use Rattle.std.specs.Prelude.{◌≡◌, ◌≢◌, ℕ, ◌≤◌, Bool, true, false, ◌&&◌, ◌||◌, not, cond, IsTrue, ◌↔◌, List, [], ◌∷◌, ◌++◌, length, take, drop, zip, flat_map, option_to_list, All, AllPairs, Option, Some, pos, int_lt}
 use Rattle.std.specs.List.{list_any, list_all}
+use Rattle.std.specs.List.Sorted.{IsPermutation}
 use Rattle.cov_types.specs.declared.coord.Coord.{Coord}
 use Rattle.cov_types.specs.declared.seg.Seg.{Seg}
 use Rattle.cov_types.specs.Coord.{is_before, is_same_coord}
@@ -93,10 +94,13 @@ abbrev pub IsShellFirst : List (List Coord) → Type 0
 IsShellFirst [] = ⊥
 IsShellFirst (shell ∷ holes) = IsTrue (is_counter_clockwise shell) × All (λ hole. IsTrue (is_clockwise hole)) holes
 
--- the polygon is sound for the part: its sides are the boundary, each once, its rings are simple, the shell is first, and its corners are free
+-- the rings go round the part: their sides are its boundary, each once, with the part on the left
+abbrev pub GoRoundPart : Overlay → (ℕ → Bool) → List (List Coord) → Type 0
+GoRoundPart o inside rings = IsPermutation (flat_map sides rings) (boundary o inside)
+
+-- the polygon is sound for the part: its rings go round it and are simple, the shell is first, and its corners are free
 pub record IsSound (o : Overlay) (inside : ℕ → Bool) (rings : List (List Coord)) : Type 0 where
-  pub exact : (way : Coord × Coord) → Contains (flat_map sides rings) way ↔ Contains (boundary o inside) way
-  pub once : AllPairs (λ s t. s ≢ t) (flat_map sides rings)
+  pub round : GoRoundPart o inside rings
   pub simple : All IsSimple rings
   pub shell_first : IsShellFirst rings
   pub free : All (λ corner. IsTrue (is_free_corner (flat_map sides rings) corner)) (flat_map corners rings)

@@ -1,13 +1,13 @@
 -- Instances over one square of size 10: its ring, its part, and that clean leaves it as it is.
-use Rattle.std.specs.Prelude.{ℕ, ◌==◌, List, [], ◌∷◌}
-use Rattle.cov_types.specs.declared.coord.Coord.{Coord}
+use Rattle.std.specs.Prelude.{ℕ, ◌==◌, [], ◌∷◌}
+use Rattle.cov_types.specs.Coverage.{Members}
 use Rattle.arrangement.specs.Square.{shell, lone}
 use Rattle.region_owners.specs.Square.{lone_owners, by_index}
 use Rattle.sound_polygons.specs.Parts.{IsSimple, IsPartOf, IsSound}
 use Rattle.sound_polygons.specs.Cleaned.{IsCleaned}
 
 -- the coverage of the one member with the one ring
-abbrev pub lone_square : List (List (List (List Coord)))
+abbrev pub lone_square : Members
 lone_square = ((shell ∷ []) ∷ []) ∷ []
 
 -- what the definitions say of it

@@ -13,9 +13,10 @@
 //!
 //! A crate above takes a lemma by `use Rattle.sound_polygons.proofs.FILE.{NAME}` in its `proofs/`. The files:
 //!
-//! - `SameParts`: parts are disjoint (`part_equivalence`).
+//! - `SameParts`: parts are disjoint (`part_equivalence`). `Reached`: the part of an owned region exists (`part_exists`).
+//! - `Ways`: lists that are one list in another order, by a test (`reordered`, `ways_reordered`).
 //! - `Angles`: the angle between two half-edges that leave a vertex is the sector between them (`angle_is_sector`).
-//! - `Computed`, `Ways`, `SquareCleaned`: the examples and instances.
+//! - `Computed`, `SquareCleaned`: the examples and instances.
 #![tactic(auto)]
 
 mod examples;

@@ -1,3 +1,5 @@
+pub mod Members
 pub mod Middle
-pub mod Under
+pub mod Parts
 pub mod Path
+pub mod Under

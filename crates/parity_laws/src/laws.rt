@@ -1,4 +1,4 @@
-ghost use Rattle.parity_laws.specs.Laws.{UpperIsMiddleLaw, MemberUpperLaw, OwnMiddleLaw, UnderLaw, PathLaw, ClosedPathLaw};
+ghost use Rattle.parity_laws.specs.Laws.{UpperIsMiddleLaw, MemberUpperLaw, OwnMiddleLaw, UnderLaw, PathLaw, ClosedPathLaw, PartLaw, HighRunLaw, RunsLaw};
 
 /// What is over the midpoint of a segment. A call does nothing.
 pub fn midpoint_law()
@@ -12,4 +12,11 @@ pub fn midpoint_law()
 pub fn path_law()
     ensures path { PathLaw }
     ensures closed { ClosedPathLaw }
+{}
+
+/// What the runs of rings hold, in parts and by member. A call does nothing.
+pub fn runs_law()
+    ensures part { PartLaw }
+    ensures high { HighRunLaw }
+    ensures members { RunsLaw }
 {}

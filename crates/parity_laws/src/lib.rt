@@ -9,8 +9,11 @@
 //! - `Middle`: the upper side point and the midpoint of a segment (`over-upper`, `member_holds-upper`, `not_over_own`).
 //! - `Under`: the side of a point as a mean of how much higher it is than the ends (`not_over_higher`, `over_under`).
 //! - `Path`: edges higher than a point, one by one (`over_higher`) and in paths (`path_holds`).
+//! - `Parts`: the uses from one place to before another: one use more (`part-more`), two parts (`part-joined`), none over the point
+//!   (`part-none_over`), all higher than the point (`part-higher`).
+//! - `Members`: a member holds what an odd number of its runs holds (`member_runs`).
 #![tactic(auto)]
 
 mod laws;
 
-pub use laws::{midpoint_law, path_law};
+pub use laws::{midpoint_law, path_law, runs_law};

@@ -22,7 +22,7 @@ sweep-upper s =
     (Lit (pos (2 ^ 30)) ⊗ (Lit (pos (2 ^ 63)) ⊗ (Var 0 ⊕ Var 2) ⊖ Lit (pos 1)) ⊕ (Lit (pos (2 ^ 63)) ⊗ (Var 1 ⊕ Var 3) ⊕ Lit (pos (2 ^ 30))))
     (Lit (pos (2 ^ 63)) ⊗ (Lit (pos (2 ^ 30)) ⊗ (Var 0 ⊕ Var 2) ⊕ (Var 1 ⊕ Var 3))) refl
 
--- and it is less farther to the left of the edge than any point of the grid of midpoints is
+-- how far that is to the left of an edge: 2^63 times as far as the midpoint, and by the rise of the edge more, which is less than 2^63
 side-upper : (e s : Seg) → side e (upper s) ≡ (pos (2 ^ 63) *ℤ side e (midpoint s)) +ℤ sweep_rise e
 unfolding side sweep
 side-upper e s =

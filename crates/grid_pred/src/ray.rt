@@ -42,8 +42,8 @@ pub fn over_mid(e: Seg, s: Seg) -> bool
     )
 }
 
-/// Whether the edge e is over the upper side point of s. It is exactly where it is over the midpoint, from which the ray leads to
-/// the side point: so near to it that no edge that is strictly above the one is not above the other.
+/// Whether the edge e is over the upper side point of s. It is exactly where it is over the midpoint: the ray leads from the one to
+/// the other, which is so near that each edge strictly above the midpoint is strictly above it too.
 pub fn over_upper(e: Seg, s: Seg) -> bool
     requires edge_in_range { IsSegInRange e }
     requires segment_in_range { IsSegInRange s }

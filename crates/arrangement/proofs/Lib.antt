@@ -11,3 +11,4 @@ pub mod Squares
 pub mod SquareRegions
 pub mod SquareOverlay
 pub mod LiveOverlays
+pub mod ValidLive

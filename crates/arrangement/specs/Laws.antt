@@ -7,8 +7,9 @@ use Rattle.cov_types.specs.Uses.{HasEvenEnds}
 use Rattle.plane.specs.Parity.{member_holds}
 use Rattle.plane.specs.Point.{Point}
 use Rattle.plane.specs.Label.{label_at}
-use Rattle.plane.specs.Region.{IsRegionOf, far_point}
+use Rattle.plane.specs.Region.{IsRegionOf, AreRegions, far_point}
 use Rattle.plane.specs.Segment.{upper, lower}
+use Rattle.plane.specs.Validity.{IsValid}
 use Rattle.sector_laws.specs.Sector.{IsPlanar}
 use Rattle.arrangement.specs.declared.odd_use.OddUse.{OddUse}
 use Rattle.arrangement.specs.Noding.{segments, AreEdges, AreLiveEdges, odd_uses, IsNoded}
@@ -68,3 +69,14 @@ OverlayLaw = (uses : List EdgeUse) (members : ℕ) (o q : Overlay) → IsOverlay
 -- and uses in range one overlay of the snapped members
 abbrev pub SnappedOverlayLaw : Type 0
 SnappedOverlayLaw = (uses : List EdgeUse) → All (λ u. IsSegInRange u.seg) uses → (members : ℕ) (o q : Overlay) → IsSnappedOverlay uses members o → IsSnappedOverlay uses members q → o ≡ q
+
+-- ---- valid coverages
+
+-- in a valid coverage each segment is live, so the distinct segments are the live edges
+abbrev pub ValidLiveLaw : Type 0
+ValidLiveLaw = (uses : List EdgeUse) → IsValid uses → (edges : List Seg) (odd : List OddUse) → AreEdges uses edges odd → AreLiveEdges uses edges odd
+
+-- and its segments with the numbers of their regions are an overlay of it
+abbrev pub ValidOverlayLaw : Type 0
+ValidOverlayLaw = (uses : List EdgeUse) → IsValid uses → (edges : List Seg) (odd : List OddUse) → AreEdges uses edges odd → (members : ℕ) (numbers : List ℕ) → AreRegions edges numbers
+    → IsOverlayOf uses members (record { edges = edges; uses = odd_uses edges odd; members = members; numbers = numbers })

@@ -1,4 +1,4 @@
-ghost use Rattle.arrangement.specs.Laws.{OddUsesLaw, LiveUsesLaw, LiveAgainLaw, NodingLaw, SidesDifferLaw, FarLaw, OverlayLaw, SnappedOverlayLaw, LiveOverlayLaw, LabelLaw};
+ghost use Rattle.arrangement.specs.Laws.{OddUsesLaw, LiveUsesLaw, LiveAgainLaw, NodingLaw, SidesDifferLaw, FarLaw, OverlayLaw, SnappedOverlayLaw, LiveOverlayLaw, LabelLaw, ValidLiveLaw, ValidOverlayLaw};
 
 /// Members hold points by their odd edges alone. A call does nothing.
 pub fn odd_uses_law()
@@ -28,4 +28,10 @@ pub fn overlay_law()
 pub fn live_overlay_law()
     ensures live { LiveOverlayLaw }
     ensures labels { LabelLaw }
+{}
+
+/// The segments of a valid coverage are its live edges. A call does nothing.
+pub fn valid_law()
+    ensures live { ValidLiveLaw }
+    ensures overlay { ValidOverlayLaw }
 {}

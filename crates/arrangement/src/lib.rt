@@ -2,7 +2,7 @@
 //!
 //! It has definitions, laws and examples, and no code but a struct that contracts speak of. Its promise: each definition
 //! counts crossings, asks for lists of points or adds up over edges, and none knows a half-edge, a cycle, a sweep, a heap or an
-//! index. The laws are the public functions `odd_uses_law` to `live_overlay_law`; `vectors` has examples with numbers, and `instances`
+//! index. The laws are the public functions `odd_uses_law` to `valid_law`; `vectors` has examples with numbers, and `instances`
 //! has small cases of what does not compute.
 //!
 //! The files of `specs/`, lowest first:
@@ -23,6 +23,7 @@
 //! - `Numberings`: the sides of edge k (`upper_side`, `lower_side`).
 //! - `LiveOverlays`: an overlay of even uses is live (`live_overlay`), a region has the label of its points (`label_is`), and an edge
 //!   a holder on one side alone (`side_holder`). `Ascending`: labels ascend (`label_ascends`).
+//! - `ValidLive`: the distinct segments of a valid coverage are its live edges (`valid_live`, `valid_overlay`).
 //! - `Short`: facts of short lists, element by element or by a test. `Computed`, `HalfCrossing`, `Squares`, `SquareRegions`,
 //!   `SquareOverlay`: the examples and instances.
 #![tactic(auto)]
@@ -32,5 +33,7 @@ mod laws;
 mod odd_use;
 
 pub use examples::{instances, vectors};
-pub use laws::{label_law, live_overlay_law, noding_law, odd_uses_law, overlay_law};
+pub use laws::{
+    label_law, live_overlay_law, noding_law, odd_uses_law, overlay_law, valid_law,
+};
 pub use odd_use::OddUse;

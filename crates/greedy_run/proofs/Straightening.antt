@@ -1,27 +1,37 @@
 -- The square with a point in the middle of its bottom: its node, its line and the run at tolerance 0.
 use mathlib.Core.List.{[], ◌∷◌}
-use Rattle.std.proofs.Common.{◌≡◌, inl, inr, refl, sym, ◌∙◌, ap, subst, ℕ, zero, suc, ◌+◌, ◌<◌, ◌≤◌, Bool, true, false, not, ◌&&◌, ◌||◌, true≢false, List, ◌++◌, length, ℤ, pos, ◌+ℤ◌, ◌*ℤ◌, ◌≢◌, unsigned_abs, IsTrue, arith}
-use Rattle.std.specs.Prelude.{All, Contains, Some, slice_get, unwrap_or}
+use Rattle.std.proofs.Common.{◌≡◌, inl, inr, refl, sym, ◌∙◌, ap, subst, ℕ, zero, suc, ◌+◌, ◌<◌, ◌≤◌, ◌==◌, Bool, true, false, not, ◌&&◌, ◌||◌, true≢false, List, ◌++◌, length, ℤ, pos, ◌+ℤ◌, ◌*ℤ◌, ◌≢◌, unsigned_abs, IsTrue, arith}
+use Rattle.std.specs.Prelude.{All, Contains, Some, slice_get, option_and_then, unwrap_or}
 use Rattle.std.specs.List.{AllByRecursion}
 use Rattle.std.specs.Ordering.{is_le}
-use Rattle.std.proofs.lemmas.Bool.{and_from, or_parts, not-true, false≢true}
+use Rattle.std.proofs.lemmas.Bool.{and_parts, and_from, or_parts, not-true, false≢true}
+use Rattle.std.proofs.lemmas.Bool.Decides.{Decides-eqb}
 use Rattle.std.proofs.lemmas.Int.{ints}
 use Rattle.std.proofs.lemmas.List.Elements.{All-from_recursion, All-contains, All-nil, All-cons, All-head, All-tail}
 use Rattle.std.proofs.lemmas.List.Sums.{AllPass-from_list_all}
-use Rattle.std.proofs.lemmas.Option.{none-some}
+use Rattle.std.proofs.lemmas.Option.{none-some, slice_get_within}
 use Rattle.cov_types.specs.declared.coord.Coord.{Coord}
+use Rattle.cov_types.specs.declared.edge_use.EdgeUse.{EdgeUse}
 use Rattle.cov_types.specs.declared.seg.Seg.{Seg}
 use Rattle.cov_types.specs.Coord.{is_before, is_same_coord}
-use Rattle.cov_types.specs.Seg.{IsSegBetween}
+use Rattle.cov_types.specs.Seg.{IsSegBetween, is_seg_before}
+use Rattle.cov_types.specs.Uses.{uses_of}
+use Rattle.crossing_laws.specs.Across.{is_same_seg}
 use Rattle.cov_types.proofs.Equal.{Decides-same_coords}
 use Rattle.plane.specs.Examples.{grid}
 use Rattle.plane.specs.Segment.{turn_of}
 use Rattle.plane.specs.Snapping.{chain_edges}
-use Rattle.greedy_run.specs.Lines.{degree, steps, IsAlongEdge, IsWalk, IsNode, IsLine, current_edges, point_before, point_after, is_removed, Spot, spot_cmp, IsInTriangle, IsRemovable, IsNext, IsLast}
-use Rattle.arrangement.specs.Examples.{at}
+use Rattle.greedy_run.specs.Lines.{degree, steps, IsAlongEdge, IsPathAlong, IsNode, IsLine, AreLines}
+use Rattle.greedy_run.specs.Run.{current_edges, point_before, point_after, is_removed, Spot, spot_cmp, Triangle, IsInTriangle, IsTriangleAt, IsRemovable, IsNextPoint, IsFinalState}
+use Rattle.greedy_run.proofs.Kept.{before_is, after_is}
+use Rattle.greedy_run.proofs.OneLine.{covering}
+use Rattle.arrangement.specs.Examples.{at, pairs}
 use Rattle.greedy_run.specs.Examples.{round_line}
-use Rattle.greedy_run.specs.Runs.{five_edges, straightening, RunExamples}
-use Rattle.arrangement.proofs.Short.{segs_apart}
+use Rattle.greedy_run.specs.Runs.{five_edges, bent_square, straightening, RunExamples}
+use Rattle.arrangement.specs.declared.odd_use.OddUse.{OddUse}
+use Rattle.arrangement.specs.Noding.{segments, IsOdd, is_odd_before, AreEdges}
+use Rattle.arrangement.proofs.OddUses.{some_passes}
+use Rattle.arrangement.proofs.Short.{AllPairs-from_recursion, segs_apart, segs_in}
 
 -- ---- walks
 
@@ -34,7 +44,7 @@ record HasEndsOfLoop (p : Coord) (e : Seg) : Type 0 where
   hi : IsOfLoop p e.hi
 
 -- where it is so at both ends of each edge, it is so on each walk
-along_walk : (p : Coord) → All (HasEndsOfLoop p) five_edges → (q : Coord) (walk : List Coord) → IsOfLoop p q → IsWalk five_edges (q ∷ walk) → All (IsOfLoop p) (q ∷ walk)
+along_walk : (p : Coord) → All (HasEndsOfLoop p) five_edges → (q : Coord) (walk : List Coord) → IsOfLoop p q → IsPathAlong five_edges (q ∷ walk) → All (IsOfLoop p) (q ∷ walk)
 along_walk p ends q [] here walks = All-cons (IsOfLoop p) q [] here (All-nil (IsOfLoop p))
 along_walk p ends q (r ∷ walk) here walks =
     let step = All-head (IsAlongEdge five_edges) (q, r) (steps (r ∷ walk)) walks in
@@ -125,6 +135,17 @@ the_line = record {
   direction = refl;
 }
 
+-- the edge is one of the line
+abbrev IsOfRound : Seg → Type 0
+IsOfRound e = Contains (chain_edges round_line) e
+
+the_lines : AreLines five_edges (round_line ∷ [])
+the_lines = covering five_edges (round_line ∷ []) (record {
+  ascending = λ i j d before within. absurd (omega arith);
+  each = All-from_recursion (IsLine five_edges) (round_line ∷ []) (the_line, tt);
+  every = λ e has. (round_line, ((0, omega arith, refl), segs_in five_edges (chain_edges round_line) refl e has));
+})
+
 -- ---- the run
 
 size_at : (a b c p q r : Coord) → Some a ≡ Some p → Some b ≡ Some q → Some c ≡ Some r → unsigned_abs (turn_of a b c) ≡ unsigned_abs (turn_of p q r)
@@ -160,8 +181,12 @@ nothing_left (suc (suc (suc (suc (suc (suc k)))))) a b c size e f there g is sma
 
 -- ---- the middle of the bottom can be removed
 
--- a point with another height is not in the flat triangle at the bottom
-not_flat : (p : Coord) → p.y ≡ pos 10 → ¬ IsInTriangle (grid 10 0) (grid 5 0) (grid 0 0) p
+-- the flat triangle at the bottom
+abbrev at_bottom : Triangle
+at_bottom = record { a = grid 10 0; b = grid 5 0; c = grid 0 0 }
+
+-- a point with another height is not in it
+not_flat : (p : Coord) → p.y ≡ pos 10 → ¬ IsInTriangle at_bottom p
 not_flat p at_ten h =
     let y : pos 10 *ℤ pos (h.first + h.second + h.third) ≡ pos 0 = (λ i. sym at_ten i *ℤ pos (h.first + h.second + h.third)) ∙ h.y ∙ zeros (pos h.first) (pos h.second) (pos h.third) in
     let weighted = h.weighted in
@@ -172,7 +197,7 @@ not_flat p at_ten h =
 
 -- where p is none of the three, it is not in the triangle
 abbrev IsFreeOf : Coord → Type 0
-IsFreeOf p = p ≢ grid 10 0 → p ≢ grid 5 0 → p ≢ grid 0 0 → ¬ IsInTriangle (grid 10 0) (grid 5 0) (grid 0 0) p
+IsFreeOf p = p ≢ grid 10 0 → p ≢ grid 5 0 → p ≢ grid 0 0 → ¬ IsInTriangle at_bottom p
 
 free_points : AllByRecursion IsFreeOf round_line
 free_points = (
@@ -219,18 +244,23 @@ open_edges e has = elsewhere e (All-contains (λ e. is_elsewhere e ≡ true) edg
 abbrev middle : Spot
 middle = record { size = 0; line = 0; place = 4 }
 
-middle_removable : IsRemovable straightening [] middle
-unfolding turn_of
-middle_removable = record {
+middle_triangle : IsTriangleAt (round_line ∷ []) [] middle at_bottom
+middle_triangle = record {
   points = round_line;
-  a = grid 10 0;
-  b = grid 5 0;
-  c = grid 0 0;
-  on_line = refl;
-  at_place = refl;
+  line = refl;
+  here = refl;
   there = refl;
-  before = refl;
-  after = refl;
+  from = 3;
+  before = record { before = omega arith; at = refl; there = refl; between = λ j p more less is. absurd (omega arith) };
+  to = 5;
+  after = record { after = omega arith; at = refl; there = refl; between = λ j p more less is. absurd (omega arith) };
+}
+
+middle_removable : IsRemovable (straightening the_lines) [] middle
+unfolding turn_of middle_triangle
+middle_removable = record {
+  t = at_bottom;
+  triangle = middle_triangle;
   sized = refl;
   small = omega arith;
   free = λ p has. All-contains IsFreeOf round_line p (All-from_recursion IsFreeOf round_line free_points) has;
@@ -243,40 +273,96 @@ one_line : (line : ℕ) (points : List Coord) → slice_get (round_line ∷ []) 
 one_line zero points h = (refl, ap (λ o. unwrap_or o round_line) h)
 one_line (suc line) points h = absurd (none-some points h)
 
--- no spot is less than the middle
-middle_least : (other : Spot) → IsRemovable straightening [] other → IsTrue (is_le (spot_cmp middle other))
-middle_least other h =
-    let line = one_line other.line h.points h.on_line in
-    let none : other.size ≡ 0 = (let small = h.small in omega arith) in
-    let place = middle_alone other.place h.a h.b h.c other.size
-    (subst (λ ps. point_before [] ps other.place ≡ Some h.a) (sym line.1) h.before)
-    (subst (λ ps. slice_get ps other.place ≡ Some h.b) (sym line.1) h.at_place)
-    (subst (λ ps. point_after [] ps other.place ≡ Some h.c) (sym line.1) h.after)
-    h.sized h.small in
-    subst (λ t. IsTrue (is_le (spot_cmp middle t))) (λ i. record { size = sym none i; line = sym line.0 i; place = sym place i }) refl
+-- a triangle at a spot is one of neighbours in what is left of the line
+record IsOfLine (removed : List Coord) (spot : Spot) (t : Triangle) : Type 0 where
+  line : spot.line ≡ 0
+  before : point_before removed round_line spot.place ≡ Some t.a
+  here : slice_get round_line spot.place ≡ Some t.b
+  there : is_removed removed t.b ≡ false
+  after : point_after removed round_line spot.place ≡ Some t.c
 
-middle_next : IsNext straightening [] (grid 5 0)
+of_line : (removed : List Coord) (spot : Spot) (t : Triangle) → IsTriangleAt (round_line ∷ []) removed spot t → IsOfLine removed spot t
+of_line removed spot t h =
+    let line = one_line spot.line h.points h.line in
+    record {
+      line = line.0;
+      before = subst (λ ps. point_before removed ps spot.place ≡ Some t.a) (sym line.1) ((before_is removed h.points spot.place t.a).1 (h.from, h.before));
+      here = subst (λ ps. slice_get ps spot.place ≡ Some t.b) (sym line.1) (sym (ap (option_and_then (λ points. slice_get points spot.place)) h.line) ∙ h.here);
+      there = h.there;
+      after = subst (λ ps. point_after removed ps spot.place ≡ Some t.c) (sym line.1) ((after_is removed h.points spot.place t.c).1 (h.to, h.after));
+    }
+
+-- no spot is less than the middle
+middle_least : (other : Spot) → IsRemovable (straightening the_lines) [] other → IsTrue (is_le (spot_cmp middle other))
+middle_least other h =
+    let at = of_line [] other h.t h.triangle in
+    let none : other.size ≡ 0 = (let small = h.small in omega arith) in
+    let place = middle_alone other.place h.t.a h.t.b h.t.c other.size at.before at.here at.after h.sized h.small in
+    subst (λ t. IsTrue (is_le (spot_cmp middle t))) (λ i. record { size = sym none i; line = sym at.line i; place = sym place i }) refl
+
+middle_next : IsNextPoint (straightening the_lines) [] (grid 5 0)
 middle_next = record { spot = middle; removable = middle_removable; least = middle_least; is = refl }
 
-run_ends : IsLast straightening (at 5 0)
+run_ends : IsFinalState (straightening the_lines) (at 5 0)
 run_ends = record {
-  reached = (tt, middle_next);
+  run = (tt, middle_next);
   done = λ spot h. (
-      let line = one_line spot.line h.points h.on_line in
-      nothing_left spot.place h.a h.b h.c spot.size
-      (subst (λ ps. point_before (at 5 0) ps spot.place ≡ Some h.a) (sym line.1) h.before)
-      (subst (λ ps. slice_get ps spot.place ≡ Some h.b) (sym line.1) h.at_place)
-      h.there
-      (subst (λ ps. point_after (at 5 0) ps spot.place ≡ Some h.c) (sym line.1) h.after)
-      h.sized h.small);
+      let at = of_line (at 5 0) spot h.t h.triangle in
+      nothing_left spot.place h.t.a h.t.b h.t.c spot.size at.before at.here at.there at.after h.sized h.small);
+}
+
+-- ---- the coverage
+
+abbrev uses : List EdgeUse
+uses = uses_of bent_square
+
+abbrev five_pairs : List OddUse
+five_pairs = pairs 0 (0 ∷ 1 ∷ 2 ∷ 3 ∷ 4 ∷ [])
+
+abbrev StandsForEdge : OddUse → Type 0
+StandsForEdge o = (e : Seg) × ((slice_get five_edges o.edge ≡ Some e) × IsOdd uses o.member e)
+
+odd_member : (m : ℕ) (e : Seg) → IsOdd uses m e → m ≡ 0
+odd_member m e h =
+    let found = some_passes (λ u. (u.member == m) && is_same_seg e u.seg) uses h in
+    let its = (Decides-eqb (found.0).member m).0 (and_parts _ _ found.1.1).0 in
+    sym its ∙ All-contains (λ u. u.member ≡ 0) uses found.0 (All-from_recursion (λ u. u.member ≡ 0) uses (refl, (refl, (refl, (refl, (refl, tt)))))) found.1.0
+
+pair_at : (m k : ℕ) → m ≡ 0 → k < 5 → Contains five_pairs (record { member = m; edge = k })
+pair_at m zero none below = (0, omega arith, λ i. record { member = sym none i; edge = 0 })
+pair_at m (suc zero) none below = (1, omega arith, λ i. record { member = sym none i; edge = 1 })
+pair_at m (suc (suc zero)) none below = (2, omega arith, λ i. record { member = sym none i; edge = 2 })
+pair_at m (suc (suc (suc zero))) none below = (3, omega arith, λ i. record { member = sym none i; edge = 3 })
+pair_at m (suc (suc (suc (suc zero)))) none below = (4, omega arith, λ i. record { member = sym none i; edge = 4 })
+pair_at m (suc (suc (suc (suc (suc k))))) none below = absurd (omega arith)
+
+the_edges : AreEdges uses five_edges five_pairs
+the_edges = record {
+  ascending = AllPairs-from_recursion (λ e f. IsTrue (is_seg_before e f)) five_edges ((refl, (refl, (refl, (refl, tt)))), ((refl, (refl, (refl, tt))), ((refl, (refl, tt)), ((refl, tt), (tt, tt)))));
+  exact = λ e. (segs_in five_edges (segments uses) refl e, segs_in (segments uses) five_edges refl e);
+  pairs = record {
+    ascending = AllPairs-from_recursion (λ o p. IsTrue (is_odd_before o p)) five_pairs ((refl, (refl, (refl, (refl, tt)))), ((refl, (refl, (refl, tt))), ((refl, (refl, tt)), ((refl, tt), (tt, tt)))));
+    exact = λ o. (
+      (λ has. All-contains StandsForEdge five_pairs o (All-from_recursion StandsForEdge five_pairs ((_, (refl, refl)), ((_, (refl, refl)), ((_, (refl, refl)), ((_, (refl, refl)), ((_, (refl, refl)), tt)))))) has),
+      (λ h. pair_at o.member o.edge (odd_member o.member h.0 h.1.1) (slice_get_within five_edges o.edge h.0 h.1.0)),
+    );
+  };
 }
 
 pub run_examples : RunExamples
 run_examples = record {
   node = least_node;
   no_node = bottom_middle_no_node;
-  line = the_line;
+  lines = the_lines;
   removable = middle_removable;
+  not_removable = λ h. (let small = h.small in omega arith);
   next = middle_next;
-  last = run_ends;
+  final = run_ends;
+  simplified = record {
+    s = straightening the_lines;
+    of = record { by_uses = refl; odd = five_pairs; are_edges = the_edges; by_tolerance = refl; by_flag = refl };
+    removed = at 5 0;
+    final = run_ends;
+    without = refl;
+  };
 }

@@ -4,7 +4,8 @@ use Rattle.cov_types.specs.declared.coord.Coord.{Coord}
 use Rattle.plane.specs.Examples.{grid}
 use Rattle.plane.specs.Snapping.{chain_edges}
 use Rattle.arrangement.specs.Examples.{at}
-use Rattle.greedy_run.specs.Lines.{degree, point_before, point_after, ring_without}
+use Rattle.greedy_run.specs.Lines.{degree}
+use Rattle.greedy_run.specs.Run.{point_before, point_after, ring_without}
 
 -- the line round a square of size 10 with a point in the middle of its bottom
 abbrev pub round_line : List Coord

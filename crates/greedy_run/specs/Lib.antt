@@ -1,3 +1,5 @@
 pub mod Lines
+pub mod Run
+pub mod Laws
 pub mod Examples
 pub mod Runs

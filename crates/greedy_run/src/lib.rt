@@ -1,17 +1,29 @@
 //! Lines and the greedy run of the simplifier, after Visvalingam and Whyatt (1993).
 //!
-//! It has definitions and examples, and no code. Its promise: a line is a list of points and a state a list of removed points,
-//! and no definition knows a heap, a stale entry or an index. `vectors` has examples with numbers, and `instances` has small
-//! cases of what does not compute.
+//! It has definitions, laws and examples, and no code. Its promise: a line is a list of points and a state a list of removed
+//! points, and no definition knows a heap, a stale entry or an index. The laws are the public functions `lines_law` to `run_law`;
+//! `vectors` has examples with numbers, and `instances` has small cases of what does not compute.
 //!
 //! The files of `specs/`, lowest first:
 //!
-//! - `Lines`: nodes, lines, removable points, the greedy run, and the coverage of a state.
-//! - `Examples`; `Runs`: the instance of a run.
+//! - `Lines`: nodes, and lines from node to node.
+//! - `Run`: states, neighbours, removable points, the greedy run, and the coverage of a state.
+//! - `Laws`; `Examples`; `Runs`: the instance of a run.
 //!
-//! The files of `proofs/`: `Computed`, `Straightening`: the examples and instances.
+//! A crate above takes a lemma by `use Rattle.greedy_run.proofs.FILE.{NAME}` in its `proofs/`. The files:
+//!
+//! - `Orders`: lists of points and spots of which neither is past the other are one (`points_same`, `spots_same`).
+//! - `Threads`: two paths from node to node that share an edge are one (`are_one`). `OneLine`: two lines with a common edge are one
+//!   (`common_edge`), lines that have each edge are all lines (`covering`), and a vertex that is no node stands at one place
+//!   (`one_place`).
+//! - `Kept`: the neighbours of a place are what filtering gives (`before_is`, `after_is`). `NoNodes`: a removable point is no node.
+//! - `OneRun`: one list of lines (`one_list`), one next point (`one_next`), one last state (`one_last`), one coverage
+//!   (`one_simplified`).
+//! - `Computed`, `Straightening`: the examples and instances.
 #![tactic(auto)]
 
 mod examples;
+mod laws;
 
 pub use examples::{instances, vectors};
+pub use laws::{lines_law, neighbour_law, run_law};

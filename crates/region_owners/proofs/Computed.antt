@@ -4,7 +4,7 @@ use Rattle.plane.specs.Length.{root, edge_length}
 use Rattle.plane.specs.Ray.{sweep}
 use Rattle.plane.specs.Segment.{side}
 use Rattle.arrangement.specs.Measure.{trapezoid}
-use Rattle.region_owners.specs.Examples.{RuleExamples, OverlapExamples, MoatExamples}
+use Rattle.region_owners.specs.Examples.{RuleExamples, OverlapExamples, RowExamples, MoatExamples}
 
 pub rule_examples : RuleExamples
 rule_examples = record { least_index = refl; greatest_area = refl; least_area = refl; longest_border = refl }
@@ -16,3 +16,7 @@ overlap_examples = record { shared = refl; tie = refl; asked = refl }
 pub moat_examples : MoatExamples
 unfolding side sweep trapezoid root edge_length
 moat_examples = record { labels = refl; areas = refl; borders = refl; neighbour = refl }
+
+pub row_examples : RowExamples
+unfolding side sweep trapezoid root edge_length
+row_examples = record { labels = refl; shared = refl; owners = refl; later_state = refl; last = refl }

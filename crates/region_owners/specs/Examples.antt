@@ -1,5 +1,5 @@
 -- Examples of gaps, rules and owners, with numbers.
-use Rattle.std.specs.Prelude.{◌≡◌, ℕ, ◌+◌, List, [], ◌∷◌, ◌++◌, map, Option, Some, None, pos}
+use Rattle.std.specs.Prelude.{◌≡◌, ℕ, ◌+◌, ◌==◌, cond, List, [], ◌∷◌, ◌++◌, map, Option, Some, None, pos}
 use Rattle.cov_types.specs.declared.seg.Seg.{Seg}
 use Rattle.arrangement.specs.Examples.{edge, pairs, overlap}
 use Rattle.arrangement.specs.Measure.{region_area2, owned_border}
@@ -32,6 +32,36 @@ pub record OverlapExamples : Type 0 where
   pub shared : shared_regions overlap ≡ 7 ∷ []
   pub tie : map (label_owner {State = ℕ} (rule_by longest_border) 0 overlap) (0 ∷ 1 ∷ 7 ∷ 13 ∷ []) ≡ None ∷ Some 0 ∷ Some 0 ∷ Some 1 ∷ []
   pub asked : last_state counting 5 overlap ≡ 6
+
+-- ---- three squares in a row
+
+-- the first and the second overlap, and so do the second and the third: the regions are 0 (outside), 1, 7 (in two), 13, 19 (in two) and 25
+abbrev pub row_edges : List Seg
+row_edges =
+    edge 0 0 0 10 ++ edge 0 0 5 0 ++ edge 0 10 5 10 ++ edge 5 0 5 10 ++ edge 5 0 10 0 ++ edge 5 10 10 10
+    ++ edge 10 0 10 10 ++ edge 10 0 12 0 ++ edge 10 10 12 10 ++ edge 12 0 12 10 ++ edge 12 0 15 0 ++ edge 12 10 15 10
+    ++ edge 15 0 15 10 ++ edge 15 0 20 0 ++ edge 15 10 20 10 ++ edge 20 0 20 10
+
+-- the overlay of the three
+abbrev pub row : Overlay
+row = record {
+  edges = row_edges;
+  uses = odd_uses row_edges (pairs 0 (0 ∷ 1 ∷ 2 ∷ 4 ∷ 5 ∷ 6 ∷ []) ++ pairs 1 (3 ∷ 4 ∷ 5 ∷ 7 ∷ 8 ∷ 10 ∷ 11 ∷ 12 ∷ []) ++ pairs 2 (9 ∷ 10 ∷ 11 ∷ 13 ∷ 14 ∷ 15 ∷ []));
+  members = 3;
+  numbers = 0 ∷ 1 ∷ 1 ∷ 0 ∷ 0 ∷ 1 ∷ 1 ∷ 7 ∷ 7 ∷ 0 ∷ 0 ∷ 7 ∷ 7 ∷ 13 ∷ 13 ∷ 0 ∷ 0 ∷ 13 ∷ 13 ∷ 19 ∷ 19 ∷ 0 ∷ 0 ∷ 19 ∷ 19 ∷ 25 ∷ 25 ∷ 0 ∷ 0 ∷ 25 ∷ 25 ∷ 0 ∷ [];
+}
+
+-- the rule that takes the first candidate once and the second from then on
+abbrev pub once_first : Rule ℕ
+once_first = record { pick = λ count facts. cond (count == 0) 0 1; next = λ count facts. count + 1 }
+
+-- the rule is asked for the two shared regions in their order, each time in the state that it had after the one before
+pub record RowExamples : Type 0 where
+  pub labels : map (label_of row) (0 ∷ 1 ∷ 7 ∷ 13 ∷ 19 ∷ 25 ∷ []) ≡ [] ∷ (0 ∷ []) ∷ (0 ∷ 1 ∷ []) ∷ (1 ∷ []) ∷ (1 ∷ 2 ∷ []) ∷ (2 ∷ []) ∷ []
+  pub shared : shared_regions row ≡ 7 ∷ 19 ∷ []
+  pub owners : map (label_owner once_first 0 row) (1 ∷ 7 ∷ 13 ∷ 19 ∷ 25 ∷ []) ≡ Some 0 ∷ Some 0 ∷ Some 1 ∷ Some 2 ∷ Some 2 ∷ []
+  pub later_state : map (label_owner once_first 1 row) (7 ∷ 19 ∷ []) ≡ Some 1 ∷ Some 2 ∷ []
+  pub last : last_state once_first 0 row ≡ 2
 
 -- ---- a gap with an island
 

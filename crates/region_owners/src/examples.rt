@@ -1,10 +1,11 @@
-ghost use Rattle.region_owners.specs.Examples.{RuleExamples, OverlapExamples, MoatExamples};
+ghost use Rattle.region_owners.specs.Examples.{RuleExamples, OverlapExamples, RowExamples, MoatExamples};
 ghost use Rattle.region_owners.specs.Square.{SquareExamples};
 
 /// Examples with numbers, by computation. A call does nothing.
 pub fn vectors()
     ensures rules { RuleExamples }
     ensures overlap { OverlapExamples }
+    ensures row { RowExamples }
     ensures moat { MoatExamples }
 {}
 

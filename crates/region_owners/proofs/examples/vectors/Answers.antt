@@ -1,4 +1,4 @@
-use Rattle.region_owners.proofs.Computed.{rule_examples, overlap_examples, moat_examples}
+use Rattle.region_owners.proofs.Computed.{rule_examples, overlap_examples, row_examples, moat_examples}
 use Rattle.region_owners.proofs.examples.vectors.Goals as goal
 
 pub returns-clause-rules : goal.returns-clause-rules
@@ -9,3 +9,6 @@ returns-clause-overlap c = overlap_examples
 
 pub returns-clause-moat : goal.returns-clause-moat
 returns-clause-moat c = moat_examples
+
+pub returns-clause-row : goal.returns-clause-row
+returns-clause-row c = row_examples

@@ -1,3 +1,4 @@
+pub mod Curve
 pub mod Rect
 pub mod Probe
 pub mod Places

@@ -3,6 +3,8 @@
 //! Its promise: `marks` lists exactly the marks of a coverage, by ascending place.
 #![tactic(auto)]
 
+mod entry;
+mod group;
 mod holders;
 mod kinds;
 mod laws;

@@ -28,7 +28,8 @@ pub(crate) fn split_block(boxes: &[Rect]) -> (&[Rect], &[Rect])
     boxes.split_at(boxes.len().min(8))
 }
 
-fn hull_of(boxes: &[Rect]) -> Rect
+/// A box about all these boxes.
+pub fn hull_of(boxes: &[Rect]) -> Rect
     requires { 0 < length boxes.now }
     ensures { All (λ b. IsInside b result) boxes.now }
 {

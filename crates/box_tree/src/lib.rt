@@ -11,6 +11,7 @@ mod rect;
 mod scan;
 mod tree;
 
+pub use hulls::hull_of;
 pub use morton::curve;
 pub use narrow::narrow_into;
 pub use probe::Probe;

@@ -1,6 +1,7 @@
 pub mod Ascending
 pub mod OddUses
 pub mod OneNoding
+pub mod OneOverlay
 pub mod Labels
 pub mod Numberings
 pub mod Computed

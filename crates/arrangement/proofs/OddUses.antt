@@ -84,16 +84,16 @@ module _ (edges : List Seg) where
   uses_of_pair o = map (λ e. record { member = o.member; seg = e }) (option_to_list (slice_get edges o.edge))
 
   -- the pair stands for the use
-  record StandsFor (o : OddUse) (u : EdgeUse) : Type 0 where
-    member : o.member ≡ u.member
-    edge : slice_get edges o.edge ≡ Some u.seg
+  pub record StandsFor (o : OddUse) (u : EdgeUse) : Type 0 where
+    pub member : o.member ≡ u.member
+    pub edge : slice_get edges o.edge ≡ Some u.seg
 
   in_option : (m : ℕ) (found : Option Seg) (u : EdgeUse) → Contains (map (λ e. record { member = m; seg = e }) (option_to_list found)) u → (m ≡ u.member) × (found ≡ Some u.seg)
   in_option m None u (k, inside, is) = absurd (omega arith)
   in_option m (Some e) u (zero, inside, is) = (ap (λ (v : EdgeUse). v.member) is, ap (λ (v : EdgeUse). Some v.seg) is)
   in_option m (Some e) u (suc k, inside, is) = absurd (omega arith)
 
-  pair_of : (odd : List OddUse) (u : EdgeUse) → Contains (odd_uses edges odd) u → (o : OddUse) × (Contains odd o × StandsFor o u)
+  pub pair_of : (odd : List OddUse) (u : EdgeUse) → Contains (odd_uses edges odd) u → (o : OddUse) × (Contains odd o × StandsFor o u)
   pair_of [] u (k, inside, is) = absurd (omega arith)
   pair_of (o ∷ odd) u h =
       elim (Contains-append_cases (uses_of_pair o) (odd_uses edges odd) u h) [
@@ -101,7 +101,7 @@ module _ (edges : List Seg) where
         | inr later ↦ (let found = pair_of odd u later in (found.0, (contains_there o found.0 odd found.1.0, found.1.1)))
       ]
 
-  has_use : (odd : List OddUse) (o : OddUse) (u : EdgeUse) → Contains odd o → StandsFor o u → Contains (odd_uses edges odd) u
+  pub has_use : (odd : List OddUse) (o : OddUse) (u : EdgeUse) → Contains odd o → StandsFor o u → Contains (odd_uses edges odd) u
   has_use [] o u (k, inside, is) stands = absurd (omega arith)
   has_use (q ∷ odd) o u (zero, inside, is) stands = Contains-append_left (uses_of_pair q) (odd_uses edges odd) u (in_its_own q (subst (λ r. StandsFor r u) (sym is) stands))
     where

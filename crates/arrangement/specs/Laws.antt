@@ -13,7 +13,7 @@ use Rattle.plane.specs.Validity.{IsValid}
 use Rattle.sector_laws.specs.Sector.{IsPlanar}
 use Rattle.arrangement.specs.declared.odd_use.OddUse.{OddUse}
 use Rattle.arrangement.specs.Noding.{segments, AreEdges, AreLiveEdges, odd_uses, IsNoded}
-use Rattle.arrangement.specs.Overlay.{Overlay, IsOverlayOf, label_of}
+use Rattle.arrangement.specs.Overlay.{Overlay, IsOverlayOf, IsSnappedOverlay, label_of}
 use Rattle.arrangement.specs.Live.{IsLiveOverlay}
 
 -- ---- odd edges
@@ -54,13 +54,21 @@ FarLaw = (uses : List EdgeUse) → All IsSegInRange (segments uses) → (member 
 -- ---- overlays
 
 -- an overlay of uses that have even ends is live, where its edges are in range and meet in ends alone
-abbrev pub OverlayLaw : Type 0
-OverlayLaw = (uses : List EdgeUse) (members : ℕ) (o : Overlay) → IsOverlayOf uses members o → IsPlanar o.edges → HasEvenEnds uses
+abbrev pub LiveOverlayLaw : Type 0
+LiveOverlayLaw = (uses : List EdgeUse) (members : ℕ) (o : Overlay) → IsOverlayOf uses members o → IsPlanar o.edges → HasEvenEnds uses
     → All (λ u. u.member < members) uses → IsLiveOverlay o
 
 -- the label of a region is that of each of its points
 abbrev pub LabelLaw : Type 0
 LabelLaw = (o : Overlay) → IsLiveOverlay o → (p : Point) (r : ℕ) → IsRegionOf o.edges p r → label_of o r ≡ label_at o.uses o.members p
+
+-- the uses of so many members have one overlay
+abbrev pub OverlayLaw : Type 0
+OverlayLaw = (uses : List EdgeUse) (members : ℕ) (o q : Overlay) → IsOverlayOf uses members o → IsOverlayOf uses members q → o ≡ q
+
+-- and uses in range one overlay of the snapped members
+abbrev pub SnappedOverlayLaw : Type 0
+SnappedOverlayLaw = (uses : List EdgeUse) → All (λ u. IsSegInRange u.seg) uses → (members : ℕ) (o q : Overlay) → IsSnappedOverlay uses members o → IsSnappedOverlay uses members q → o ≡ q
 
 -- ---- valid coverages
 

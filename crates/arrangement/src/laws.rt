@@ -1,4 +1,4 @@
-ghost use Rattle.arrangement.specs.Laws.{OddUsesLaw, LiveUsesLaw, LiveAgainLaw, NodingLaw, SidesDifferLaw, FarLaw, OverlayLaw, LabelLaw, ValidLiveLaw, ValidOverlayLaw};
+ghost use Rattle.arrangement.specs.Laws.{OddUsesLaw, LiveUsesLaw, LiveAgainLaw, NodingLaw, SidesDifferLaw, FarLaw, OverlayLaw, SnappedOverlayLaw, LiveOverlayLaw, LabelLaw, ValidLiveLaw, ValidOverlayLaw};
 
 /// Members hold points by their odd edges alone. A call does nothing.
 pub fn odd_uses_law()
@@ -18,9 +18,15 @@ pub fn label_law()
     ensures far { FarLaw }
 {}
 
-/// What an overlay of a coverage keeps, and the labels of its regions. A call does nothing.
+/// Uses have one overlay. A call does nothing.
 pub fn overlay_law()
-    ensures live { OverlayLaw }
+    ensures one { OverlayLaw }
+    ensures snapped { SnappedOverlayLaw }
+{}
+
+/// What an overlay of a coverage keeps, and the labels of its regions. A call does nothing.
+pub fn live_overlay_law()
+    ensures live { LiveOverlayLaw }
     ensures labels { LabelLaw }
 {}
 

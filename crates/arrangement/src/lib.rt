@@ -19,6 +19,7 @@
 //!   odd uses are distinct (`distinct_uses`), and any sum over them has the parity of that over all uses (`same_parity`).
 //! - `OneNoding`: uses in range have one noding (`one_noding`); two lists in order with the same elements are one (`same_ordered`).
 //! - `Labels`: some member holds just one side of a live edge (`sides_differ`), and none the point past the range (`far_free`).
+//! - `OneOverlay`: uses have one overlay (`one_overlay`), and uses in range one of the snapped members (`one_snapped_overlay`).
 //! - `Numberings`: the sides of edge k (`upper_side`, `lower_side`).
 //! - `LiveOverlays`: an overlay of even uses is live (`live_overlay`), a region has the label of its points (`label_is`), and an edge
 //!   a holder on one side alone (`side_holder`). `Ascending`: labels ascend (`label_ascends`).
@@ -32,5 +33,7 @@ mod laws;
 mod odd_use;
 
 pub use examples::{instances, vectors};
-pub use laws::{label_law, noding_law, odd_uses_law, overlay_law, valid_law};
+pub use laws::{
+    label_law, live_overlay_law, noding_law, odd_uses_law, overlay_law, valid_law,
+};
 pub use odd_use::OddUse;

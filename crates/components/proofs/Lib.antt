@@ -1,5 +1,3 @@
 pub mod Ways
 pub mod Numbers
-mod Visiting
-mod Completing
-mod Ties
+mod Down

@@ -2,8 +2,7 @@
 use Rattle.std.proofs.Common.{◌≡◌, refl, sym, subst, ℕ, ◌<◌, List, [], ◌∷◌, ◌++◌, inl, inr}
 use Rattle.std.proofs.lemmas.List.Elements.{All-contains}
 use Rattle.components.specs.declared.link.Link.{Link}
-use Rattle.components.specs.Connected.{IsTied, LeadsAlong, IsConnected}
-use Rattle.components.specs.Spreading.{AreWithin}
+use Rattle.components.specs.Connected.{AreWithin, IsTied, LeadsAlong, IsConnected}
 
 -- a tie holds both ways
 pub tied-sym : (links : List Link) (x y : ℕ) → IsTied links x y → IsTied links y x

@@ -1,6 +1,10 @@
 -- Nodes that links connect, and the least node of each component.
-use Rattle.std.specs.Prelude.{◌≡◌, ◌⊎◌, ℕ, ◌<◌, ◌≤◌, List, [], ◌∷◌, length, Contains, slice_index}
+use Rattle.std.specs.Prelude.{◌≡◌, ◌⊎◌, ℕ, ◌<◌, ◌≤◌, List, All, [], ◌∷◌, length, Contains, slice_index}
 use Rattle.components.specs.declared.link.Link.{Link}
+
+-- each link ties two of so many nodes
+abbrev pub AreWithin : ℕ → List Link → Type 0
+AreWithin nodes links = All (λ l. (l.from < nodes) × (l.to < nodes)) links
 
 -- a link of the list ties x and y, in either direction
 pub record IsTied (links : List Link) (x y : ℕ) : Type 0 where

@@ -1,2 +1,2 @@
 pub mod Connected
-pub mod Spreading
+pub mod Lower

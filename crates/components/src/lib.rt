@@ -13,7 +13,6 @@
 
 mod component;
 mod link;
-mod neighbours;
 #[cfg(test)]
 mod tests;
 

@@ -1,3 +1,5 @@
+pub mod Entries
+pub mod Groups
+pub mod Holders
 pub mod Kinds
 pub mod Marks
-pub mod Holders

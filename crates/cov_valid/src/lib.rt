@@ -3,12 +3,16 @@
 //! Its promise: `marks` lists exactly the marks of a coverage, by ascending place.
 #![tactic(auto)]
 
+mod entry;
+mod group;
 mod holders;
 mod kinds;
+mod laws;
 mod mark;
 #[cfg(test)]
 mod tests;
 mod validator;
 
+pub use laws::marks_law;
 pub use mark::{Kind, Mark};
 pub use validator::marks;

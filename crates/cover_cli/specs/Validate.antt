@@ -12,7 +12,7 @@ use Rattle.cover_cli.specs.Lines.{member_lists, marked_uses}
 -- so many segments of the coverage are marked, and the text lists them
 pub record IsValidation (members : List (List (List (List Coord)))) (edges : ℕ) (text : List ℕ) : Type 0 where
   pub marks : List Mark
-  pub marked : AreMarks (uses_of members) marks
+  pub marked : AreMarks (uses_of members) (length members) 0 marks
   pub counted : edges ≡ length marks
   pub lines : text ≡ lines_text (member_lists (marked_uses (uses_of members) marks) members)
 

@@ -13,3 +13,4 @@ pub mod Separated
 pub mod Instances
 pub mod Rings
 pub mod Located
+pub mod EitherEndParity

@@ -4,3 +4,5 @@ pub mod Laws
 pub mod Across
 pub mod Examples
 pub mod Winding
+pub mod EitherEnd
+pub mod Borders

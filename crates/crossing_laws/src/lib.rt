@@ -18,10 +18,12 @@
 //!   `label-joined`). `Rings`: the sides of closed rings are balanced. `Coverages`: edges in range rise, and the law of a coverage.
 //! - `Beside`: nothing that meets an edge in ends alone comes between its side points (`side_points_clear`). `Changes`: from one
 //!   to the other just that edge changes (`over_lower`, `over_upper`, `over_alike`, `holds-across`, `crossing_sum-across`).
+//! - `EitherEndParity`: whichever end of an edge counts at the sweep value of a point, the parity is one (`member_holds-either_end`).
 #![tactic(auto)]
 
 mod across;
 mod crossing;
+mod either_end;
 mod examples;
 mod joined;
 mod meeting;
@@ -30,6 +32,7 @@ mod ring;
 
 pub use across::across_law;
 pub use crossing::{coverage_law, crossing_sum_law, parity_law};
+pub use either_end::{border_examples, either_end_law};
 pub use examples::joined_examples;
 pub use joined::joined_law;
 pub use meeting::{cross_law, opposite_sides_law};

@@ -16,7 +16,7 @@ use Rattle.cov_types.specs.contracts.coord.CoordPartialOrd.TheImpl.{partial_cmp-
 use Rattle.cov_types.proofs.Order.{is_before-irrefl, is_before-trans}
 use Rattle.components.specs.declared.link.Link.{Link}
 use Rattle.components.specs.Connected.{IsConnected, AreComponents}
-use Rattle.components.specs.Spreading.{AreWithin}
+use Rattle.components.specs.Connected.{AreWithin}
 use Rattle.components.proofs.Ways.{connected-within}
 use Rattle.components.proofs.Numbers.{number-low, same_component, same_number}
 use Rattle.region_laws.specs.Linked.{IsNumberFrom}

@@ -4,7 +4,7 @@ use Rattle.std.proofs.Common.{◌≡◌, refl, subst, ℕ, ◌+◌, ◌*◌, ◌
 use Rattle.cov_types.specs.declared.seg.Seg.{Seg}
 use Rattle.components.specs.declared.link.Link.{Link}
 use Rattle.components.specs.Connected.{IsConnected, AreComponents}
-use Rattle.components.specs.Spreading.{AreWithin}
+use Rattle.components.specs.Connected.{AreWithin}
 use Rattle.components.proofs.Numbers.{same_component}
 use Rattle.components.proofs.Ways.{connected-tied, connected-within}
 use Rattle.plane.specs.Point.{Point}

@@ -6,7 +6,7 @@ use Rattle.std.proofs.lemmas.Option.{slice_get_within}
 use Rattle.cov_types.specs.declared.seg.Seg.{Seg}
 use Rattle.components.specs.declared.link.Link.{Link}
 use Rattle.components.specs.Connected.{IsTied, LeadsAlong}
-use Rattle.components.specs.Spreading.{AreWithin}
+use Rattle.components.specs.Connected.{AreWithin}
 use Rattle.std.proofs.lemmas.List.Elements.{Contains-get_or}
 use Rattle.plane.specs.Point.{Point}
 use Rattle.plane.specs.Joined.{IsOff, Joined}

@@ -2,3 +2,4 @@ pub mod Ray
 pub mod Along
 pub mod Sides
 pub mod Crossing
+pub mod Sizes

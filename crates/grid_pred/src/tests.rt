@@ -1,9 +1,11 @@
 ghost use Rattle.cov_types.specs.Range.{IsSegInRange};
 
+use crate::exact::{difference, product, sum, wide_product};
 use crate::{
-    Badness, Contact, below, crossing, edge_len, over, over_mid, over_upper, relation, root, turn,
+    Badness, Contact, below, crossing, edge_len, is_nearer, is_under, over, over_mid, over_upper,
+    relation, rise, root, turn, turn_in_range, turn_to,
 };
-use cov_types::{Coord, Seg};
+use cov_types::{Coord, LIMIT, Seg};
 use std::cmp::Ordering;
 use std::process::Abort;
 
@@ -126,9 +128,233 @@ fn roots_and_lengths_are_rounded_down(rt: HostRuntime) {
         ((0, 0, 50, 3), 12823),
         ((0, 0, 0, 10), 2560),
         ((0, 0, 3, 4), 1280),
+        ((-LIMIT, -LIMIT, LIMIT, -LIMIT), 137438953472),
+        ((-LIMIT, -LIMIT, LIMIT, LIMIT), 194368031998),
     ];
     for (ends, want) in cases {
         assert_eq!(rt; edge_len(segment(&rt, ends)), want);
+    }
+}
+
+#[test]
+fn the_way_straight_down_leaves_out_the_greater_end(rt: HostRuntime) {
+    let level = segment(&rt, (0, 0, 10, 0));
+    assert!(rt; is_under(level, Coord { x: 5, y: 1 }));
+    assert!(rt; is_under(level, Coord { x: 0, y: 1 }));
+    assert!(rt; !is_under(level, Coord { x: 5, y: 0 }));
+    assert!(rt; !is_under(level, Coord { x: 5, y: -1 }));
+    assert!(rt; !is_under(level, Coord { x: 10, y: 1 }));
+    assert!(rt; !is_under(level, Coord { x: 10, y: 0 }));
+}
+
+#[test]
+fn the_nearer_of_two_edges_is_less_far_below(rt: HostRuntime) {
+    let v = Coord { x: 4, y: 9 };
+    let near = segment(&rt, (0, 0, 8, 8));
+    let far = segment(&rt, (0, 0, 8, 0));
+    assert!(rt; is_nearer(v, near, far));
+    assert!(rt; !is_nearer(v, far, near));
+    assert!(rt; !is_nearer(v, near, near));
+}
+
+#[test]
+fn steps_are_exact(rt: HostRuntime) {
+    assert_eq!(rt; difference(-2147483648, 2147483647), -4294967295);
+    assert_eq!(rt; sum(-2147483648, -2147483648), -4294967296);
+    assert_eq!(rt; product(-1073741824, 1073741824), -1152921504606846976);
+    assert_eq!(rt;
+        wide_product(i64::MIN, i64::MIN),
+        85070591730234615865843651857942052864
+    );
+}
+
+// The corners of the range: its least and greatest numbers are -LIMIT and LIMIT.
+const LEFT_BOTTOM: Coord = Coord {
+    x: -268435456,
+    y: -268435456,
+};
+
+const LEFT_TOP: Coord = Coord {
+    x: -268435456,
+    y: 268435456,
+};
+
+const RIGHT_BOTTOM: Coord = Coord {
+    x: 268435456,
+    y: -268435456,
+};
+
+const RIGHT_TOP: Coord = Coord {
+    x: 268435456,
+    y: 268435456,
+};
+
+#[test]
+fn turns_at_the_largest_numbers(rt: HostRuntime) {
+    // 2^58, four times the square of LIMIT
+    let whole = 288230376151711744;
+    assert_eq!(rt; turn(LEFT_BOTTOM, RIGHT_BOTTOM, LEFT_TOP), whole);
+    assert_eq!(rt; turn(LEFT_BOTTOM, RIGHT_TOP, RIGHT_BOTTOM), -whole);
+    assert_eq!(rt;
+        turn_in_range(LEFT_BOTTOM, RIGHT_BOTTOM, LEFT_TOP) as i128,
+        whole
+    );
+    assert_eq!(rt;
+        turn_in_range(LEFT_BOTTOM, RIGHT_TOP, RIGHT_BOTTOM) as i128,
+        -whole
+    );
+    assert_eq!(rt;
+        turn_in_range(LEFT_BOTTOM, RIGHT_TOP, Coord { x: 0, y: 0 }),
+        0
+    );
+    let rising = segment(&rt, (-LIMIT, -LIMIT, LIMIT, LIMIT));
+    assert_eq!(rt; turn_to(rising, Coord { x: 0, y: 1 }), 536870912);
+    assert_eq!(rt;
+        turn_to(
+            rising,
+            Coord {
+                x: 268435456,
+                y: 268435455
+            }
+        ),
+        -536870912
+    );
+    // 2^59 + 2^29, 2^59 - 2^29 and 2^29
+    assert_eq!(rt; rise(rising), 576460752840294400);
+    assert_eq!(rt;
+        rise(segment(&rt, (-LIMIT, LIMIT, LIMIT, -LIMIT))),
+        576460751766552576
+    );
+    assert_eq!(rt; rise(segment(&rt, (0, -LIMIT, 0, LIMIT))), 536870912);
+}
+
+#[test]
+fn segments_meet_at_the_largest_numbers(rt: HostRuntime) {
+    let rising = (-LIMIT, -LIMIT, LIMIT, LIMIT);
+    let falling = (-LIMIT, LIMIT, LIMIT, -LIMIT);
+    let flatter = (-LIMIT, -268435455, LIMIT, 268435455);
+    let beside = (-LIMIT, -LIMIT, LIMIT, 268435455);
+    let cases = [
+        (rising, falling, Contact::Bad(Badness::Cross)),
+        (rising, flatter, Contact::Bad(Badness::Cross)),
+        (rising, beside, Contact::CommonEnd),
+        (rising, (0, -LIMIT, 0, 0), Contact::Bad(Badness::Touch)),
+        (
+            rising,
+            (-1, -1, LIMIT, LIMIT),
+            Contact::Bad(Badness::Overlap),
+        ),
+        (beside, (-LIMIT, -268435455, LIMIT, LIMIT), Contact::Apart),
+    ];
+    for (s, t, want) in cases {
+        let s = segment(&rt, s);
+        let t = segment(&rt, t);
+        assert_eq!(rt; relation(s, t), want);
+        assert_eq!(rt; relation(t, s), want);
+    }
+    let rising = segment(&rt, rising);
+    // The distances are 2^58 each, and 2^29 each.
+    let point = crossing(rising, segment(&rt, falling)).expect(&rt, "they cross");
+    assert_eq!(rt;
+        (point.num_x, point.num_y, point.den),
+        (0, 0, 576460752303423488)
+    );
+    let point = crossing(rising, segment(&rt, flatter)).expect(&rt, "they cross");
+    assert_eq!(rt; (point.num_x, point.num_y, point.den), (0, 0, 1073741824));
+}
+
+#[test]
+fn points_lie_at_the_largest_numbers(rt: HostRuntime) {
+    let rising = (-LIMIT, -LIMIT, LIMIT, LIMIT);
+    let top = (-LIMIT, LIMIT, LIMIT, LIMIT);
+    let cases = [
+        (RIGHT_BOTTOM, rising, Ordering::Less),
+        (LEFT_TOP, rising, Ordering::Greater),
+        (RIGHT_TOP, rising, Ordering::Equal),
+        (
+            Coord {
+                x: 268435455,
+                y: 268435455,
+            },
+            rising,
+            Ordering::Equal,
+        ),
+        (
+            Coord {
+                x: 268435455,
+                y: 268435454,
+            },
+            rising,
+            Ordering::Less,
+        ),
+        (RIGHT_BOTTOM, top, Ordering::Less),
+    ];
+    for (point, ends, want) in cases {
+        assert_eq!(rt; height(point, segment(&rt, ends)), Some(want));
+    }
+}
+
+#[test]
+fn edges_are_over_points_at_the_largest_numbers(rt: HostRuntime) {
+    let top = segment(&rt, (-LIMIT, LIMIT, LIMIT, LIMIT));
+    let bottom = segment(&rt, (-LIMIT, -LIMIT, LIMIT, -LIMIT));
+    assert!(rt;
+        over(
+            top,
+            Coord {
+                x: 0,
+                y: -268435456
+            }
+        )
+    );
+    assert!(rt; over(top, RIGHT_BOTTOM));
+    assert!(rt; !over(top, LEFT_BOTTOM));
+    assert!(rt; !over(top, RIGHT_TOP));
+    assert!(rt; over_mid(top, bottom));
+    assert!(rt; !over_mid(bottom, top));
+    assert!(rt; over_upper(top, bottom));
+    assert!(rt; is_under(bottom, LEFT_TOP));
+    assert!(rt;
+        is_under(
+            bottom,
+            Coord {
+                x: 0,
+                y: -268435455
+            }
+        )
+    );
+    assert!(rt; !is_under(bottom, RIGHT_TOP));
+    let rising = segment(&rt, (-LIMIT, -LIMIT, LIMIT, LIMIT));
+    let v = Coord { x: 0, y: 268435456 };
+    assert!(rt; is_nearer(v, rising, bottom));
+    assert!(rt; !is_nearer(v, bottom, rising));
+}
+
+// The midpoint of a side on one border of the range has the sweep value of a corner on the other: of the edges that end there just
+// those count whose lesser end it is.
+#[test]
+fn a_vertex_on_the_other_border_counts_once(rt: HostRuntime) {
+    let lower = segment(&rt, (0, -LIMIT, 1, -LIMIT));
+    let upper = segment(&rt, (0, LIMIT, 1, LIMIT));
+    let left = segment(&rt, (0, -LIMIT, 0, LIMIT));
+    let right = segment(&rt, (1, -LIMIT, 1, LIMIT));
+    assert!(rt; over_mid(upper, lower));
+    for e in [lower, left, right] {
+        assert!(rt; !over_mid(e, lower));
+    }
+    // The member on the left of the square, which has its left side too.
+    let neighbour = [
+        segment(&rt, (-1, -LIMIT, -1, LIMIT)),
+        segment(&rt, (-1, LIMIT, 0, LIMIT)),
+        segment(&rt, (-1, -LIMIT, 0, -LIMIT)),
+        left,
+    ];
+    for e in neighbour {
+        assert!(rt; !over_mid(e, lower));
+        assert!(rt; !over_upper(e, lower));
+    }
+    for e in [upper, lower, left, right] {
+        assert!(rt; !over_mid(e, upper));
     }
 }
 

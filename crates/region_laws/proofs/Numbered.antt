@@ -1,6 +1,6 @@
 -- Joined sides have one number, for the numbers of a walk, and so for any numbers that links keep.
 use mathlib.Core.List.{List, [], ◌∷◌}
-use Rattle.std.proofs.Common.{◌≡◌, refl, sym, ◌∙◌, ap, subst, ℕ, zero, suc, ◌==◌, Bool, true, false, true≢false, cond, IsTrue, Contains, ◌⊎◌, inl, inr, arith, ◌≤◌}
+use Rattle.std.proofs.Common.{◌≡◌, refl, sym, ◌∙◌, ap, subst, ℕ, zero, suc, ◌==◌, Bool, true, false, true≢false, cond, IsTrue, Contains, ◌⊎◌, inl, inr, arith}
 use Rattle.std.proofs.lemmas.Option.{none-some, same_Some}
 use Rattle.std.proofs.lemmas.Bool.Decides.{nat_tests}
 use Rattle.cov_types.specs.declared.coord.Coord.{Coord}
@@ -9,7 +9,7 @@ use Rattle.cov_types.specs.Coord.{is_before}
 use Rattle.cov_types.proofs.Equal.{Decides-same_segs}
 use Rattle.plane.specs.Point.{Point}
 use Rattle.plane.specs.Joined.{Joined}
-use Rattle.plane.specs.Region.{IsSide, IsOuter, IsJoinedSide}
+use Rattle.plane.specs.Region.{IsSide, IsOuter}
 use Rattle.crossing_laws.specs.Across.{is_same_seg}
 use Rattle.crossing_laws.proofs.Lists.{contains_here, contains_there}
 use Rattle.sector_laws.specs.Sector.{HalfEdge, left, IsHalfEdge, AreDistinct, IsPlanar}

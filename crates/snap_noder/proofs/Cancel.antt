@@ -1,9 +1,7 @@
 -- The loop over sorted pairs in which two that are equal cancel.
 use mathlib.Core.List.{[], ◌∷◌}
-use Rattle.std.proofs.Common.{◌≡◌, inl, inr, sym, ◌∙◌, ap, subst, true≢false, ℕ, ◌+◌, ◌-◌, ◌<◌, ◌≤◌, ◌%◌, ◌↔◌, Bool, false, List, ◌++◌, length, get_or, take, IsTrue, IsSorted, is_lt, Some, is_some, slice_get, arith}
+use Rattle.std.proofs.Common.{◌≡◌, inl, inr, sym, ◌∙◌, ap, subst, ℕ, ◌+◌, ◌-◌, ◌<◌, ◌≤◌, ◌%◌, ◌↔◌, false, List, ◌++◌, length, get_or, take, IsTrue, IsSorted, is_lt, arith}
 use Rattle.std.specs.Prelude.{Contains}
-use Rattle.std.proofs.lemmas.Bool.{cases_Bool, cases_lt, false≢true}
-use Rattle.std.proofs.lemmas.Option.{get_or_from_slice_get}
 use Rattle.std.proofs.lemmas.List.{take_more, take_all, take_at, length-take, get_or-take, get_or_default, get_or_append_left, length-append}
 use Rattle.std.proofs.lemmas.List.Elements.{Contains-append_left, Contains-push, Contains-push_cases, Contains-get_or}
 use Rattle.std.proofs.lemmas.List.Quantifiers.{all_pairs_push}
@@ -12,8 +10,9 @@ use Rattle.std.proofs.Math.Seq.{get_or-append_seam}
 use Rattle.arrangement.specs.declared.odd_use.OddUse.{OddUse}
 use Rattle.arrangement.specs.Noding.{is_odd_before}
 use Rattle.snap_noder.specs.Order.{odd_cmp, AreOddAscending}
-use Rattle.snap_noder.specs.Places.{odd_times, IsLast}
+use Rattle.snap_noder.specs.Places.{odd_times, EndsWith}
 use Rattle.snap_noder.proofs.OddOrder.{is_same_odd, Decides-same_odds, odd_weak, is_lt-odd_cmp, odds_from_neither, is_odd_before-irrefl}
+use Rattle.snap_noder.proofs.Lasts.{not_both, not_there, all_before}
 use Rattle.snap_noder.proofs.Times.{same_or_not, times_push_same, times_push_other, odd_has}
 
 -- odd has the pairs that stand an odd number of times in the list, ascending
@@ -29,38 +28,6 @@ odd_start odd empty = subst (AreOddOnes []) (sym empty) (record {
 
 pub odd_all : (sorted odd : List OddUse) (i : ℕ) → length sorted ≤ i → AreOddOnes (take i sorted) odd → AreOddOnes sorted odd
 odd_all sorted odd i past h = subst (λ (xs : List OddUse). AreOddOnes xs odd) (take_all i sorted past) h
-
--- a list is empty or ends in the element at its last place
-last_of : (xs : List OddUse) (d : OddUse) → 0 < length xs → xs ≡ take (length xs - 1) xs ++ get_or xs (length xs - 1) d ∷ []
-last_of xs d some = sym (take_all (length xs - 1 + 1) xs (omega arith)) ∙ take_more xs (length xs - 1) d (omega arith)
-
--- the last element is what the code reads there
-last_is : (xs : List OddUse) (last : OddUse) → Some last ≡ slice_get xs (length xs - 1) → (o : OddUse) → (last ≡ o) ↔ IsLast xs o
-last_is [] last read o = absurd (false≢true (ap is_some (sym read)))
-last_is (x ∷ xs) last read o = (there, back)
-  where
-    at_last : get_or (x ∷ xs) (length (x ∷ xs) - 1) last ≡ last
-    at_last = get_or_from_slice_get (x ∷ xs) (length (x ∷ xs) - 1) last last (sym read)
-
-    there : last ≡ o → IsLast (x ∷ xs) o
-    there same = (take (length (x ∷ xs) - 1) (x ∷ xs), last_of (x ∷ xs) last (omega arith) ∙ ap (λ (u : OddUse). take (length (x ∷ xs) - 1) (x ∷ xs) ++ u ∷ []) (at_last ∙ same))
-
-    back : IsLast (x ∷ xs) o → last ≡ o
-    back (front, split) =
-        let long : length (x ∷ xs) ≡ length front + 1 = ap length split ∙ length-append front (o ∷ []) in
-        let place : length (x ∷ xs) - 1 ≡ length front = omega arith in
-        sym at_last ∙ (λ i. get_or (split i) (place i) last) ∙ get_or-append_seam front o [] last
-
-pub is_last_told : (xs : List OddUse) (last o : OddUse) (b : Bool) → Some last ≡ slice_get xs (length xs - 1) → b ≡ is_same_odd last o → IsTrue b ↔ IsLast xs o
-is_last_told xs last o b read told =
-    let is = last_is xs last read o in
-    (λ h. is.0 ((Decides-same_odds last o).0 (sym told ∙ h)), λ h. told ∙ (Decides-same_odds last o).1 (is.1 h))
-
-pub still_not_last : (shown xs : List OddUse) (o : OddUse) → shown ≡ xs → ¬ IsLast shown o → ¬ IsLast xs o
-still_not_last shown xs o same n last = n (subst (λ (ys : List OddUse). IsLast ys o) (sym same) last)
-
-not_both : (t : Bool) → IsTrue t → t ≡ false → ⊥
-not_both t h k = true≢false (sym h ∙ k)
 
 -- x is the pair at i
 module _ (sorted odd : List OddUse) (i : ℕ) (x : OddUse) (within : i < length sorted) (is : x ≡ get_or sorted i x) (in_order : IsSorted odd_cmp sorted) (h : AreOddOnes (take i sorted) odd) where
@@ -131,28 +98,15 @@ module _ (sorted odd : List OddUse) (i : ℕ) (x : OddUse) (within : i < length 
 
   -- ---- x is not the last: it is not there, and comes
 
-  module _ (not_last : ¬ IsLast odd x) where
-    not_there : ¬ Contains odd x
-    not_there (k, inside, at) =
-        let split = last_of odd x (omega arith) in
-        elim (cases_lt k (length odd - 1)) [
-          | inl earlier ↦ not_both (is_odd_before x (get_or odd (length odd - 1) x))
-              (subst (λ (u : OddUse). IsTrue (is_odd_before u (get_or odd (length odd - 1) x))) at (h.ascending k (length odd - 1) x earlier (omega arith)))
-              (not_after (get_or odd (length odd - 1) x) (Contains-get_or odd (length odd - 1) x (omega arith)))
-          | inr late ↦ (
-              let same : k ≡ length odd - 1 = omega arith in
-              not_last (take (length odd - 1) odd, split ∙ ap (λ (u : OddUse). take (length odd - 1) odd ++ u ∷ []) (ap (λ n. get_or odd n x) (sym same) ∙ at)))
-        ]
+  module _ (not_last : ¬ EndsWith odd x) where
+    absent : ¬ Contains odd x
+    absent = not_there is_odd_before odds_from_neither odd x h.ascending not_after not_last
 
     before_x : (o : OddUse) → Contains odd o → IsTrue (is_odd_before o x)
-    before_x o kept =
-        elim (cases_Bool (is_odd_before o x)) [
-          | inl first ↦ first
-          | inr none ↦ absurd (not_there (subst (λ (u : OddUse). Contains odd u) (odds_from_neither o x none (not_after o kept)) kept))
-        ]
+    before_x = all_before is_odd_before odds_from_neither odd x h.ascending not_after not_last
 
     even : ¬ (odd_times x (take i sorted) % 2 ≡ 1)
-    even odd_now = not_there ((h.exact x).1 odd_now)
+    even odd_now = absent ((h.exact x).1 odd_now)
 
     come_exact : (o : OddUse) → Contains (odd ++ x ∷ []) o ↔ (odd_times o (take i sorted ++ x ∷ []) % 2 ≡ 1)
     come_exact o =

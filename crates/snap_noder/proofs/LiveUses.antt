@@ -1,31 +1,25 @@
 -- The live edges: those of the odd uses.
 use mathlib.Core.List.{[], ◌∷◌}
-use Rattle.std.proofs.Common.{◌≡◌, inl, inr, refl, sym, ◌∙◌, ap, subst, true≢false, ℕ, ◌+◌, ◌<◌, ◌≤◌, ◌%◌, ◌==◌, ◌↔◌, true, false, cond, List, ◌++◌, get_or, length, Option, Some, slice_get, map, take, arith}
+use Rattle.std.proofs.Common.{◌≡◌, inl, inr, sym, ◌∙◌, ap, subst, true≢false, ℕ, ◌+◌, ◌<◌, ◌≤◌, ◌%◌, ◌==◌, ◌↔◌, true, false, cond, List, ◌++◌, get_or, length, Option, Some, slice_get, map, take, arith}
 use Rattle.std.specs.Prelude.{AllPairs, Contains, option_to_list}
 use Rattle.std.proofs.lemmas.Bool.{false_from_ne_true}
-use Rattle.std.proofs.lemmas.Bool.Decides.{Decides-eqb}
 use Rattle.std.proofs.lemmas.List.{append-nil, take_more, take_all}
 use Rattle.std.proofs.lemmas.List.Concat.{flat_map-append}
-use Rattle.std.proofs.lemmas.List.Elements.{All-contains, Contains-get_or}
-use Rattle.std.proofs.lemmas.List.Folds.{list_any-from_Any}
+use Rattle.std.proofs.lemmas.List.Elements.{All-contains}
 use Rattle.std.proofs.lemmas.List.Sums.{sum_by-cons}
 use Rattle.std.proofs.lemmas.Option.{slice_get-get_or}
-use Rattle.cov_types.specs.Range.{IsSegInRange}
 use Rattle.cov_types.specs.Seg.{is_seg_before}
 use Rattle.cov_types.specs.Uses.{ends_inside, HasEvenEnds}
 use Rattle.cov_types.specs.declared.edge_use.EdgeUse.{EdgeUse}
 use Rattle.cov_types.specs.declared.seg.Seg.{Seg}
 use Rattle.cov_types.proofs.SegOrder.{is_seg_before-irrefl}
-use Rattle.sector_laws.specs.Sector.{AreDistinct, IsPlanar}
+use Rattle.sector_laws.specs.Sector.{AreDistinct}
 use Rattle.crossing_laws.specs.Across.{member_times}
 use Rattle.hot_pixel.proofs.Ascending.{all_pairs_head, all_pairs_tail}
 use Rattle.arrangement.specs.declared.odd_use.OddUse.{OddUse}
-use Rattle.arrangement.specs.Noding.{IsAscending, IsOdd, AreEdges, AreLiveEdges, odd_uses}
-use Rattle.arrangement.proofs.OddUses.{is_same_use, Decides-same_use, distinct_uses, are_odd, same_parity, odd_used, odd_use_listed}
-use Rattle.snap_noder.specs.Order.{AreOddAscending}
-use Rattle.snap_noder.specs.Places.{HavePlaces, AreAllUsed}
-use Rattle.snap_noder.proofs.ParityLemmas.{contains_mapped}
-use Rattle.snap_noder.proofs.Places.{contained_at, get_or_at}
+use Rattle.arrangement.specs.Noding.{IsAscending, IsOdd, AreEdges, odd_uses}
+use Rattle.arrangement.proofs.OddUses.{is_same_use, Decides-same_use, same_parity, odd_used}
+use Rattle.snap_noder.specs.Places.{HavePlaces}
 use Rattle.snap_noder.proofs.Times.{contains_cases, odd_has, times_has}
 
 -- ---- the loop over the odd pairs
@@ -78,7 +72,7 @@ once u (v ∷ uses) differ h =
     none_of n not_some = omega arith
 
 -- a use is odd there just where it is listed
-odd_in_distinct : (u : EdgeUse) (uses : List EdgeUse) → AllPairs (λ v w. ¬ (v ≡ w)) uses → IsOdd uses u.member u.seg ↔ Contains uses u
+pub odd_in_distinct : (u : EdgeUse) (uses : List EdgeUse) → AllPairs (λ v w. ¬ (v ≡ w)) uses → IsOdd uses u.member u.seg ↔ Contains uses u
 odd_in_distinct u uses differ = (λ odd. odd_has is_same_use Decides-same_use u uses odd, λ has. ap (λ n. n % 2) (once u uses differ has) ∙ omega arith)
 
 -- ---- even ends
@@ -93,57 +87,3 @@ even_odd uses edges odd are even inside member =
 pub ascending_distinct : (edges : List Seg) → IsAscending edges → AreDistinct edges
 ascending_distinct edges up i j d before within same =
     true≢false (sym (up i j d before within) ∙ ap (λ (s : Seg). is_seg_before s (get_or edges j d)) same ∙ is_seg_before-irrefl (get_or edges j d))
-
--- ---- what the code ends with: the edges of the odd uses, which it read through a slice
-
-module _ (edges : List Seg) (odd : List OddUse) (up : IsAscending edges) (odd_up : AreOddAscending odd) (live_edges : List Seg) (live_odd : List OddUse) (uses read : List EdgeUse) (same : read ≡ uses)
-    (made : uses ≡ odd_uses edges odd) (are : AreEdges read live_edges live_odd) where
-  are_edges : AreEdges (odd_uses edges odd) live_edges live_odd
-  are_edges = subst (λ (us : List EdgeUse). AreEdges us live_edges live_odd) (same ∙ made) are
-
-  is_odd_where_listed : (u : EdgeUse) → IsOdd (odd_uses edges odd) u.member u.seg ↔ Contains (odd_uses edges odd) u
-  is_odd_where_listed u = odd_in_distinct u (odd_uses edges odd) (distinct_uses edges up odd odd_up)
-
-  pub are_live : AreLiveEdges (odd_uses edges odd) live_edges live_odd
-  are_live = record { ascending = are_edges.ascending; exact = λ e. (there e, back e); pairs = are_edges.pairs }
-    where
-      there : (e : Seg) → Contains live_edges e → (member : ℕ) × IsOdd (odd_uses edges odd) member e
-      there e h =
-          let u = contains_mapped (λ (v : EdgeUse). v.seg) (odd_uses edges odd) e ((are_edges.exact e).0 h) in
-          (u.0.member, subst (λ (s : Seg). IsOdd (odd_uses edges odd) u.0.member s) u.1.1 ((is_odd_where_listed u.0).1 u.1.0))
-
-      back : (e : Seg) → (member : ℕ) × IsOdd (odd_uses edges odd) member e → Contains live_edges e
-      back e (member, is_odd) = (are_edges.exact e).1 (odd_used (odd_uses edges odd) member e is_odd)
-
-  -- the odd uses stay
-  pub live_odd_are : (u : EdgeUse) → Contains (odd_uses live_edges live_odd) u ↔ Contains (odd_uses edges odd) u
-  live_odd_are u =
-      let odd_ones = are_odd (odd_uses edges odd) live_edges live_odd are_edges.ascending are_edges.pairs (λ m e is_odd. (are_edges.exact e).1 (odd_used (odd_uses edges odd) m e is_odd)) u in
-      let listed = is_odd_where_listed u in
-      (λ h. listed.0 (odd_ones.0 h), λ h. odd_ones.1 (listed.1 h))
-
-  pub live_fewer : (e : Seg) → Contains live_edges e → Contains edges e
-  live_fewer e h =
-      let u = contains_mapped (λ (v : EdgeUse). v.seg) (odd_uses edges odd) e ((are_edges.exact e).0 h) in
-      subst (λ (s : Seg). Contains edges s) u.1.1 (odd_use_listed edges odd u.0 u.1.0)
-
-  pub live_planar : IsPlanar edges → IsPlanar live_edges
-  live_planar planar = record {
-    in_range = λ k d within. All-contains IsSegInRange edges (get_or live_edges k d) planar.in_range (live_fewer (get_or live_edges k d) (Contains-get_or live_edges k d within));
-    noded = λ e f has_e has_f. planar.noded e f (live_fewer e has_e) (live_fewer f has_f);
-  }
-
-  pub live_distinct : AreDistinct live_edges
-  live_distinct = ascending_distinct live_edges are_edges.ascending
-
-  pub live_even : HasEvenEnds (odd_uses edges odd) → HasEvenEnds (odd_uses live_edges live_odd)
-  live_even even = even_odd (odd_uses edges odd) live_edges live_odd are_edges even
-
-  -- each live edge is that of some pair
-  pub live_used : AreAllUsed live_edges live_odd
-  live_used k within =
-      let e = get_or_at live_edges k within in
-      let is_odd = (are_live.exact e.0).0 (contained_at live_edges k e.0 e.1) in
-      let o : OddUse = record { member = is_odd.0; edge = k } in
-      let pair = (are_edges.pairs.exact o).1 (e.0, (e.1, is_odd.1)) in
-      list_any-from_Any (λ p. p.edge == k) live_odd (pair.0, o, pair.1, pair.2, (Decides-eqb k k).1 refl)

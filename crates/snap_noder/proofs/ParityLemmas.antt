@@ -1,11 +1,11 @@
 -- Uses, the places of their edges, and which of them are odd.
 use mathlib.Core.List.{[], ◌∷◌}
-use Rattle.std.proofs.Common.{◌≡◌, inl, inr, refl, sym, ◌∙◌, ap, subst, ℕ, ◌+◌, ◌<◌, ◌%◌, ◌↔◌, cond, List, ◌++◌, get_or, length, Some, unwrap_or, Option, slice_get, IsPermutation, map, take, ◌≤◌, arith}
+use Rattle.std.proofs.Common.{◌≡◌, inl, inr, refl, sym, ◌∙◌, ap, subst, ℕ, ◌+◌, ◌%◌, ◌↔◌, cond, List, get_or, Some, unwrap_or, Option, slice_get, IsPermutation, map, arith}
 use Rattle.std.specs.Prelude.{All, Contains}
 use Rattle.std.specs.List.{AllZip}
 use Rattle.std.specs.Cmp.{both_ways}
 use Rattle.std.proofs.lemmas.List.Elements.{All-contains, Contains-get_or}
-use Rattle.std.proofs.lemmas.List.Sorted.{sum_by-IsPermutation, IsPermutation-sym, Contains-permutation}
+use Rattle.std.proofs.lemmas.List.Sorted.{sum_by-IsPermutation, IsPermutation-sym, IsPermutation-map, Contains-permutation}
 use Rattle.std.proofs.lemmas.List.Sums.{sum_by-cons}
 use Rattle.std.proofs.lemmas.Option.{slice_get_within}
 use Rattle.cov_types.specs.Range.{IsSegInRange}
@@ -14,15 +14,14 @@ use Rattle.cov_types.specs.declared.seg.Seg.{Seg}
 use Rattle.cov_types.proofs.Equal.{same_uses}
 use Rattle.plane.specs.Noded.{IsNodedFully}
 use Rattle.crossing_laws.specs.Across.{member_times}
-use Rattle.crossing_laws.proofs.Lists.{contains_here, contains_there, contains-map}
+use Rattle.crossing_laws.proofs.Lists.{contains_here, contains_there}
 use Rattle.arrangement.specs.declared.odd_use.OddUse.{OddUse}
 use Rattle.arrangement.specs.Noding.{segments, IsAscending, IsOdd, AreEdges}
 use Rattle.arrangement.proofs.OddUses.{is_same_use, Decides-same_use, one_place}
 use Rattle.snap_noder.specs.Order.{AreOddAscending}
-use Rattle.snap_noder.specs.Places.{HavePlaces, odd_times, IsPlaced, ArePlacesOf}
+use Rattle.snap_noder.specs.Places.{HavePlaces, odd_times, IsPlaced, AreNumbered}
 use Rattle.snap_noder.proofs.OddOrder.{is_same_odd, Decides-same_odds, same_odds}
 use Rattle.snap_noder.proofs.Times.{contains_cases, odd_has}
-use Rattle.snap_noder.proofs.Zip.{zip_more, zip_all}
 
 -- ---- what a list maps to
 
@@ -38,6 +37,10 @@ some_is : {X : Type 0} (x y : X) → Some x ≡ Some y → x ≡ y
 some_is {X} x y e = ap (λ (o : Option X). unwrap_or o x) e
 
 -- ---- the pair of a use
+
+-- the pairs are those of the uses, in some order
+abbrev pub ArePlacesOf : List EdgeUse → List Seg → List OddUse → Type 0
+ArePlacesOf uses edges pairs = (placed : List OddUse) × (AllZip (IsPlaced edges) uses placed × IsPermutation placed pairs)
 
 -- in ascending edges a use has one pair
 one_pair : (edges : List Seg) → IsAscending edges → (u v : EdgeUse) (o p : OddUse) → IsPlaced edges u o → IsPlaced edges v p → u ≡ v → o ≡ p
@@ -109,42 +112,53 @@ module _ (edges : List Seg) (up : IsAscending edges) where
         back : (o : OddUse) → (e : Seg) × ((slice_get edges o.edge ≡ Some e) × IsOdd uses o.member e) → Contains odd o
         back o (e, (at, is_odd)) = (exact o).1 (ap (λ n. n % 2) (pair_times (record { member = o.member; seg = e }) o uses pairs (refl, at) places) ∙ is_odd)
 
--- ---- the loop that finds the places
+-- ---- uses in another order
 
-pub places_start : (edges : List Seg) (placed : List OddUse) → placed ≡ [] → AllZip (IsPlaced edges) [] placed
-places_start edges placed empty = subst (AllZip (IsPlaced edges) []) (sym empty) tt
+reordered : (uses sorted : List EdgeUse) (edges : List Seg) (odd : List OddUse) → IsPermutation uses sorted → AreEdges sorted edges odd → AreEdges uses edges odd
+reordered uses sorted edges odd moved are = record {
+  ascending = are.ascending;
+  exact = λ e. (λ has. back e ((are.exact e).0 has), λ used. (are.exact e).1 (there e used));
+  pairs = record {
+    ascending = are.pairs.ascending;
+    exact = λ o. (
+      λ has. (let is = (are.pairs.exact o).0 has in (is.0, (is.1.0, ap (λ n. n % 2) (sym (times is.0 o.member)) ∙ is.1.1))),
+      λ is. (are.pairs.exact o).1 (is.0, (is.1.0, ap (λ n. n % 2) (times is.0 o.member) ∙ is.1.1)),
+    );
+  };
+}
+  where
+    moved_segments : IsPermutation (segments uses) (segments sorted)
+    moved_segments = IsPermutation-map (λ (u : EdgeUse). u.seg) uses sorted moved
 
-pub places_more : (edges : List Seg) (uses : List EdgeUse) (before after : List OddUse) (i : ℕ) (u : EdgeUse) (k : ℕ) → i < length uses → u ≡ get_or uses i u
-    → AllZip (IsPlaced edges) (take i uses) before → slice_get edges k ≡ Some u.seg → after ≡ before ++ record { member = u.member; edge = k } ∷ [] → AllZip (IsPlaced edges) (take (i + 1) uses) after
-places_more edges uses before after i u k within is so_far at pushed =
-    subst (AllZip (IsPlaced edges) (take (i + 1) uses)) (sym pushed) (zip_more (IsPlaced edges) uses before i u (record { member = u.member; edge = k }) within is so_far (refl, at))
+    there : (e : Seg) → Contains (segments uses) e → Contains (segments sorted) e
+    there e has = Contains-permutation (segments uses) (segments sorted) e moved_segments has
 
-pub places_all : (edges : List Seg) (uses : List EdgeUse) (placed pairs : List OddUse) (i : ℕ) → length uses ≤ i → AllZip (IsPlaced edges) (take i uses) placed → IsPermutation placed pairs → ArePlacesOf uses edges pairs
-places_all edges uses placed pairs i past so_far moved = (placed, (zip_all (IsPlaced edges) uses placed i past so_far, moved))
+    back : (e : Seg) → Contains (segments sorted) e → Contains (segments uses) e
+    back e has = Contains-permutation (segments sorted) (segments uses) e (IsPermutation-sym (segments uses) (segments sorted) moved_segments) has
 
-pub listed_at : (edges : List Seg) (uses : List EdgeUse) (i : ℕ) (u : EdgeUse) → All (λ v. Contains edges v.seg) uses → i < length uses → u ≡ get_or uses i u → Contains edges u.seg
-listed_at edges uses i u all within is = subst (λ (v : EdgeUse). Contains edges v.seg) (sym is) (all i u within)
+    times : (e : Seg) (member : ℕ) → member_times e sorted member ≡ member_times e uses member
+    times e member = sum_by-IsPermutation (λ u. cond (is_same_use u (record { member = member; seg = e })) 1 0) uses sorted moved
 
--- every use of the list is of an edge
-pub all_listed : (edges shown : List Seg) (uses : List EdgeUse) → shown ≡ edges → ((e : Seg) → Contains edges e ↔ Contains (segments uses) e) → All (λ u. Contains shown u.seg) uses
-all_listed edges shown uses same listed k d within =
-    subst (λ (es : List Seg). Contains es (get_or uses k d).seg) (sym same)
-    ((listed (get_or uses k d).seg).1 (contains-map (λ (v : EdgeUse). v.seg) uses (get_or uses k d) (Contains-get_or uses k d within)))
+-- what the code ends with: sorted uses are numbered, which it read through a slice, the pairs are sorted and cancelled
+module _ (uses sorted read : List EdgeUse) (edges : List Seg) (numbered pairs shown odd : List OddUse) (moved : IsPermutation uses sorted) (same : read ≡ sorted) (are : AreNumbered read edges numbered)
+    (moved_pairs : IsPermutation numbered pairs) (same_pairs : shown ≡ pairs) (exact : (o : OddUse) → Contains odd o ↔ (odd_times o shown % 2 ≡ 1)) where
+  at_sorted : AreNumbered sorted edges numbered
+  at_sorted = subst (λ (us : List EdgeUse). AreNumbered us edges numbered) same are
 
--- what the code ends with, where it read the edges and the pairs through slices
-module _ (edges shown : List Seg) (uses : List EdgeUse) (pairs read odd : List OddUse) (up : IsAscending edges) (same : shown ≡ edges) (same_pairs : read ≡ pairs) (places : ArePlacesOf uses shown pairs)
-    (exact : (o : OddUse) → Contains odd o ↔ (odd_times o read % 2 ≡ 1)) where
-  at_edges : ArePlacesOf uses edges pairs
-  at_edges = subst (λ (es : List Seg). ArePlacesOf uses es pairs) same places
+  places : ArePlacesOf sorted edges pairs
+  places = (numbered, (at_sorted.placed, moved_pairs))
 
   at_pairs : (o : OddUse) → Contains odd o ↔ (odd_times o pairs % 2 ≡ 1)
   at_pairs o = subst (λ (ps : List OddUse). Contains odd o ↔ (odd_times o ps % 2 ≡ 1)) same_pairs (exact o)
 
-  pub found_places : HavePlaces edges odd
-  found_places = have_places edges up uses pairs odd at_edges at_pairs
+  pub found_ascending : IsAscending edges
+  found_ascending = at_sorted.ascending
 
-  pub found_edges : AreOddAscending odd → ((e : Seg) → Contains edges e ↔ Contains (segments uses) e) → AreEdges uses edges odd
-  found_edges = edges_are edges up uses pairs odd at_edges at_pairs
+  pub found_places : HavePlaces edges odd
+  found_places = have_places edges at_sorted.ascending sorted pairs odd places at_pairs
+
+  pub found_edges : AreOddAscending odd → AreEdges uses edges odd
+  found_edges odd_up = reordered uses sorted edges odd moved (edges_are edges at_sorted.ascending sorted pairs odd places at_pairs odd_up at_sorted.exact)
 
 -- ---- what holds of the segments holds of the edges
 

@@ -1,17 +1,22 @@
 -- The uses of chain edges.
 use mathlib.Core.List.{[], ◌∷◌}
-use Rattle.std.proofs.Common.{◌≡◌, inl, inr, refl, sym, ◌∙◌, ap, subst, ℕ, ◌+◌, ◌<◌, ◌≤◌, ◌%◌, ◌==◌, ◌↔◌, Bool, true, false, cond, List, ◌++◌, get_or, length, take, map, Option, Some, None, arith}
+use Rattle.std.proofs.Common.{◌≡◌, inl, inr, refl, sym, ◌∙◌, ap, subst, ℕ, ◌+◌, ◌<◌, ◌≤◌, ◌%◌, ◌==◌, ◌↔◌, Bool, true, false, cond, IsTrue, nat_lt, List, ◌++◌, get_or, length, take, map, Option, Some, None, slice_get, IsPermutation, arith}
 use Rattle.std.specs.Prelude.{All, Contains, sum_by, flat_map, zip, option_to_list}
 use Rattle.std.specs.List.{AllZip}
 use Rattle.std.proofs.lemmas.List.{append-nil, append_assoc, map-append, take_more, take_all, get_or_default}
 use Rattle.std.proofs.lemmas.List.Elements.{All-contains, All-map, Contains-get_or, Contains-append_cases}
 use Rattle.std.proofs.lemmas.List.Concat.{flat_map-append}
 use Rattle.std.proofs.lemmas.List.Sums.{sum_by-append, sum_by-cons}
+use Rattle.std.proofs.lemmas.Bool.Decides.{nat_tests}
+use Rattle.std.proofs.lemmas.List.Sorted.{sum_by-IsPermutation, IsPermutation-sym, All-permutation}
+use Rattle.std.proofs.lemmas.Option.{slice_get-get_or, get_or_from_slice_get}
 use Rattle.cov_types.specs.Range.{IsSegInRange}
 use Rattle.cov_types.specs.Uses.{seg_between, ends_inside, HasEvenEnds}
 use Rattle.cov_types.specs.declared.coord.Coord.{Coord}
 use Rattle.cov_types.specs.declared.edge_use.EdgeUse.{EdgeUse}
 use Rattle.cov_types.specs.declared.seg.Seg.{Seg}
+use Rattle.cov_types.proofs.Equal.{Decides-same_segs}
+use Rattle.crossing_laws.specs.Across.{is_same_seg}
 use Rattle.plane.specs.Noded.{IsNodedFully}
 use Rattle.plane.specs.Snapping.{IsChain, chain_edges}
 use Rattle.plane.proofs.Sweeps.{rises-in_range}
@@ -23,19 +28,16 @@ use Rattle.rounding_laws.proofs.Shadow.{half_unit}
 use Rattle.arrangement.specs.declared.odd_use.OddUse.{OddUse}
 use Rattle.arrangement.specs.Noding.{segments, AreChains, snapped_uses, AreSnapped, AreEdges, IsNoded, odd_uses}
 use Rattle.crossing_laws.proofs.Lists.{contains_here, contains_there, contains-map}
-use Rattle.snap_noder.specs.Snapped.{chain_uses, IsNearSegments}
+use Rattle.snap_noder.specs.Snapped.{chain_uses, HasSegmentBefore, AreSnappedOver, IsNearSegments}
+use Rattle.snap_noder.proofs.Alike.{AreAlike, Follows, follow, sum_of_pieces, firsts_of_zip, zip_of_parts, each_of_zip, zip_of_each, alike_edges}
 use Rattle.snap_noder.proofs.LiveUses.{even_odd}
 use Rattle.snap_noder.proofs.ParityLemmas.{contains_mapped}
 use Rattle.snap_noder.proofs.Zip.{zip_more, zipped_push}
 
 -- ---- the loop over the uses
 
--- the uses so far, each with its chain over all segments
-abbrev pub SnappedSoFar : List Seg → List EdgeUse → List EdgeUse → Type 0
-SnappedSoFar segs uses out = (chains : List (List Coord)) × (AllZip (λ u chain. IsChain segs u.seg chain) uses chains × (out ≡ snapped_uses uses chains))
-
-pub snapped_start : (segs : List Seg) (out : List EdgeUse) → out ≡ [] → SnappedSoFar segs [] out
-snapped_start segs out empty = ([], (tt, empty))
+pub snapped_start : (segs : List Seg) (out : List EdgeUse) → out ≡ [] → AreSnappedOver segs [] out
+snapped_start segs out empty = record { chains = []; are_chains = tt; made = empty }
 
 snapped_push : (segs : List Seg) (uses : List EdgeUse) (chains : List (List Coord)) (u : EdgeUse) (chain : List Coord) → AllZip (λ v c. IsChain segs v.seg c) uses chains
     → snapped_uses (uses ++ u ∷ []) (chains ++ chain ∷ []) ≡ snapped_uses uses chains ++ chain_uses (u, chain)
@@ -46,22 +48,97 @@ snapped_push segs uses chains u chain each =
 
 -- u is the use at i, and its chain follows
 pub snapped_more : (segs : List Seg) (list before after : List EdgeUse) (i : ℕ) (u : EdgeUse) (chain read : List Coord) → i < length list → u ≡ get_or list i u
-    → SnappedSoFar segs (take i list) before → IsChain segs u.seg chain → read ≡ chain → after ≡ before ++ chain_uses (u, read) → SnappedSoFar segs (take (i + 1) list) after
-snapped_more segs list before after i u chain read within is (chains, (each, so_far)) along same pushed = (
-  chains ++ chain ∷ [],
-  (
-    zip_more (λ v c. IsChain segs v.seg c) list chains i u chain within is each along,
-    pushed
-        ∙ (λ j. so_far j ++ chain_uses (u, same j))
-        ∙ sym (snapped_push segs (take i list) chains u chain each)
-        ∙ ap (λ us. snapped_uses us (chains ++ chain ∷ [])) (ap (λ v. take i list ++ v ∷ []) is ∙ sym (take_more list i u within)),
-  ),
-)
+    → AreSnappedOver segs (take i list) before → IsChain segs u.seg chain → read ≡ chain → after ≡ before ++ chain_uses (u, read) → AreSnappedOver segs (take (i + 1) list) after
+snapped_more segs list before after i u chain read within is so_far along same pushed = record {
+  chains = so_far.chains ++ chain ∷ [];
+  are_chains = zip_more (λ v c. IsChain segs v.seg c) list so_far.chains i u chain within is so_far.are_chains along;
+  made =
+      pushed
+      ∙ (λ j. so_far.made j ++ chain_uses (u, same j))
+      ∙ sym (snapped_push segs (take i list) so_far.chains u chain so_far.are_chains)
+      ∙ ap (λ us. snapped_uses us (so_far.chains ++ chain ∷ [])) (ap (λ v. take i list ++ v ∷ []) is ∙ sym (take_more list i u within));
+}
 
-pub snapped_all : (list out : List EdgeUse) (i : ℕ) → length list ≤ i → SnappedSoFar (segments list) (take i list) out → AreSnapped list out
-snapped_all list out i past h =
-    let all = subst (λ (us : List EdgeUse). SnappedSoFar (segments list) us out) (take_all i list past) h in
-    record { chains = all.0; are_chains = all.1.0; made = all.1.1 }
+pub snapped_all : (segs : List Seg) (list out : List EdgeUse) (i : ℕ) → length list ≤ i → AreSnappedOver segs (take i list) out → AreSnappedOver segs list out
+snapped_all segs list out i past h = subst (λ (us : List EdgeUse). AreSnappedOver segs us out) (take_all i list past) h
+
+-- the chain that the loop has is that of the use before i
+abbrev pub IsChainBefore : List Seg → List EdgeUse → ℕ → List Coord → Type 0
+IsChainBefore segs list i chain = (u : EdgeUse) (k : ℕ) → k + 1 ≡ i → slice_get list k ≡ Some u → IsChain segs u.seg chain
+
+pub chain_before_none : (segs : List Seg) (list : List EdgeUse) (chain : List Coord) → IsChainBefore segs list 0 chain
+chain_before_none segs list chain u k next at = absurd (omega arith)
+
+-- u is the use at i: its chain is that which the loop has, where the use before has the same segment
+pub chain_again : (segs : List Seg) (list : List EdgeUse) (i : ℕ) (u : EdgeUse) (chain now : List Coord) → i < length list → u ≡ get_or list i u → IsChainBefore segs list i chain → HasSegmentBefore list i → now ≡ chain → IsChain segs u.seg now
+chain_again segs list i u chain now within is along before same =
+    let here : before.here ≡ u = sym (get_or_from_slice_get list i before.here u before.at_here) ∙ sym is in
+    subst (IsChain segs u.seg) (sym same) (subst (λ (s : Seg). IsChain segs s chain) (before.same ∙ ap (λ (v : EdgeUse). v.seg) here) (along before.before before.earlier before.next before.at_before))
+
+-- and then it is that which the loop has for the next use
+pub chain_kept : (segs : List Seg) (list : List EdgeUse) (i : ℕ) (u : EdgeUse) (chain : List Coord) → u ≡ get_or list i u → IsChain segs u.seg chain → IsChainBefore segs list (i + 1) chain
+chain_kept segs list i u chain is along v k next at =
+    let place : k ≡ i = omega arith in
+    subst (λ (w : EdgeUse). IsChain segs w.seg chain) (is ∙ ap (λ n. get_or list n u) (sym place) ∙ get_or_from_slice_get list k v u at) along
+
+-- the test of the uses at j and at i, one after the other
+pub same_before : (list : List EdgeUse) (i j : ℕ) (d e : EdgeUse) (b : Bool) → i < length list → j + 1 ≡ i → b ≡ is_same_seg (get_or list j d).seg (get_or list i e).seg → IsTrue b ↔ HasSegmentBefore list i
+same_before list i j d e b within next told = (there, back)
+  where
+    there : IsTrue b → HasSegmentBefore list i
+    there h = record {
+      earlier = j;
+      before = get_or list j d;
+      here = get_or list i e;
+      next = next;
+      at_before = slice_get-get_or list j d (omega arith);
+      at_here = slice_get-get_or list i e within;
+      same = (Decides-same_segs (get_or list j d).seg (get_or list i e).seg).0 (sym told ∙ h);
+    }
+
+    back : HasSegmentBefore list i → IsTrue b
+    back h =
+        let place : h.earlier ≡ j = omega (arith, h.next) in
+        let before = ap (λ n. get_or list n d) (sym place) ∙ get_or_from_slice_get list h.earlier h.before d h.at_before in
+        let here = get_or_from_slice_get list i h.here e h.at_here in
+        told ∙ (Decides-same_segs (get_or list j d).seg (get_or list i e).seg).1 (ap (λ (w : EdgeUse). w.seg) before ∙ h.same ∙ ap (λ (w : EdgeUse). w.seg) (sym here))
+
+-- the first use has none before it
+pub none_before : (list : List EdgeUse) (i : ℕ) → i ≤ 0 → IsTrue (nat_lt 0 i) ↔ HasSegmentBefore list i
+none_before list i none = (λ h. absurd (grind (arith, nat_tests)), λ h. absurd (omega (arith, h.next)))
+
+-- ---- uses in another order
+
+-- the uses of the chain edges, in the order of the list
+pub record AreSnappedAlike (list out : List EdgeUse) : Type 0 where
+  pub snapped : List EdgeUse
+  pub are : AreSnapped list snapped
+  pub alike : AreAlike snapped out
+
+module _ (list sorted out : List EdgeUse) (moved : IsPermutation list sorted) (over : AreSnappedOver (segments list) sorted out) where
+  -- each use of the list with its chain
+  paired : Follows (zip sorted over.chains) list
+  paired = follow (zip sorted over.chains) list (subst (λ us. IsPermutation us list) (sym (firsts_of_zip (λ u c. IsChain (segments list) u.seg c) sorted over.chains over.are_chains)) (IsPermutation-sym list sorted moved))
+
+  paired_zip : paired.there ≡ zip list (map (λ p. p.1) paired.there)
+  paired_zip = sym (zip_of_parts paired.there) ∙ ap (λ us. zip us (map (λ p. p.1) paired.there)) paired.are
+
+  paired_chains : AreChains list (map (λ p. p.1) paired.there)
+  paired_chains =
+      subst (λ us. AllZip (λ u c. IsChain (segments list) u.seg c) us (map (λ p. p.1) paired.there)) paired.are
+      (zip_of_each (λ u c. IsChain (segments list) u.seg c) paired.there
+      (All-permutation (λ p. IsChain (segments list) p.0.seg p.1) (zip sorted over.chains) paired.there paired.moved (each_of_zip (λ u c. IsChain (segments list) u.seg c) sorted over.chains over.are_chains)))
+
+  pub in_list_order : AreSnappedAlike list out
+  in_list_order = record {
+    snapped = flat_map chain_uses paired.there;
+    are = record { chains = map (λ p. p.1) paired.there; are_chains = paired_chains; made = ap (flat_map chain_uses) paired_zip };
+    alike = λ f.
+        sum_of_pieces f chain_uses paired.there
+        ∙ sum_by-IsPermutation (λ p. sum_by f (chain_uses p)) (zip sorted over.chains) paired.there paired.moved
+        ∙ sym (sum_of_pieces f chain_uses (zip sorted over.chains))
+        ∙ ap (sum_by f) (sym over.made);
+  }
 
 -- ---- the loop along a chain
 
@@ -228,23 +305,27 @@ snapped_even list chains in_range are even inside member =
     (λ u h. (All-contains (λ (v : EdgeUse). IsSegInRange v.seg) list u in_range h, contains-map (λ (v : EdgeUse). v.seg) list u h)) are
     ∙ even inside member
 
--- ---- what the code ends with: the edges of the snapped uses, which it read through a slice
+-- ---- what the code ends with: the edges of the snapped uses, which it made in another order
 
-module _ (list uses read : List EdgeUse) (in_range : All (λ u. IsSegInRange u.seg) list) (made : AreSnapped list uses) (same : read ≡ uses) (edges : List Seg) (odd : List OddUse) (are : AreEdges read edges odd) where
-  are_edges : AreEdges uses edges odd
-  are_edges = subst (λ (us : List EdgeUse). AreEdges us edges odd) same are
+module _ (list sorted seen uses : List EdgeUse) (segs : List Seg) (in_range : All (λ u. IsSegInRange u.seg) list) (built : segs ≡ segments list) (moved : IsPermutation list sorted) (same : seen ≡ sorted)
+    (over : AreSnappedOver segs seen uses) (edges : List Seg) (odd : List OddUse) (are : AreEdges uses edges odd) where
+  alike : AreSnappedAlike list uses
+  alike = in_list_order list sorted uses moved (subst (λ (ss : List Seg). AreSnappedOver ss sorted uses) built (subst (λ (us : List EdgeUse). AreSnappedOver segs us uses) same over))
 
-  listed : (e : Seg) → Contains edges e ↔ Contains (segments (snapped_uses list made.chains)) e
-  listed = (subst (λ (us : List EdgeUse). AreEdges us edges odd) made.made are_edges).exact
+  are_edges : AreEdges alike.snapped edges odd
+  are_edges = alike_edges alike.snapped uses edges odd alike.alike are
+
+  listed : (e : Seg) → Contains edges e ↔ Contains (segments (snapped_uses list alike.are.chains)) e
+  listed = (subst (λ (us : List EdgeUse). AreEdges us edges odd) alike.are.made are_edges).exact
 
   pub is_noded : IsNoded list edges odd
-  is_noded = record { snapped = uses; are_snapped = made; are_edges = are_edges }
+  is_noded = record { snapped = alike.snapped; are_snapped = alike.are; are_edges = are_edges }
 
   pub is_fully_noded : IsNodedFully edges
-  is_fully_noded = edges_fully_noded list in_range made.chains made.are_chains edges listed
+  is_fully_noded = edges_fully_noded list in_range alike.are.chains alike.are.are_chains edges listed
 
   pub is_in_range : All IsSegInRange edges
-  is_in_range = edges_in_range list in_range made.chains made.are_chains edges listed
+  is_in_range = edges_in_range list in_range alike.are.chains alike.are.are_chains edges listed
 
   pub is_even : HasEvenEnds list → HasEvenEnds (odd_uses edges odd)
-  is_even even = even_odd uses edges odd are_edges (subst HasEvenEnds (sym made.made) (snapped_even list made.chains in_range made.are_chains even))
+  is_even even = even_odd alike.snapped edges odd are_edges (subst HasEvenEnds (sym alike.are.made) (snapped_even list alike.are.chains in_range alike.are.are_chains even))

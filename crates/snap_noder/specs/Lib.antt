@@ -1,3 +1,4 @@
+pub mod Marked
 pub mod Order
 pub mod Places
 pub mod Snapped

@@ -1,9 +1,10 @@
 -- The places of edges that uses and odd pairs name.
-use Rattle.std.specs.Prelude.{◌≡◌, ℕ, ◌<◌, ◌==◌, ◌&&◌, List, [], ◌∷◌, ◌++◌, length, count_by, All, IsTrue, IsPermutation, slice_get, Some}
+use Rattle.std.specs.Prelude.{◌≡◌, ℕ, ◌<◌, ◌==◌, ◌&&◌, List, [], ◌∷◌, ◌++◌, length, count_by, All, Contains, IsTrue, ◌↔◌, slice_get, Some}
 use Rattle.std.specs.List.{AllZip, list_any}
 use Rattle.cov_types.specs.declared.edge_use.EdgeUse.{EdgeUse}
 use Rattle.cov_types.specs.declared.seg.Seg.{Seg}
 use Rattle.arrangement.specs.declared.odd_use.OddUse.{OddUse}
+use Rattle.arrangement.specs.Noding.{IsAscending, segments}
 
 -- each edge number is a place in the list of edges
 abbrev pub HavePlaces : List Seg → List OddUse → Type 0
@@ -21,10 +22,12 @@ odd_times o pairs = count_by (λ p. (p.member == o.member) && (p.edge == o.edge)
 abbrev pub IsPlaced : List Seg → EdgeUse → OddUse → Type 0
 IsPlaced edges u o = (o.member ≡ u.member) × (slice_get edges o.edge ≡ Some u.seg)
 
--- the pairs are those of the uses, in some order
-abbrev pub ArePlacesOf : List EdgeUse → List Seg → List OddUse → Type 0
-ArePlacesOf uses edges pairs = (placed : List OddUse) × (AllZip (IsPlaced edges) uses placed × IsPermutation placed pairs)
+-- the edges are the segments of the uses, ascending, and each use has its pair, in the order of the uses
+pub record AreNumbered (uses : List EdgeUse) (edges : List Seg) (pairs : List OddUse) : Type 0 where
+  pub ascending : IsAscending edges
+  pub exact : (e : Seg) → Contains edges e ↔ Contains (segments uses) e
+  pub placed : AllZip (IsPlaced edges) uses pairs
 
--- o is the last of the list
-abbrev pub IsLast : List OddUse → OddUse → Type 0
-IsLast list o = (front : List OddUse) × (list ≡ front ++ o ∷ [])
+-- x is the last of the list
+abbrev pub EndsWith : {X : Type 0} → List X → X → Type 0
+EndsWith {X} xs x = (front : List X) × (xs ≡ front ++ x ∷ [])

@@ -11,11 +11,11 @@ mod noded;
 mod noding;
 mod parity;
 
+pub use arrangement::OddUse;
 pub use live_edges::LiveEdges;
 pub use liveness::{live, uses_of_odd};
 pub use noded::Noded;
 pub use noding::{node, plain};
-pub use arrangement::OddUse;
 
 #[cfg(test)]
 mod tests;

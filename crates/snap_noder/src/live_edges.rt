@@ -2,8 +2,8 @@ ghost use Rattle.arrangement.specs.Noding.{IsAscending};
 ghost use Rattle.snap_noder.specs.Order.{AreOddAscending};
 ghost use Rattle.snap_noder.specs.Places.{HavePlaces, AreAllUsed};
 
-use cov_types::Seg;
 use arrangement::OddUse;
+use cov_types::Seg;
 
 /// Edges that some member has an odd number of times each, and for each member which.
 #[derive(Drop)]

@@ -2,8 +2,8 @@ ghost use Rattle.arrangement.specs.Noding.{IsAscending};
 ghost use Rattle.snap_noder.specs.Order.{AreOddAscending};
 ghost use Rattle.snap_noder.specs.Places.{HavePlaces};
 
-use cov_types::Seg;
 use arrangement::OddUse;
+use cov_types::Seg;
 
 /// Edges, and for each member those that it has an odd number of times.
 #[derive(Drop)]

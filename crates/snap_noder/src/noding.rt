@@ -1,12 +1,12 @@
-ghost use Rattle.std.specs.Prelude.{◌≡◌, ◌++◌, All, IfOk, OnOk};
+ghost use Rattle.std.specs.Prelude.{◌≡◌, ◌+◌, ◌<◌, ◌++◌, All, IfOk, IsTrue, OnOk, ◌↔◌, length};
 ghost use Rattle.cov_types.specs.Range.{IsSegInRange};
 ghost use Rattle.cov_types.specs.Uses.{HasEvenEnds};
 ghost use Rattle.plane.specs.Noded.{IsNodedFully};
-ghost use Rattle.arrangement.specs.Noding.{AreEdges, AreSnapped, IsNoded, odd_uses, segments};
-ghost use Rattle.snap_noder.specs.Snapped.{IsNearSegments, chain_uses};
+ghost use Rattle.arrangement.specs.Noding.{AreEdges, IsNoded, odd_uses, segments};
+ghost use Rattle.snap_noder.specs.Snapped.{AreSnappedOver, HasSegmentBefore, IsNearSegments, chain_uses};
 
 use crate::noded::Noded;
-use crate::parity::edges_of;
+use crate::parity::{by_segment, edges_of};
 use cov_types::{Coord, EdgeUse, NoMemory, Seg};
 use hot_pixel::HotSet;
 use std::alloc::Global;
@@ -25,8 +25,9 @@ pub fn node(alloc: Global, list: &[EdgeUse]) -> Result<Noded, NoMemory>
     ensures even { IfOk result (λ n. HasEvenEnds list.now → HasEvenEnds (odd_uses n.edges.items n.odd.items)) }
 {
     let hot = HotSet::build(alloc, list)?;
-    let uses = snapped_uses(alloc, &hot, list)?;
-    edges_of(alloc, uses.as_slice())
+    let sorted = by_segment(Vec::from_slice(alloc, list)?);
+    let uses = snapped_uses(alloc, &hot, sorted.as_slice())?;
+    edges_of(alloc, uses)
 }
 
 /// The segments of the uses themselves, each once, and for each member those that it uses an odd number of times.
@@ -38,21 +39,31 @@ pub fn plain(alloc: Global, list: &[EdgeUse]) -> Result<Noded, NoMemory>
     ensures in_range { IfOk result (λ n. All IsSegInRange n.edges.items) }
     ensures even { IfOk result (λ n. HasEvenEnds list.now → HasEvenEnds (odd_uses n.edges.items n.odd.items)) }
 {
-    edges_of(alloc, list)
+    edges_of(alloc, Vec::from_slice(alloc, list)?)
 }
 
-// The uses of all chain edges: of each use in turn, along its chain.
-fn snapped_uses(alloc: Global, hot: &HotSet, list: &[EdgeUse]) -> Result<Vec<EdgeUse>, NoMemory>
-    requires in_range { All (λ u. IsSegInRange u.seg) list.now }
-    requires built { hot.now ≡ segments list.now }
-    ensures { IfOk result (λ uses. AreSnapped list.now uses.items) }
+// The uses of all chain edges: of each use in turn, along its chain. Uses of one segment that stand together share one chain.
+fn snapped_uses(alloc: Global, hot: &HotSet, uses: &[EdgeUse]) -> Result<Vec<EdgeUse>, NoMemory>
+    requires { All (λ u. IsSegInRange u.seg) uses.now }
+    ensures { IfOk result (λ snapped. AreSnappedOver hot.now uses.now snapped.items) }
 {
-    let mut uses = Vec::new(alloc);
-    for u in list {
-        let chain = hot.chain(u.seg)?;
-        add_chain(&mut uses, *u, chain.as_slice())?;
+    let mut snapped = Vec::new(alloc);
+    let mut chain = Vec::new(alloc);
+    for (i, u) in uses.iter().enumerate() {
+        if !has_segment_before(uses, i) {
+            chain = hot.chain(u.seg)?;
+        }
+        add_chain(&mut snapped, *u, chain.as_slice())?;
     }
-    Ok(uses)
+    Ok(snapped)
+}
+
+// Whether the use before this one has the same segment.
+fn has_segment_before(uses: &[EdgeUse], i: usize) -> bool
+    requires { i < length uses.now }
+    ensures { IsTrue result ↔ HasSegmentBefore uses.now i }
+{
+    0 < i && uses[i - 1].seg == uses[i].seg
 }
 
 fn add_chain(uses: &mut Vec<EdgeUse>, u: EdgeUse, chain: &[Coord]) -> Result<(), NoMemory>

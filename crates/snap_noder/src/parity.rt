@@ -1,64 +1,66 @@
-ghost use Rattle.std.specs.Prelude.{◌≡◌, ◌%◌, All, Contains, IfOk, IsSorted, IsTrue, ◌↔◌, slice_get};
-ghost use Rattle.arrangement.specs.Noding.{AreEdges, IsAscending, segments};
-ghost use Rattle.snap_noder.specs.Order.{AreOddAscending, odd_cmp};
-ghost use Rattle.snap_noder.specs.Places.{ArePlacesOf, IsLast, odd_times};
+ghost use Rattle.std.specs.Prelude.{◌≡◌, ◌%◌, Contains, IfOk, IsPermutation, IsSorted, IsTrue, ◌↔◌};
+ghost use Rattle.arrangement.specs.Noding.{AreEdges};
+ghost use Rattle.snap_noder.specs.Order.{AreBySegment, AreOddAscending, odd_cmp};
+ghost use Rattle.snap_noder.specs.Places.{AreNumbered, EndsWith, odd_times};
 
 use crate::noded::Noded;
-use cov_types::{EdgeUse, NoMemory, Seg};
 use arrangement::OddUse;
+use cov_types::{EdgeUse, NoMemory, Seg};
 use std::alloc::Global;
 
-/// The edges of a list of uses, and for each member those that it uses an odd number of times.
-pub(crate) fn edges_of(alloc: Global, uses: &[EdgeUse]) -> Result<Noded, NoMemory>
-    ensures { IfOk result (λ n. AreEdges uses.now n.edges.items n.odd.items) }
+/// The edges of a list of uses, and for each member those that it uses an odd number of times. Takes n log n time in the number of
+/// uses, and memory in proportion to it.
+pub(crate) fn edges_of(alloc: Global, uses: Vec<EdgeUse>) -> Result<Noded, NoMemory>
+    ensures { IfOk result (λ n. AreEdges uses.items n.edges.items n.odd.items) }
 {
-    let edges = distinct_edges(alloc, uses)?;
-    let places = places_of(alloc, uses, edges.as_slice())?;
-    let odd = odd_ones(alloc, places.as_slice())?;
+    let sorted = by_segment(uses);
+    let Numbered { edges, mut pairs } = number_edges(alloc, sorted.as_slice())?;
+    pairs.sort_unstable();
+    let odd = odd_ones(alloc, pairs.as_slice())?;
     Ok(Noded { edges, odd })
 }
 
-fn distinct_edges(alloc: Global, uses: &[EdgeUse]) -> Result<Vec<Seg>, NoMemory>
-    ensures exact { IfOk result (λ edges. (e : Seg) → Contains edges.items e ↔ Contains (segments uses.now) e) }
-    ensures ascending { IfOk result (λ edges. IsAscending edges.items) }
+/// The uses in the order of their segments.
+pub(crate) fn by_segment(mut uses: Vec<EdgeUse>) -> Vec<EdgeUse>
+    ensures permutation { IsPermutation uses.items result.items }
+    ensures sorted { AreBySegment result.items }
 {
-    let mut edges = segments_of(alloc, uses)?;
-    edges.sort_unstable();
-    edges.dedup();
-    Ok(edges)
+    uses.sort_unstable_by_key(|u| (u.seg, u.member));
+    uses
 }
 
-fn segments_of(alloc: Global, uses: &[EdgeUse]) -> Result<Vec<Seg>, NoMemory>
-    ensures { IfOk result (λ segs. segs.items ≡ segments uses.now) }
-{
-    let segs = uses.iter().map(|u| u.seg).collect(alloc)?;
-    Ok(segs)
+// Distinct edges, ascending, and the pair of each use: its member with the number of its edge.
+struct Numbered {
+    edges: Vec<Seg>,
+    pairs: Vec<OddUse>,
 }
 
-// The uses with the place of each edge, sorted.
-fn places_of(alloc: Global, uses: &[EdgeUse], edges: &[Seg]) -> Result<Vec<OddUse>, NoMemory>
-    requires ascending { IsAscending edges.now }
-    requires listed { All (λ u. Contains edges.now u.seg) uses.now }
-    ensures exact { IfOk result (λ places. ArePlacesOf uses.now edges.now places.items) }
-    ensures sorted { IfOk result (λ places. IsSorted odd_cmp places.items) }
+// Numbers the edges of uses that are in the order of their segments: each new segment is the next edge.
+fn number_edges(alloc: Global, uses: &[EdgeUse]) -> Result<Numbered, NoMemory>
+    requires { AreBySegment uses.now }
+    ensures { IfOk result (λ n. AreNumbered uses.now n.edges.items n.pairs.items) }
 {
-    let mut places = Vec::new(alloc);
+    let mut edges = Vec::new(alloc);
+    let mut pairs = Vec::new(alloc);
     for u in uses {
-        places.push(OddUse {
+        if !is_last_edge(edges.as_slice(), u.seg) {
+            edges.push(u.seg)?;
+        }
+        pairs.push(OddUse {
             member: u.member,
-            edge: place_of(edges, u.seg),
+            edge: edges.len() - 1,
         })?;
     }
-    places.sort_unstable();
-    Ok(places)
+    Ok(Numbered { edges, pairs })
 }
 
-fn place_of(edges: &[Seg], s: Seg) -> usize
-    requires ascending { IsAscending edges.now }
-    requires listed { Contains edges.now s }
-    ensures { slice_get edges.now result ≡ Some s }
+fn is_last_edge(edges: &[Seg], s: Seg) -> bool
+    ensures { IsTrue result ↔ EndsWith edges.now s }
 {
-    edges.binary_search(&s).unwrap()
+    match edges.last() {
+        Some(last) => *last == s,
+        None => false,
+    }
 }
 
 // Of sorted pairs, those that stand there an odd number of times, each once: two that are equal cancel.
@@ -69,7 +71,7 @@ fn odd_ones(alloc: Global, sorted: &[OddUse]) -> Result<Vec<OddUse>, NoMemory>
 {
     let mut odd = Vec::new(alloc);
     for o in sorted {
-        if is_last(odd.as_slice(), *o) {
+        if is_last_pair(odd.as_slice(), *o) {
             odd.pop();
         } else {
             odd.push(*o)?;
@@ -78,10 +80,10 @@ fn odd_ones(alloc: Global, sorted: &[OddUse]) -> Result<Vec<OddUse>, NoMemory>
     Ok(odd)
 }
 
-fn is_last(list: &[OddUse], o: OddUse) -> bool
-    ensures { IsTrue result ↔ IsLast list.now o }
+fn is_last_pair(pairs: &[OddUse], o: OddUse) -> bool
+    ensures { IsTrue result ↔ EndsWith pairs.now o }
 {
-    match list.last() {
+    match pairs.last() {
         Some(last) => *last == o,
         None => false,
     }

@@ -1,5 +1,5 @@
-use Rattle.components.specs.Spreading.{AreNumbered}
+use Rattle.components.proofs.Down.{AreJoined}
 use Rattle.components.proofs.component.components.Given as goal
 
-abbrev pub invariant-loop-start : goal.invariant-loop-start
-invariant-loop-start l = AreNumbered l.count l.links l.start l.start l.least.items
+abbrev pub invariant-loop-link : goal.invariant-loop-link
+invariant-loop-link l = AreJoined l.count l.links l.link-index l.least.items

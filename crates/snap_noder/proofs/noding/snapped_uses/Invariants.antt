@@ -1,7 +1,7 @@
 use Rattle.std.proofs.Common.{take}
-use Rattle.arrangement.specs.Noding.{segments}
-use Rattle.snap_noder.proofs.Snapping.{SnappedSoFar}
+use Rattle.snap_noder.specs.Snapped.{AreSnappedOver}
+use Rattle.snap_noder.proofs.Snapping.{IsChainBefore}
 use Rattle.snap_noder.proofs.noding.snapped_uses.Given as goal
 
-abbrev pub invariant-loop-u : goal.invariant-loop-u
-invariant-loop-u l = SnappedSoFar (segments l.list) (take l.u-index l.list) l.uses.items
+abbrev pub invariant-loop-i : goal.invariant-loop-i
+invariant-loop-i l = record { so_far : AreSnappedOver l.hot (take l.i l.uses) l.snapped.items; chain : IsChainBefore l.hot l.uses l.i l.chain.items }

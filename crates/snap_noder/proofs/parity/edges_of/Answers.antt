@@ -1,19 +1,19 @@
-use Rattle.snap_noder.proofs.ParityLemmas.{all_listed, found_edges, found_places}
+use Rattle.snap_noder.proofs.ParityLemmas.{found_ascending, found_places, found_edges}
 use Rattle.snap_noder.proofs.parity.edges_of.Goals as goal
-
-pub places_of-requires-clause-listed : goal.places_of-requires-clause-listed
-places_of-requires-clause-listed c = all_listed c.in_ok-edges.edges.items c.as_slice.result.now c.args.uses.now c.as_slice.ensures.value c.in_ok-edges.ensures.exact
 
 pub invariant_of-result : goal.invariant_of-result
 invariant_of-result c = record {
-  ascending = c.in_ok-edges.ensures.ascending;
+  ascending =
+      found_ascending c.args.uses.items c.by_segment-sorted.result.items c.as_slice.result.now c.in_ok-edges.field-0.edges.items c.in_ok-edges.field-0.pairs.items c.sort_unstable.new.self.items c.as_slice-2.result.now
+      c.in_ok-odd.odd.items c.by_segment-sorted.ensures.permutation c.as_slice.ensures.value c.in_ok-edges.ensures c.sort_unstable.ensures.permutation c.as_slice-2.ensures.value c.in_ok-odd.ensures.exact;
   odd_ascending = c.in_ok-odd.ensures.ascending;
   places =
-      found_places c.in_ok-edges.edges.items c.as_slice.result.now c.args.uses.now c.in_ok-places.places.items c.as_slice-2.result.now c.in_ok-odd.odd.items c.in_ok-edges.ensures.ascending
-      c.as_slice.ensures.value c.as_slice-2.ensures.value c.in_ok-places.ensures.exact c.in_ok-odd.ensures.exact;
+      found_places c.args.uses.items c.by_segment-sorted.result.items c.as_slice.result.now c.in_ok-edges.field-0.edges.items c.in_ok-edges.field-0.pairs.items c.sort_unstable.new.self.items c.as_slice-2.result.now
+      c.in_ok-odd.odd.items c.by_segment-sorted.ensures.permutation c.as_slice.ensures.value c.in_ok-edges.ensures c.sort_unstable.ensures.permutation c.as_slice-2.ensures.value c.in_ok-odd.ensures.exact;
 }
 
 pub returns : goal.returns
 returns c =
-    found_edges c.in_ok-edges.edges.items c.as_slice.result.now c.args.uses.now c.in_ok-places.places.items c.as_slice-2.result.now c.in_ok-odd.odd.items c.in_ok-edges.ensures.ascending
-    c.as_slice.ensures.value c.as_slice-2.ensures.value c.in_ok-places.ensures.exact c.in_ok-odd.ensures.exact c.in_ok-odd.ensures.ascending c.in_ok-edges.ensures.exact
+    found_edges c.args.uses.items c.by_segment-sorted.result.items c.as_slice.result.now c.in_ok-edges.field-0.edges.items c.in_ok-edges.field-0.pairs.items c.sort_unstable.new.self.items c.as_slice-2.result.now
+    c.in_ok-odd.odd.items c.by_segment-sorted.ensures.permutation c.as_slice.ensures.value c.in_ok-edges.ensures c.sort_unstable.ensures.permutation c.as_slice-2.ensures.value c.in_ok-odd.ensures.exact
+    c.in_ok-odd.ensures.ascending

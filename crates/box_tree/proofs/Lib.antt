@@ -1,0 +1,10 @@
+pub mod Corners
+pub mod Descent
+pub mod LevelsHold
+pub mod Narrowed
+pub mod Places
+pub mod Same
+pub mod Touching
+pub mod Upward
+pub mod Wide
+pub mod Within

@@ -1,0 +1,6 @@
+pub mod Curve
+pub mod Rect
+pub mod Probe
+pub mod Places
+pub mod Hulls
+pub mod Levels

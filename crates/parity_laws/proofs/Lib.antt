@@ -1,0 +1,5 @@
+pub mod Members
+pub mod Middle
+pub mod Parts
+pub mod Path
+pub mod Under

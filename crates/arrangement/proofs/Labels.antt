@@ -26,7 +26,7 @@ use Rattle.arrangement.proofs.OddUses.{live_odd_again, odd_use_listed}
 -- ---- the two sides of a live edge
 
 -- an element of a mapped list is that of some element
-mapped : {X Y : Type 0} (f : X → Y) (P : Y → Type 0) (xs : List X) → ((x : X) → Contains xs x → P (f x)) → (y : Y) → Contains (map f xs) y → P y
+pub mapped : {X Y : Type 0} (f : X → Y) (P : Y → Type 0) (xs : List X) → ((x : X) → Contains xs x → P (f x)) → (y : Y) → Contains (map f xs) y → P y
 mapped f P [] each y (k, inside, is) = absurd (omega arith)
 mapped f P (x ∷ xs) each y (zero, inside, is) = subst P is (each x (contains_here x xs))
 mapped f P (x ∷ xs) each y (suc k, inside, is) = mapped f P xs (λ z i. each z (contains_there x z xs i)) y (k, omega arith, is)

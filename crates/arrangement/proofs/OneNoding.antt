@@ -16,7 +16,7 @@ use Rattle.plane.proofs.Sweeps.{rises-in_range}
 use Rattle.rounding_laws.proofs.Unique.{chain_unique}
 use Rattle.crossing_laws.proofs.Lists.{contains_here, contains_there}
 use Rattle.arrangement.specs.declared.odd_use.OddUse.{OddUse}
-use Rattle.arrangement.specs.Noding.{segments, is_odd_before, AreOddPairs, AreEdges, snapped_uses, AreSnapped, IsNoded}
+use Rattle.arrangement.specs.Noding.{segments, is_odd_before, AreOddPairs, AreEdges, AreLiveEdges, snapped_uses, AreSnapped, IsNoded}
 
 -- ---- two lists in order with the same elements are one
 
@@ -80,6 +80,11 @@ module _ (uses : List EdgeUse) where
       same_ordered (λ o p. IsTrue (is_odd_before o p)) odd_both_ways odd odd_too h.ascending k.ascending
       (λ o. (λ i. (k.exact o).1 ((h.exact o).0 i), λ i. (h.exact o).1 ((k.exact o).0 i)))
 
+  pub same_live : (edges others : List Seg) (odd odd_too : List OddUse) → AreLiveEdges uses edges odd → AreLiveEdges uses others odd_too → edges ≡ others
+  same_live edges others odd odd_too h k =
+      same_ordered (λ e f. IsTrue (is_seg_before e f)) before_both_ways edges others h.ascending k.ascending
+      (λ e. (λ i. (k.exact e).1 ((h.exact e).0 i), λ i. (h.exact e).1 ((k.exact e).0 i)))
+
 -- ---- chains
 
 same_chains : (segs : List Seg) (uses : List EdgeUse) (chains others : List (List Coord)) → All (λ u. IsSegInRange u.seg) uses
@@ -94,7 +99,7 @@ same_chains segs (u ∷ uses) (c ∷ chains) (d ∷ others) in_range each each_t
     let rest = same_chains segs uses chains others (λ k e within. in_range (suc k) e (omega arith)) each.1 each_too.1 in
     λ i. first i ∷ rest i
 
-same_snapped : (uses snapped others : List EdgeUse) → All (λ u. IsSegInRange u.seg) uses → AreSnapped uses snapped → AreSnapped uses others → snapped ≡ others
+pub same_snapped : (uses snapped others : List EdgeUse) → All (λ u. IsSegInRange u.seg) uses → AreSnapped uses snapped → AreSnapped uses others → snapped ≡ others
 same_snapped uses snapped others in_range h k =
     h.made ∙ ap (snapped_uses uses) (same_chains (segments uses) uses h.chains k.chains in_range h.are_chains k.are_chains) ∙ sym k.made
 

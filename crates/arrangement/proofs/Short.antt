@@ -1,18 +1,17 @@
 -- Facts of short lists, element by element.
 use mathlib.Core.List.{[], ◌∷◌}
-use Rattle.std.proofs.Common.{◌≡◌, sym, ◌∙◌, ap, subst, zero, suc, Bool, true, false, not, ◌&&◌, ◌≢◌, List, get_or, arith}
+use Rattle.std.proofs.Common.{◌≡◌, sym, ◌∙◌, subst, zero, suc, Bool, true, false, not, ◌&&◌, ◌≢◌, List, get_or, arith}
 use Rattle.std.specs.Prelude.{AllPairs, Contains, ⊤}
 use Rattle.std.specs.List.{AllByRecursion, list_any, list_all}
-use Rattle.std.proofs.lemmas.Bool.{false≢true, not-true, and_parts, and_from}
+use Rattle.std.proofs.lemmas.Bool.{false≢true, not-true, and_parts}
 use Rattle.std.proofs.lemmas.List.Elements.{All-from_recursion, All-contains}
 use Rattle.std.proofs.lemmas.List.Folds.{list_any_at, Any-from_list_any}
 use Rattle.std.proofs.lemmas.List.Sums.{AllPass-from_list_all}
 use Rattle.cov_types.specs.declared.coord.Coord.{Coord}
 use Rattle.cov_types.specs.declared.seg.Seg.{Seg}
+use Rattle.cov_types.specs.Coord.{is_same_coord}
 use Rattle.cov_types.proofs.Equal.{Decides-same_coords, Decides-same_segs}
 use Rattle.crossing_laws.specs.Across.{is_same_seg}
-use Rattle.arrangement.specs.Lines.{is_same_coord}
-use Rattle.arrangement.specs.Examples.{is_same_way}
 
 -- R holds of each element and each later one, by recursion
 abbrev pub PairsByRecursion : {X : Type 0} → (X → X → Type 0) → List X → Type 0
@@ -50,15 +49,12 @@ apart_by_test same reflects (x ∷ xs) h zero (suc j) d before within = λ is.
     false≢true (sym none ∙ list_any_at (same x) xs j d (omega arith) (reflects x (get_or xs j d) is)))
 apart_by_test same reflects (x ∷ xs) h (suc i) (suc j) d before within = apart_by_test same reflects xs (and_parts _ _ h).1 i j d (omega arith) (omega arith)
 
--- grid points, segments and ways that are all different
+-- grid points and segments that are all different
 pub coords_apart : (points : List Coord) → all_apart is_same_coord points ≡ true → AllPairs (λ a b. a ≢ b) points
 coords_apart = apart_by_test is_same_coord (λ a b. (Decides-same_coords a b).1)
 
 pub segs_apart : (segs : List Seg) → all_apart is_same_seg segs ≡ true → AllPairs (λ a b. a ≢ b) segs
 segs_apart = apart_by_test is_same_seg (λ a b. (Decides-same_segs a b).1)
-
-pub ways_apart : (ways : List (Coord × Coord)) → all_apart is_same_way ways ≡ true → AllPairs (λ a b. a ≢ b) ways
-ways_apart = apart_by_test is_same_way (λ a b e. and_from _ _ ((Decides-same_coords a.0 b.0).1 (ap (λ w. w.0) e)) ((Decides-same_coords a.1 b.1).1 (ap (λ w. w.1) e)))
 
 -- ---- lists with the same elements
 
@@ -70,12 +66,6 @@ pub contains_by_test : {X : Type 0} (same : X → X → Bool) → ((a b : X) →
 contains_by_test same decides xs ys h x has =
     let found = Any-from_list_any (same x) ys (All-contains (λ a. list_any (same a) ys ≡ true) xs x (AllPass-from_list_all (λ a. list_any (same a) ys) xs h) has) in
     subst (Contains ys) (sym (decides x found.1 found.4)) (found.0, found.2, found.3)
-
-pub ways_in : (xs ys : List (Coord × Coord)) → all_in is_same_way xs ys ≡ true → (way : Coord × Coord) → Contains xs way → Contains ys way
-ways_in = contains_by_test is_same_way (λ a b h. (let parts = and_parts _ _ h in
-    let first = (Decides-same_coords a.0 b.0).0 parts.0 in
-    let second = (Decides-same_coords a.1 b.1).0 parts.1 in
-    λ i. (first i, second i)))
 
 pub segs_in : (xs ys : List Seg) → all_in is_same_seg xs ys ≡ true → (e : Seg) → Contains xs e → Contains ys e
 segs_in = contains_by_test is_same_seg (λ a b. (Decides-same_segs a b).0)

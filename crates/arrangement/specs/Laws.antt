@@ -1,23 +1,19 @@
 -- The laws that make the definitions of overlays believable.
-use Rattle.std.specs.Prelude.{◌≡◌, ℕ, ◌<◌, ◌↔◌, nat_lt, int_lt, List, length, Option, Some, All, Contains, false}
-use Rattle.std.specs.List.{IsFirstBest}
-use Rattle.cov_types.specs.declared.coord.Coord.{Coord}
+use Rattle.std.specs.Prelude.{◌≡◌, ℕ, ◌<◌, List, All, Contains, false}
 use Rattle.cov_types.specs.declared.edge_use.EdgeUse.{EdgeUse}
 use Rattle.cov_types.specs.declared.seg.Seg.{Seg}
 use Rattle.cov_types.specs.Range.{IsSegInRange}
+use Rattle.cov_types.specs.Uses.{HasEvenEnds}
 use Rattle.plane.specs.Parity.{member_holds}
 use Rattle.plane.specs.Point.{Point}
-use Rattle.plane.specs.Region.{IsSide, AreRegions, far_point}
+use Rattle.plane.specs.Label.{label_at}
+use Rattle.plane.specs.Region.{IsRegionOf, far_point}
 use Rattle.plane.specs.Segment.{upper, lower}
-use Rattle.sector_laws.specs.Sector.{HalfEdge, target, is_in_sector, Leaves, IsPlanar}
-use Rattle.arrangement.specs.declared.candidate.Candidate.{Candidate}
+use Rattle.sector_laws.specs.Sector.{IsPlanar}
 use Rattle.arrangement.specs.declared.odd_use.OddUse.{OddUse}
 use Rattle.arrangement.specs.Noding.{segments, AreEdges, AreLiveEdges, odd_uses, IsNoded}
-use Rattle.arrangement.specs.Overlay.{Overlay}
-use Rattle.arrangement.specs.Measure.{region_area2, border, owned_border}
-use Rattle.arrangement.specs.Gap.{IsClearance, IsNarrow}
-use Rattle.arrangement.specs.Owner.{Rule, least_index, greatest_area, least_area, longest_border, IsOwner}
-use Rattle.arrangement.specs.Parts.{InOnePart, is_in_angle}
+use Rattle.arrangement.specs.Overlay.{Overlay, IsOverlayOf, IsSnappedOverlay, label_of}
+use Rattle.arrangement.specs.Live.{IsLiveOverlay}
 
 -- ---- odd edges
 
@@ -54,66 +50,21 @@ SidesDifferLaw = (uses : List EdgeUse) (edges : List Seg) (odd : List OddUse) �
 abbrev pub FarLaw : Type 0
 FarLaw = (uses : List EdgeUse) → All IsSegInRange (segments uses) → (member : ℕ) → member_holds uses member far_point ≡ false
 
--- ---- numberings
+-- ---- overlays
 
--- two numberings of the regions agree at each side
-abbrev pub NumberingLaw : Type 0
-NumberingLaw = (edges : List Seg) (f g : ℕ → ℕ) → AreRegions edges f → AreRegions edges g → (n : ℕ) (p : Point) → IsSide edges n p → f n ≡ g n
+-- an overlay of uses that have even ends is live, where its edges are in range and meet in ends alone
+abbrev pub LiveOverlayLaw : Type 0
+LiveOverlayLaw = (uses : List EdgeUse) (members : ℕ) (o : Overlay) → IsOverlayOf uses members o → IsPlanar o.edges → HasEvenEnds uses
+    → All (λ u. u.member < members) uses → IsLiveOverlay o
 
--- the measures of region r in both overlays are equal
-pub record HaveSameMeasures (o q : Overlay) (r : ℕ) : Type 0 where
-  pub areas : region_area2 o r ≡ region_area2 q r
-  pub borders : (member : ℕ) → border o r member ≡ border q r member
-  pub owned_borders : (owners : ℕ → Option ℕ) (member : ℕ) → owned_border o owners r member ≡ owned_border q owners r member
+-- the label of a region is that of each of its points
+abbrev pub LabelLaw : Type 0
+LabelLaw = (o : Overlay) → IsLiveOverlay o → (p : Point) (r : ℕ) → IsRegionOf o.edges p r → label_of o r ≡ label_at o.uses o.members p
 
--- so the measures do not depend on the numbering that is taken
-abbrev pub MeasuresLaw : Type 0
-MeasuresLaw = (o : Overlay) (number : ℕ → ℕ) → AreRegions o.edges o.number → AreRegions o.edges number
-    → (r : ℕ) → HaveSameMeasures o (record o { number = number }) r
+-- the uses of so many members have one overlay
+abbrev pub OverlayLaw : Type 0
+OverlayLaw = (uses : List EdgeUse) (members : ℕ) (o q : Overlay) → IsOverlayOf uses members o → IsOverlayOf uses members q → o ≡ q
 
--- ---- clearances
-
--- a region has one clearance at most
-abbrev pub ClearanceLaw : Type 0
-ClearanceLaw = (edges : List Seg) (r v w : ℕ) → IsClearance edges r v → IsClearance edges r w → v ≡ w
-
--- and is narrow at w where w is past its clearance
-abbrev pub NarrowLaw : Type 0
-NarrowLaw = (edges : List Seg) (r c w : ℕ) → IsClearance edges r c → IsNarrow edges r w ↔ (c < w)
-
--- ---- owners
-
--- of candidates, each of the four rules picks the first that is best
-pub record ArePicks (candidates : List Candidate) : Type 0 where
-  pub index : least_index candidates < length candidates
-  pub greatest : IsFirstBest (λ c d. int_lt d.area2 c.area2) candidates (length candidates) (greatest_area candidates)
-  pub least : IsFirstBest (λ c d. int_lt c.area2 d.area2) candidates (length candidates) (least_area candidates)
-  pub longest : IsFirstBest (λ c d. nat_lt d.border c.border) candidates (length candidates) (longest_border candidates)
-
--- of one candidate or more, these are the picks
-abbrev pub PickLaw : Type 0
-PickLaw = (candidates : List Candidate) → 0 < length candidates → ArePicks candidates
-
--- a region has one owner at most
-abbrev pub OwnerLaw : (State : Type 0) → Type 0
-OwnerLaw State = (rule : Rule State) (state : State) (o : Overlay) (w r : ℕ) (a b : Option ℕ)
-    → IsOwner rule state o w r a → IsOwner rule state o w r b → a ≡ b
-
--- ---- parts
-
--- to be in one part is an equivalence on the regions of an owner
-pub record IsPartEquivalence (o : Overlay) (owners : ℕ → Option ℕ) (i : ℕ) : Type 0 where
-  pub itself : (r : ℕ) → owners r ≡ Some i → InOnePart o owners i r r
-  pub back : (r s : ℕ) → InOnePart o owners i r s → InOnePart o owners i s r
-  pub on : (r s t : ℕ) → InOnePart o owners i r s → InOnePart o owners i s t → InOnePart o owners i r t
-
--- and it is so for every owner of every overlay
-abbrev pub PartLaw : Type 0
-PartLaw = (o : Overlay) (owners : ℕ → Option ℕ) (i : ℕ) → IsPartEquivalence o owners i
-
--- ---- angles
-
--- at half-edges that leave a vertex, the angle between two of them is the sector between them
-abbrev pub AngleLaw : Type 0
-AngleLaw = (edges : List Seg) → IsPlanar edges → (v : Coord) (g h k : HalfEdge) → Leaves edges v g → Leaves edges v h → Leaves edges v k
-    → is_in_angle v (target g) (target h) (target k) ≡ is_in_sector g h k
+-- and uses in range one overlay of the snapped members
+abbrev pub SnappedOverlayLaw : Type 0
+SnappedOverlayLaw = (uses : List EdgeUse) → All (λ u. IsSegInRange u.seg) uses → (members : ℕ) (o q : Overlay) → IsSnappedOverlay uses members o → IsSnappedOverlay uses members q → o ≡ q

@@ -1,13 +1,9 @@
+pub mod Ascending
 pub mod Noding
 pub mod Overlay
+pub mod Live
 pub mod Measure
-pub mod Gap
-pub mod Owner
-pub mod Lines
-pub mod Parts
-pub mod Cleaned
 pub mod Laws
 pub mod Examples
 pub mod Snaps
-pub mod Runs
 pub mod Square

@@ -1,4 +1,4 @@
-ghost use Rattle.arrangement.specs.Laws.{OddUsesLaw, LiveUsesLaw, LiveAgainLaw, NodingLaw, SidesDifferLaw, FarLaw, NumberingLaw, MeasuresLaw, ClearanceLaw, NarrowLaw, PickLaw, OwnerLaw, PartLaw, AngleLaw};
+ghost use Rattle.arrangement.specs.Laws.{OddUsesLaw, LiveUsesLaw, LiveAgainLaw, NodingLaw, SidesDifferLaw, FarLaw, OverlayLaw, SnappedOverlayLaw, LiveOverlayLaw, LabelLaw};
 
 /// Members hold points by their odd edges alone. A call does nothing.
 pub fn odd_uses_law()
@@ -18,34 +18,14 @@ pub fn label_law()
     ensures far { FarLaw }
 {}
 
-/// Areas and borders are those of any numbering of the regions. A call does nothing.
-pub fn numbering_law()
-    ensures sides { NumberingLaw }
-    ensures measures { MeasuresLaw }
+/// Uses have one overlay. A call does nothing.
+pub fn overlay_law()
+    ensures one { OverlayLaw }
+    ensures snapped { SnappedOverlayLaw }
 {}
 
-/// A region has one clearance at most, and is narrow where that is passed. A call does nothing.
-pub fn clearance_law()
-    ensures one { ClearanceLaw }
-    ensures narrow { NarrowLaw }
-{}
-
-/// What the four rules pick. A call does nothing.
-pub fn pick_law()
-    ensures { PickLaw }
-{}
-
-/// A region has one owner at most. A call does nothing.
-pub fn owner_law<State>()
-    ensures { OwnerLaw State }
-{}
-
-/// The parts of an owner are disjoint. A call does nothing.
-pub fn part_law()
-    ensures { PartLaw }
-{}
-
-/// The angles at a vertex are the sectors between half-edges. A call does nothing.
-pub fn angle_law()
-    ensures { AngleLaw }
+/// What an overlay of a coverage keeps, and the labels of its regions. A call does nothing.
+pub fn live_overlay_law()
+    ensures live { LiveOverlayLaw }
+    ensures labels { LabelLaw }
 {}

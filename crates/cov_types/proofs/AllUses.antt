@@ -15,7 +15,7 @@ use Rattle.cov_types.specs.declared.edge_use.EdgeUse.{EdgeUse}
 -- ---- lists
 
 -- what holds of the elements of each piece holds of those of the joined list
-All-flat_map : {X A : Type 0} (P : A → Type 0) (f : X → List A) (xs : List X) → All (λ x. All P (f x)) xs → All P (flat_map f xs)
+pub All-flat_map : {X A : Type 0} (P : A → Type 0) (f : X → List A) (xs : List X) → All (λ x. All P (f x)) xs → All P (flat_map f xs)
 All-flat_map P f [] h = All-nil P
 All-flat_map P f (x ∷ xs) h =
     All-append P (f x) (flat_map f xs) (All-head (λ y. All P (f y)) x xs h) (All-flat_map P f xs (All-tail (λ y. All P (f y)) x xs h))
@@ -25,13 +25,13 @@ All-enumerate_from {X} Q xs h k d within =
     let inside : k < length xs = omega (arith, length-enumerate_from 0 xs) in
     subst Q (sym (get_or-enumerate_from 0 xs k d inside ∙ ap (λ (n : ℕ). (n, get_or xs k d.1)) (zero-add k))) (h k d.1 inside)
 
-All-everywhere : {X : Type 0} (P : X → Type 0) (xs : List X) → ((x : X) → P x) → All P xs
+pub All-everywhere : {X : Type 0} (P : X → Type 0) (xs : List X) → ((x : X) → P x) → All P xs
 All-everywhere P xs h = λ k d within. h (get_or xs k d)
 
 -- ---- whose the uses are
 
 -- the uses of a side are of the given member
-side_members : (P : ℕ → Type 0) (n : ℕ) → P n → (side : Coord × Coord) → All (λ u. P u.member) (side_uses n side)
+pub side_members : (P : ℕ → Type 0) (n : ℕ) → P n → (side : Coord × Coord) → All (λ u. P u.member) (side_uses n side)
 side_members P n h side =
     All-map (λ u. P u.member) (λ s. record { member = n; seg = s }) (option_to_list (seg_between side.0 side.1)) (λ k d within. h)
 

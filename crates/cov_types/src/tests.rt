@@ -1,5 +1,6 @@
 use crate::{
-    Coord, Coverage, EdgeUse, LIMIT, Member, Poly, Ring, formed, in_range, same_coverage, uses,
+    Coord, Coverage, EdgeUse, LIMIT, Member, Outline, Poly, Ring, formed, in_range, same_coverage,
+    uses,
 };
 use std::alloc::{AllocError, Global};
 use std::test::Fail;
@@ -54,6 +55,31 @@ fn uses_come_in_the_order_of_members_and_points(rt: HostRuntime) -> Result<(), F
         (2, 0, 0, 0, 3),
     ];
     assert_eq!(rt; list.as_slice(), wanted.as_slice());
+    Ok(())
+}
+
+#[test]
+fn an_outline_has_the_rings_that_have_a_use(rt: HostRuntime) -> Result<(), Fail> {
+    let alloc = rt.alloc();
+    let mut members = Vec::new(alloc);
+    members.push(member(alloc, &[(0, 0), (10, 0), (10, 10), (0, 10)])?)?;
+    // All points are one: the ring has no use.
+    members.push(member(alloc, &[(5, 5), (5, 5), (5, 5)])?)?;
+    members.push(member(alloc, &[(4, 0), (0, 0), (0, 0), (0, 3)])?)?;
+    let c = Coverage { members };
+    assert!(rt; in_range(&c));
+
+    let outline = Outline::build(alloc, &c)?;
+    assert_eq!(rt; outline.uses.len(), 7);
+    let starts: Vec<(i32, i32)> = outline.starts.iter().map(|p| (p.x, p.y)).collect(alloc)?;
+    let wanted = [(0, 0), (10, 0), (10, 10), (0, 10), (4, 0), (0, 0), (0, 3)];
+    assert_eq!(rt; starts.as_slice(), wanted.as_slice());
+    let rings: Vec<(u32, usize, usize)> = outline
+        .rings
+        .iter()
+        .map(|r| (r.member, r.from, r.to))
+        .collect(alloc)?;
+    assert_eq!(rt; rings.as_slice(), [(0, 0, 4), (2, 4, 7)].as_slice());
     Ok(())
 }
 

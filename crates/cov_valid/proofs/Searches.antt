@@ -9,7 +9,7 @@ use Rattle.cov_types.specs.declared.edge_use.EdgeUse.{EdgeUse}
 use Rattle.cov_types.specs.declared.seg.Seg.{Seg}
 use Rattle.cov_valid.proofs.Holding.{member_holds-without}
 use Rattle.cov_valid.specs.Holders.{AreHolders}
-use Rattle.cov_valid.specs.Kinds.{IsMeeting, IsSameSide, IsInside}
+use Rattle.cov_valid.specs.Kinds.{HasBadContact, IsSameSide, IsInside}
 use Rattle.plane.specs.Contact.{MeetsBadly}
 use Rattle.plane.specs.Parity.{member_holds}
 use Rattle.plane.specs.Segment.{midpoint, upper}
@@ -22,10 +22,10 @@ none_among P xs i past none x listed holds = none listed.0 x (omega arith) (omeg
 
 -- ---- a use that meets the segment badly
 
-pub meeting_at : (uses : List EdgeUse) (i : ℕ) (s : Seg) (u : EdgeUse) → i < length uses → u ≡ get_or uses i u → MeetsBadly s u.seg → IsMeeting uses s
+pub meeting_at : (uses : List EdgeUse) (i : ℕ) (s : Seg) (u : EdgeUse) → i < length uses → u ≡ get_or uses i u → MeetsBadly s u.seg → HasBadContact uses s
 meeting_at uses i s u within at bad = record { other = u; listed = subst (Contains uses) (sym at) (Contains-get_or uses i u within); meets = bad }
 
-pub meeting_none : (uses : List EdgeUse) (i : ℕ) (s : Seg) → length uses ≤ i → AllWithin (λ u. ¬ MeetsBadly s u.seg) uses 0 i → ¬ IsMeeting uses s
+pub meeting_none : (uses : List EdgeUse) (i : ℕ) (s : Seg) → length uses ≤ i → AllWithin (λ u. ¬ MeetsBadly s u.seg) uses 0 i → ¬ HasBadContact uses s
 meeting_none uses i s past none w = none_among (λ (u : EdgeUse). MeetsBadly s u.seg) uses i past none w.other w.listed w.meets
 
 -- ---- a use on the same side

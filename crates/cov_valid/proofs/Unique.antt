@@ -1,5 +1,5 @@
 -- A list of uses has one list of marks.
-use Rattle.std.proofs.Common.{◌≡◌, zero, suc, ◌<◌, List, [], ◌∷◌, Contains, refl, sym, ap, ◌∙◌, subst, arith, ◌⊎◌, inl, inr}
+use Rattle.std.proofs.Common.{◌≡◌, ℕ, zero, suc, ◌<◌, List, [], ◌∷◌, Contains, refl, sym, ap, ◌∙◌, subst, arith, ◌⊎◌, inl, inr}
 use Rattle.std.specs.Prelude.{AllPairs}
 use Rattle.cov_types.specs.declared.edge_use.EdgeUse.{EdgeUse}
 use Rattle.cov_valid.specs.Marks.{AreMarks}
@@ -58,6 +58,6 @@ same_ascending (x ∷ xs) (y ∷ ys) up_x up_y there back =
     λ i. first i ∷ rest i
 
 -- two lists of the marks of the same uses are one
-pub AreMarks-unique : (uses : List EdgeUse) (ms ns : List Mark) → AreMarks uses ms → AreMarks uses ns → ms ≡ ns
-AreMarks-unique uses ms ns are others =
+pub AreMarks-unique : (uses : List EdgeUse) (members gap : ℕ) (ms ns : List Mark) → AreMarks uses members gap ms → AreMarks uses members gap ns → ms ≡ ns
+AreMarks-unique uses members gap ms ns are others =
     same_ascending ms ns are.in_order others.in_order (λ m h. (others.exact m).1 ((are.exact m).0 h)) (λ m h. (are.exact m).1 ((others.exact m).0 h))

@@ -9,8 +9,8 @@ use Rattle.plane.specs.Parity.{member_holds}
 use Rattle.plane.specs.Segment.{midpoint, upper}
 use Rattle.plane.specs.Validity.{IsRepeated}
 
--- another segment isn't equal to s and has a point in common with it that isn't an end of both
-pub record IsMeeting (uses : List EdgeUse) (s : Seg) : Type 0 where
+-- another segment of the list isn't equal to s and has a point in common with it that isn't an end of both
+pub record HasBadContact (uses : List EdgeUse) (s : Seg) : Type 0 where
   pub other : EdgeUse
   pub listed : Contains uses other
   pub meets : MeetsBadly s other.seg
@@ -29,13 +29,21 @@ pub record IsInside (uses : List EdgeUse) (s : Seg) : Type 0 where
   pub without : ¬ Contains uses (record { member = member; seg = s })
   pub held : member_holds uses member (midpoint s) ≡ true
 
--- the use is at fault in this kind: the first that applies
-abbrev pub IsOfKind : List EdgeUse → EdgeUse → Kind → Type 0
-IsOfKind uses edge Meets = IsMeeting uses edge.seg
-IsOfKind uses edge Repeated = ¬ IsMeeting uses edge.seg × IsRepeated uses edge
-IsOfKind uses edge SameSide = ¬ IsMeeting uses edge.seg × ¬ IsRepeated uses edge × IsSameSide uses edge
-IsOfKind uses edge Inside = ¬ IsMeeting uses edge.seg × ¬ IsRepeated uses edge × ¬ IsSameSide uses edge × IsInside uses edge.seg
+-- the fault of the use is of this kind: the first of the four that applies
+abbrev pub IsFaultOf : List EdgeUse → EdgeUse → Kind → Type 0
+IsFaultOf uses edge Meets = HasBadContact uses edge.seg
+IsFaultOf uses edge Repeated = ¬ HasBadContact uses edge.seg × IsRepeated uses edge
+IsFaultOf uses edge SameSide = ¬ HasBadContact uses edge.seg × ¬ IsRepeated uses edge × IsSameSide uses edge
+IsFaultOf uses edge Inside = ¬ HasBadContact uses edge.seg × ¬ IsRepeated uses edge × ¬ IsSameSide uses edge × IsInside uses edge.seg
 
--- the use is at fault in no kind
+-- none of the four applies to the use
 abbrev pub IsFaultless : List EdgeUse → EdgeUse → Type 0
-IsFaultless uses edge = (kind : Kind) → ¬ IsOfKind uses edge kind
+IsFaultless uses edge = (kind : Kind) → ¬ IsFaultOf uses edge kind
+
+-- none of the four applies to any use of the list
+abbrev pub AreFaultless : List EdgeUse → Type 0
+AreFaultless uses = (edge : EdgeUse) → Contains uses edge → IsFaultless uses edge
+
+-- among so many members and at this gap width the use is marked with this kind: at the width 0 these are the faults alone
+abbrev pub IsOfKind : List EdgeUse → ℕ → ℕ → EdgeUse → Kind → Type 0
+IsOfKind uses members gap edge kind = IsFaultOf uses edge kind

@@ -1,6 +1,6 @@
 ghost use Rattle.std.specs.Prelude.{◌≡◌, ◌<◌, ◌^◌, ◌↔◌, IfOk, All, Contains, IsTrue, MatchOption, length, slice_get};
 ghost use Rattle.cov_types.specs.Range.{IsSegInRange};
-ghost use Rattle.cov_valid.specs.Kinds.{IsMeeting, IsSameSide, IsInside, IsOfKind, IsFaultless};
+ghost use Rattle.cov_valid.specs.Kinds.{HasBadContact, IsSameSide, IsInside, IsFaultOf, IsFaultless};
 ghost use Rattle.plane.specs.Validity.{IsRepeated};
 
 use crate::holders::{holders_above, holders_of_middle};
@@ -10,10 +10,10 @@ use grid_pred::meets_badly;
 use std::alloc::Global;
 
 // Whether another segment meets this one badly.
-fn is_meeting(uses: &[EdgeUse], s: Seg) -> bool
+fn has_bad_contact(uses: &[EdgeUse], s: Seg) -> bool
     requires segments { All (λ u. IsSegInRange u.seg) uses.now }
     requires in_range { IsSegInRange s }
-    ensures { IsTrue result ↔ IsMeeting uses.now s }
+    ensures { IsTrue result ↔ HasBadContact uses.now s }
 {
     for other in uses {
         if meets_badly(s, other.seg) {
@@ -104,9 +104,9 @@ pub fn kind_of(
     requires count { members < 2 ^ 32 }
     requires in_range { IsSegInRange edge.seg }
     requires member { edge.member < members }
-    ensures { IfOk result (λ kind. MatchOption kind (IsFaultless uses.now edge) (IsOfKind uses.now edge)) }
+    ensures { IfOk result (λ kind. MatchOption kind (IsFaultless uses.now edge) (IsFaultOf uses.now edge)) }
 {
-    if is_meeting(uses, edge.seg) {
+    if has_bad_contact(uses, edge.seg) {
         return Ok(Some(Kind::Meets));
     }
     if is_repeated(uses, edge) {

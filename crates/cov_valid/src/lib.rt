@@ -5,10 +5,12 @@
 
 mod holders;
 mod kinds;
+mod laws;
 mod mark;
 #[cfg(test)]
 mod tests;
 mod validator;
 
+pub use laws::marks_law;
 pub use mark::{Kind, Mark};
 pub use validator::marks;

@@ -12,7 +12,7 @@ use std::alloc::Global;
 pub fn marks(alloc: Global, c: &Coverage, gap: u32) -> Result<Vec<Mark>, NoMemory>
     requires in_range { AllInRange c.now }
     requires no_gap { gap ≡ 0 }
-    ensures exact { IfOk result (λ v. AreMarks (uses_of c.now) v.items) }
+    ensures exact { IfOk result (λ v. AreMarks (uses_of c.now) (length c.now) gap v.items) }
 
     // Every mark has the place of a use and the number of a member.
     ensures places { IfOk result (λ v. All (λ m. m.place < length (uses_of c.now)) v.items) }

@@ -14,15 +14,14 @@ use Rattle.crossing_laws.specs.Across.{is_same_seg}
 use Rattle.crossing_laws.proofs.Lists.{contains_here, contains_there}
 use Rattle.arrangement.specs.declared.odd_use.OddUse.{OddUse}
 use Rattle.arrangement.specs.Noding.{IsOdd, snapped_uses, AreLiveEdges, IsNoded, odd_uses}
-use Rattle.arrangement.specs.Overlay.{Overlay}
-use Rattle.arrangement.specs.Cleaned.{IsSnappedOverlay}
+use Rattle.arrangement.specs.Overlay.{Overlay, IsSnappedOverlay}
 use Rattle.owner_label.specs.Labelled.{Labelled, IsOverlay}
 use Rattle.arrangement.proofs.OddUses.{some_passes, live_again_law}
 use Rattle.snap_noder.proofs.ParityLemmas.{contains_mapped}
 
 -- the overlay of live edges and their odd uses, with so many members and a numbering of the regions
-abbrev pub overlay_of : List Seg → List OddUse → ℕ → (ℕ → ℕ) → Overlay
-overlay_of edges odd members number = record { edges = edges; uses = odd_uses edges odd; members = members; number = number }
+abbrev pub overlay_of : List Seg → List OddUse → ℕ → List ℕ → Overlay
+overlay_of edges odd members numbers = record { edges = edges; uses = odd_uses edges odd; members = members; numbers = numbers }
 
 -- ---- members
 
@@ -61,16 +60,16 @@ module _ (uses : List EdgeUse) (members : ℕ) (edges live : List Seg) (odd live
       let u = snapped_member _ uses are.chains are.are_chains v.0 (subst (λ (us : List EdgeUse). Contains us v.0) are.made v.1.0) in
       subst (λ m. m < members) (u.1.1 ∙ v.1.1) (All-contains (λ (w : EdgeUse). w.member < members) uses u.0 all u.1.0)
 
-  pub snapped_overlay : (number : ℕ → ℕ) → AreRegions live number → IsSnappedOverlay uses members (overlay_of live live_odd members number)
-  snapped_overlay number numbered = record {
+  pub snapped_overlay : (numbers : List ℕ) → AreRegions live numbers → IsSnappedOverlay uses members (overlay_of live live_odd members numbers)
+  snapped_overlay numbers numbered = record {
     snapped = noded.snapped;
     are_snapped = noded.are_snapped;
     overlay = record { odd = live_odd; live = of_snapped; by_odd = refl; count = refl; numbered = numbered };
   }
 
 -- the labels of live edges are those of this overlay
-pub is_overlay_of : (l : Labelled) (edges : List Seg) (odd : List OddUse) (members : ℕ) (number : ℕ → ℕ) → l ≡ record { edges = edges; odd = odd } → All (λ o. o.member < members) odd → AreRegions edges number
-    → IsOverlay l (overlay_of edges odd members number)
-is_overlay_of l edges odd members number same all numbered =
-    let whole : IsOverlay (record { edges = edges; odd = odd }) (overlay_of edges odd members number) = record { edges = refl; uses = refl; members = all; numbered = numbered } in
-    subst (λ (k : Labelled). IsOverlay k (overlay_of edges odd members number)) (sym same) whole
+pub is_overlay_of : (l : Labelled) (edges : List Seg) (odd : List OddUse) (members : ℕ) (numbers : List ℕ) → l ≡ record { edges = edges; odd = odd } → All (λ o. o.member < members) odd → AreRegions edges numbers
+    → IsOverlay l (overlay_of edges odd members numbers)
+is_overlay_of l edges odd members numbers same all numbered =
+    let whole : IsOverlay (record { edges = edges; odd = odd }) (overlay_of edges odd members numbers) = record { edges = refl; uses = refl; members = all; numbered = numbered } in
+    subst (λ (k : Labelled). IsOverlay k (overlay_of edges odd members numbers)) (sym same) whole

@@ -13,11 +13,11 @@ use Rattle.plane.specs.Point.{Point}
 use Rattle.plane.specs.Region.{IsSide, IsOuter, IsRegionOf, IsOuterRegion}
 use Rattle.plane.specs.Segment.{upper, lower}
 use Rattle.crossing_laws.proofs.Located.{one_region}
-use Rattle.arrangement.specs.Overlay.{Overlay, IsRegion, label_of}
+use Rattle.arrangement.specs.Overlay.{Overlay, region_at, region_numbers, IsRegion, label_of}
 use Rattle.arrangement.specs.Measure.{region_area2}
 use Rattle.owner_label.specs.Labelled.{Labelled, IsOverlay}
 use Rattle.snap_noder.proofs.Zip.{zip_push}
-use Rattle.cover_cli.specs.Regions.{IsRow, AreRows, region_numbers}
+use Rattle.cover_cli.specs.Regions.{IsRow, AreRows}
 use Rattle.cover_cli.specs.Rows.{outer_row, inner_row}
 
 -- ---- which regions there are
@@ -38,14 +38,14 @@ own_region edges n r within region same =
 -- a region that is not that of the outer points is not outer
 pub not_outer : (edges : List Seg) (outer : Option ℕ) (r : ℕ) → IsNone outer ↔ (edges ≡ []) → IfSome outer (λ k. (p : Point) → IsOuter edges p → IsRegionOf edges p k)
     → option_eq ◌==◌ outer (Some r) ≡ false → IsRegion edges r → ¬ IsOuterRegion edges r
-not_outer edges None r none region other is_region outer = no_sides edges (none.0 refl) (outer.side)
+not_outer edges None r none region other is_region outer = no_sides edges (none.0 refl) (outer.outer.side)
   where
-    no_sides : (es : List Seg) → es ≡ [] → IsSide es r outer.at → ⊥
-    no_sides es empty side = (let at : None ≡ Some outer.at = subst (λ (fs : List Seg). IsSide fs r outer.at) empty side in cc)
+    no_sides : (es : List Seg) → es ≡ [] → IsSide es r outer.outer.at → ⊥
+    no_sides es empty side = (let at : None ≡ Some outer.outer.at = subst (λ (fs : List Seg). IsSide fs r outer.outer.at) empty side in cc)
 not_outer edges (Some k) r none region other is_region outer =
-    let same : is_region.at ≡ outer.at = cc (is_region.side, outer.side) in
-    let own : IsRegionOf edges outer.at r = subst (λ (p : Point). IsRegionOf edges p r) same is_region.own in
-    false≢true (sym other ∙ (Decides-eqb k r).1 (one_region edges outer.at k r (region outer.at outer.outer) own))
+    let same : is_region.at ≡ outer.outer.at = cc (is_region.side, outer.outer.side) in
+    let own : IsRegionOf edges outer.outer.at r = subst (λ (p : Point). IsRegionOf edges p r) same is_region.own in
+    false≢true (sym other ∙ (Decides-eqb k r).1 (one_region edges outer.outer.at k r (region outer.outer.at outer.outer.outer) own))
 
 -- ---- one row
 
@@ -69,43 +69,43 @@ inner_appended r l edges region label area2 before after same inner labels areas
 -- ---- the regions below a number
 
 abbrev pub regions_below : Overlay → ℕ → List ℕ
-regions_below o n = filter (λ r. o.number r == r) (numbers_below n)
+regions_below o n = filter (λ r. region_at o r == r) (numbers_below n)
 
 module _ (o : Overlay) where
-  one : (r : ℕ) (b : Bool) → (o.number r == r) ≡ b → filter (λ q. o.number q == q) (r ∷ []) ≡ cond b (r ∷ []) []
+  one : (r : ℕ) (b : Bool) → (region_at o r == r) ≡ b → filter (λ q. region_at o q == q) (r ∷ []) ≡ cond b (r ∷ []) []
   one r true h = rw h refl
   one r false h = rw h refl
 
-  next : (n : ℕ) → regions_below o (n + 1) ≡ regions_below o n ++ filter (λ q. o.number q == q) (n ∷ [])
-  next n = ap (regions_below o) (add-one n) ∙ filter-append (λ q. o.number q == q) (numbers_below n) (n ∷ [])
+  next : (n : ℕ) → regions_below o (n + 1) ≡ regions_below o n ++ filter (λ q. region_at o q == q) (n ∷ [])
+  next n = ap (regions_below o) (add-one n) ∙ filter-append (λ q. region_at o q == q) (numbers_below n) (n ∷ [])
 
   pub rows_start : (text : List ℕ) → text ≡ [] → AreRows o (regions_below o 0) text
   rows_start text empty = record { rows = []; each = tt; lines = empty }
 
   -- the number is that of a region, and its row comes next
-  pub rows_more : (n : ℕ) (before after line : List ℕ) → o.number n ≡ n → AreRows o (regions_below o n) before → IsRow o n line → after ≡ before ++ line → AreRows o (regions_below o (n + 1)) after
+  pub rows_more : (n : ℕ) (before after line : List ℕ) → region_at o n ≡ n → AreRows o (regions_below o n) before → IsRow o n line → after ≡ before ++ line → AreRows o (regions_below o (n + 1)) after
   rows_more n before after line region so_far row appended =
-      let more : regions_below o (n + 1) ≡ regions_below o n ++ n ∷ [] = next n ∙ ap (λ rs. regions_below o n ++ rs) (here (eqb_tells (o.number n) n)) in
+      let more : regions_below o (n + 1) ≡ regions_below o n ++ n ∷ [] = next n ∙ ap (λ rs. regions_below o n ++ rs) (here (eqb_tells (region_at o n) n)) in
       subst (λ (rs : List ℕ). AreRows o rs after) (sym more) (record {
         rows = so_far.rows ++ line ∷ [];
         each = zip_push (IsRow o) (regions_below o n) so_far.rows n line so_far.each row;
         lines = appended ∙ (λ i. so_far.lines i ++ sym (append-nil line) i) ∙ sym (concat-append so_far.rows (line ∷ []));
       })
     where
-      here : (((o.number n == n) ≡ true) × (o.number n ≡ n)) ⊎ (((o.number n == n) ≡ false) × (¬ (o.number n ≡ n))) → filter (λ q. o.number q == q) (n ∷ []) ≡ n ∷ []
+      here : (((region_at o n == n) ≡ true) × (region_at o n ≡ n)) ⊎ (((region_at o n == n) ≡ false) × (¬ (region_at o n ≡ n))) → filter (λ q. region_at o q == q) (n ∷ []) ≡ n ∷ []
       here (inl same) = one n true same.0
       here (inr other) = absurd (other.1 region)
 
   -- the number is that of no region
-  pub rows_same : (n : ℕ) (text : List ℕ) → ¬ (o.number n ≡ n) → AreRows o (regions_below o n) text → AreRows o (regions_below o (n + 1)) text
+  pub rows_same : (n : ℕ) (text : List ℕ) → ¬ (region_at o n ≡ n) → AreRows o (regions_below o n) text → AreRows o (regions_below o (n + 1)) text
   rows_same n text none so_far = subst (λ (rs : List ℕ). AreRows o rs text) (sym same_ones) so_far
     where
-      here : (((o.number n == n) ≡ true) × (o.number n ≡ n)) ⊎ (((o.number n == n) ≡ false) × (¬ (o.number n ≡ n))) → filter (λ q. o.number q == q) (n ∷ []) ≡ []
+      here : (((region_at o n == n) ≡ true) × (region_at o n ≡ n)) ⊎ (((region_at o n == n) ≡ false) × (¬ (region_at o n ≡ n))) → filter (λ q. region_at o q == q) (n ∷ []) ≡ []
       here (inl same) = absurd (none same.1)
       here (inr other) = one n false other.0
 
       same_ones : regions_below o (n + 1) ≡ regions_below o n
-      same_ones = next n ∙ ap (λ rs. regions_below o n ++ rs) (here (eqb_tells (o.number n) n)) ∙ append-nil (regions_below o n)
+      same_ones = next n ∙ ap (λ rs. regions_below o n ++ rs) (here (eqb_tells (region_at o n) n)) ∙ append-nil (regions_below o n)
 
   -- at the end the regions are all
   pub rows_all : (n : ℕ) (text : List ℕ) → n ≡ 2 * length o.edges → AreRows o (regions_below o n) text → AreRows o (region_numbers o) text

@@ -1,20 +1,14 @@
 -- What listing the regions of a coverage answers and writes.
-use Rattle.std.specs.Prelude.{◌≡◌, ◌⊎◌, ℕ, ◌*◌, ◌==◌, List, length, filter}
+use Rattle.std.specs.Prelude.{◌≡◌, ◌⊎◌, ℕ, List, length}
 use Rattle.std.specs.List.{AllZip, concat}
-use Rattle.arrangement.specs.Cleaned.{IsSnappedOverlay}
 use Rattle.arrangement.specs.Measure.{region_area2}
-use Rattle.arrangement.specs.Overlay.{Overlay, label_of}
+use Rattle.arrangement.specs.Overlay.{Overlay, region_numbers, label_of, IsSnappedOverlay}
 use Rattle.cov_types.specs.declared.coord.Coord.{Coord}
 use Rattle.cov_types.specs.Uses.{uses_of}
 use Rattle.cover_cli.specs.Rows.{outer_row, inner_row}
 use Rattle.cover_cli.specs.declared.outcome.Outcome.{Outcome}
 use Rattle.cover_cli.specs.declared.outcome.Outcome.TheVariants.{Done}
-use Rattle.plane.specs.Label.{numbers_below}
 use Rattle.plane.specs.Region.{IsOuterRegion}
-
--- the numbers of the regions, ascending: each is that of the least side of its region
-abbrev pub region_numbers : Overlay → List ℕ
-region_numbers o = filter (λ r. o.number r == r) (numbers_below (2 * length o.edges))
 
 -- the line is the row of the region
 abbrev pub IsRow : Overlay → ℕ → List ℕ → Type 0

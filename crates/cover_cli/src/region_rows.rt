@@ -1,7 +1,7 @@
 ghost use Rattle.std.specs.Prelude.{◌≡◌, ◌++◌, List, ℕ, IfOk, OnOk};
-ghost use Rattle.arrangement.specs.Overlay.{Overlay, IsRegion};
+ghost use Rattle.arrangement.specs.Overlay.{Overlay, region_numbers, IsRegion};
 ghost use Rattle.owner_label.specs.Labelled.{IsOverlay};
-ghost use Rattle.cover_cli.specs.Regions.{IsRow, AreRows, region_numbers};
+ghost use Rattle.cover_cli.specs.Regions.{IsRow, AreRows};
 
 use crate::rows::{append_inner_row, append_outer_row};
 use cov_types::NoMemory;

@@ -1,9 +1,13 @@
--- The region of a point, by the points that are joined with it.
-use Rattle.std.proofs.Common.{◌≡◌, sym, subst, ℕ, List, le_antisymm}
+-- The region of a point, by the points that are joined with it, and the one numbering of the regions.
+use mathlib.Core.List.{[], ◌∷◌}
+use Rattle.std.proofs.Common.{◌≡◌, refl, sym, ◌∙◌, subst, ℕ, zero, suc, ◌*◌, ◌<◌, List, length, le_antisymm, arith}
+use Rattle.std.proofs.lemmas.List.{ext_get_or}
+use Rattle.std.proofs.lemmas.Option.{none-some}
 use Rattle.cov_types.specs.declared.seg.Seg.{Seg}
 use Rattle.plane.specs.Point.{Point}
 use Rattle.plane.specs.Joined.{Joined}
-use Rattle.plane.specs.Region.{IsSide, IsJoinedSide, IsRegionOf}
+use Rattle.plane.specs.Region.{IsSide, IsJoinedSide, IsRegionOf, AreRegions}
+use Rattle.plane.specs.Segment.{upper, lower}
 use Rattle.crossing_laws.proofs.Ways.{joined-sym, joined-trans}
 
 -- a side whose side point is joined with p is one for each point joined with p
@@ -27,3 +31,22 @@ pub same_region : (edges : List Seg) (p q : Point) (r : ℕ) → IsRegionOf edge
 same_region edges p q r h k =
     let same = one_side edges r h.joined.at k.joined.at h.joined.side k.joined.side in
     joined-trans edges p h.joined.at q h.joined.joined (joined-sym edges q h.joined.at (subst (λ at. Joined edges q at) (sym same) k.joined.joined))
+
+-- ---- the sides, and their numbers
+
+pub side_at : (edges : List Seg) (n : ℕ) → n < 2 * length edges → (p : Point) × IsSide edges n p
+side_at [] n within = absurd (omega arith)
+side_at (e ∷ edges) zero within = (upper e, refl)
+side_at (e ∷ edges) (suc zero) within = (lower e, refl)
+side_at (e ∷ edges) (suc (suc n)) within = side_at edges n (omega arith)
+
+pub side_within : (edges : List Seg) (n : ℕ) (p : Point) → IsSide edges n p → n < 2 * length edges
+side_within [] n p at = absurd (none-some p at)
+side_within (e ∷ edges) zero p at = omega arith
+side_within (e ∷ edges) (suc zero) p at = omega arith
+side_within (e ∷ edges) (suc (suc n)) p at = let rest = side_within edges n p at in omega arith
+
+pub one_numbering : (edges : List Seg) (numbers others : List ℕ) → AreRegions edges numbers → AreRegions edges others → numbers ≡ others
+one_numbering edges numbers others h k =
+    ext_get_or 0 numbers others (h.count ∙ sym k.count)
+    (λ n within. (let count = h.count in let (p, at) = side_at edges n (omega arith) in one_region edges p _ _ (h.each n p at) (k.each n p at)))

@@ -12,7 +12,8 @@
 //! - `Windows`, `Tests`, `OneEdge`: what changes at one edge along a way that misses it (`one_edge`).
 //! - `Ways`: joined points are an equivalence (`joined-refl`, `joined-sym`, `joined-trans`), under other fractions (`joined-same`)
 //!   and fewer edges (`joined-fewer`); what each clear step keeps, joined points share (`joined_keep`). `Separated`: a way
-//!   and edges on two sides of a line (`separated`). `Located`: the region of a point.
+//!   and edges on two sides of a line (`separated`). `Located`: the region of a point (`one_region`,
+//!   `same_region`), the sides (`side_at`, `side_within`), and the one list of their regions (`one_numbering`).
 //! - `Sums`: the law (`crossing_sum-joined`) and its parity forms (`parity-joined`, `holds-joined`, `member_holds-joined`,
 //!   `label-joined`). `Rings`: the sides of closed rings are balanced. `Coverages`: edges in range rise, and the law of a coverage.
 //! - `Beside`: nothing that meets an edge in ends alone comes between its side points (`side_points_clear`). `Changes`: from one

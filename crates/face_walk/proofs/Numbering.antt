@@ -9,11 +9,12 @@ use Rattle.components.proofs.Numbers.{same_component}
 use Rattle.components.proofs.Ways.{connected-tied, connected-within}
 use Rattle.plane.specs.Point.{Point}
 use Rattle.plane.specs.Joined.{Joined}
-use Rattle.plane.specs.Region.{far_point, IsSide, IsOuter, IsJoinedSide, IsRegionOf, AreRegions}
+use Rattle.plane.specs.Region.{far_point, IsSide, IsOuter, IsJoinedSide, IsRegionOf}
 use Rattle.crossing_laws.proofs.Located.{region-joined}
 use Rattle.crossing_laws.proofs.Ways.{joined-trans, joined-sym}
 use Rattle.sector_laws.specs.Sector.{left, IsPlanar, AreDistinct}
 use Rattle.sector_laws.proofs.Numbers.{some_number, half_edge_among, half_edge_side}
+use Rattle.region_laws.specs.Laws.{AreSideRegions}
 use Rattle.region_laws.specs.Linked.{IsWalk}
 use Rattle.region_laws.proofs.Links.{link_out}
 use Rattle.region_laws.proofs.Numbered.{fewer_links_regions, outer_number}
@@ -94,7 +95,7 @@ module _ (edges : List Seg) (planar : IsPlanar edges) (distinct : AreDistinct ed
         },
       )
 
-  regions : AreRegions edges number
+  regions : AreSideRegions edges number
   regions = fewer_links_regions edges planar distinct number outer walk joined_side
 
   -- ---- the outer region
@@ -104,9 +105,12 @@ module _ (edges : List Seg) (planar : IsPlanar edges) (distinct : AreDistinct ed
       let region : IsRegionOf edges p outer = subst (λ r. IsRegionOf edges p r) (outer_number edges planar distinct number outer walk n p at outside) (regions n p at) in
       record {
         outer = record {
-          at = region.joined.at;
-          side = region.joined.side;
-          outer = joined-trans edges region.joined.at p far_point (joined-sym edges p region.joined.at region.joined.joined) outside;
+          outer = record {
+            at = region.joined.at;
+            side = region.joined.side;
+            outer = joined-trans edges region.joined.at p far_point (joined-sym edges p region.joined.at region.joined.joined) outside;
+          };
+          least = λ m h. region.least m (record { at = h.at; side = h.side; joined = joined-trans edges p far_point h.at outside (joined-sym edges h.at far_point h.outer) });
         };
         region = λ q outer_q. region-joined edges p q outer (joined-trans edges p far_point q outside (joined-sym edges q far_point outer_q)) region;
       }

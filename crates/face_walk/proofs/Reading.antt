@@ -2,7 +2,7 @@
 use mathlib.Core.List.{List, [], ◌∷◌, ◌++◌}
 use Rattle.std.proofs.Common.{◌≡◌, refl, sym, ◌∙◌, ap, subst, ℕ, zero, suc, ◌+◌, ◌-◌, ◌*◌, ◌/◌, ◌<◌, ◌==◌, ◌↔◌, Bool, true, false, cond, length, take, Some, slice_get, get_or, slice_index, count_by, arith}
 use Rattle.std.proofs.lemmas.Bool.Decides.{nat_tests}
-use Rattle.std.proofs.lemmas.List.{get_or_read, take_more}
+use Rattle.std.proofs.lemmas.List.{get_or-take, get_or_read, length-take-le, take_more}
 use Rattle.std.proofs.lemmas.Option.{get_or_from_slice_get}
 use Rattle.std.proofs.lemmas.List.Sums.{sum_by_push}
 use Rattle.cov_types.specs.declared.seg.Seg.{Seg}
@@ -10,10 +10,9 @@ use Rattle.plane.specs.Label.{numbers_below}
 use Rattle.plane.specs.Point.{Point}
 use Rattle.plane.specs.Joined.{Joined}
 use Rattle.plane.specs.Region.{IsSide, IsRegionOf, AreRegions}
-use Rattle.crossing_laws.proofs.Located.{region-joined, same_region}
-use Rattle.region_laws.proofs.Numbered.{one_numbering}
+use Rattle.crossing_laws.proofs.Located.{region-joined, one_region, same_region}
 use Rattle.face_walk.specs.Numbers.{IsOutermost, AreNumbered}
-use Rattle.face_walk.proofs.Places.{some_side}
+use Rattle.face_walk.proofs.Places.{some_side, side_within}
 
 pub numbered-shown : (edges shown : List Seg) (table : List ℕ) → edges ≡ shown → AreNumbered edges table → AreNumbered shown table
 numbered-shown edges shown table same h = subst (λ es. AreNumbered es table) same h
@@ -38,8 +37,8 @@ module _ (edges : List Seg) (table : List ℕ) (numbered : AreNumbered edges tab
   pub side_joined : (other : ℕ) (p q : Point) → IsSide edges side p → IsSide edges other q → IsRegionOf edges q r ↔ Joined edges p q
   side_joined other p q at_p at_q = (λ k. same_region edges p q r (side_region p at_p) k, λ j. region-joined edges p q r j (side_region p at_p))
 
-  pub side_numbering : (number : ℕ → ℕ) → AreRegions edges number → r ≡ number side
-  side_numbering number h = (let (p, at_p) = some_side edges side below in is_number ∙ one_numbering edges (λ n. slice_index table n) number numbered.regions h side p at_p)
+  pub side_numbering : (numbers : List ℕ) → AreRegions edges numbers → r ≡ slice_index numbers side
+  side_numbering numbers h = (let (p, at_p) = some_side edges side below in one_region edges p r (slice_index numbers side) (side_region p at_p) (h.each side p at_p))
 
 -- ---- the outer region
 
@@ -78,8 +77,18 @@ count_same f g zero h = refl
 count_same f g (suc n) h =
     count_suc f n ∙ (λ i. count_same f g n (λ k below. h k (omega (arith, below))) i + cond (h n (omega arith) i) 1 0) ∙ sym (count_suc g n)
 
-pub count_numbered : (edges : List Seg) (table : List ℕ) → AreNumbered edges table → (number : ℕ → ℕ) → AreRegions edges number
-    → count_by (λ n. slice_index table n == n) (numbers_below (2 * length edges)) ≡ count_by (λ n. number n == n) (numbers_below (2 * length edges))
-count_numbered edges table numbered number h =
-    count_same (λ n. slice_index table n == n) (λ n. number n == n) (2 * length edges)
-    (λ k below. (let (p, at) = some_side edges k below in ap (λ m. m == k) (one_numbering edges (λ n. slice_index table n) number numbered.regions h k p at)))
+pub count_numbered : (edges : List Seg) (table : List ℕ) → AreNumbered edges table → (numbers : List ℕ) → AreRegions edges numbers
+    → count_by (λ n. slice_index table n == n) (numbers_below (2 * length edges)) ≡ count_by (λ n. slice_index numbers n == n) (numbers_below (2 * length edges))
+count_numbered edges table numbered numbers h =
+    count_same (λ n. slice_index table n == n) (λ n. slice_index numbers n == n) (2 * length edges)
+    (λ k below. (let (p, at) = some_side edges k below in ap (λ m. m == k) (one_region edges p (slice_index table k) (slice_index numbers k) (numbered.regions k p at) (h.each k p at))))
+
+-- the numbers of the sides alone, without the last
+pub side_numbers : (edges : List Seg) (table : List ℕ) → AreNumbered edges table → (numbers : List ℕ) × AreRegions edges numbers
+side_numbers edges table numbered = (
+  take (2 * length edges) table,
+  record {
+    count = (let count = numbered.count in length-take-le (2 * length edges) table (omega arith));
+    each = λ n p at. subst (λ r. IsRegionOf edges p r) (sym (get_or-take (2 * length edges) table n 0 (side_within edges n p at))) (numbered.regions n p at);
+  },
+)

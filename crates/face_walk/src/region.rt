@@ -1,4 +1,4 @@
-ghost use Rattle.std.specs.Prelude.{◌≡◌, ℕ, ◌*◌, ◌<◌, ◌≤◌, ◌==◌, ◌↔◌, [], length, count_by, List, IfOk, IfSome, IsNone};
+ghost use Rattle.std.specs.Prelude.{◌≡◌, ℕ, ◌*◌, ◌<◌, ◌≤◌, ◌==◌, ◌↔◌, [], length, slice_index, count_by, List, IfOk, IfSome, IsNone};
 ghost use Rattle.cov_types.specs.declared.seg.Seg.{Seg};
 ghost use Rattle.plane.specs.Joined.{Joined};
 ghost use Rattle.plane.specs.Label.{numbers_below};
@@ -53,7 +53,7 @@ impl Regions {
 
         // Another side has this region exactly where its side point is joined with that of this one.
         ensures joined { (other : ℕ) (p q : Point) → IsSide self.now side p → IsSide self.now other q → IsRegionOf self.now q result ↔ Joined self.now p q }
-        ensures numbering { (number : ℕ → ℕ) → AreRegions self.now number → result ≡ number side }
+        ensures numbering { (numbers : List ℕ) → AreRegions self.now numbers → result ≡ slice_index numbers side }
     {
         self.least[side]
     }
@@ -75,10 +75,10 @@ impl Regions {
 
     /// How many regions have a side. Takes time in proportion to the edges.
     pub fn count(&self) -> usize
-        ensures count { (number : ℕ → ℕ) → AreRegions self.now number → result ≡ count_by (λ n. number n == n) (numbers_below (2 * length self.now)) }
+        ensures count { (numbers : List ℕ) → AreRegions self.now numbers → result ≡ count_by (λ n. slice_index numbers n == n) (numbers_below (2 * length self.now)) }
 
         // The regions have numbers, and the edges are those of an arena.
-        ensures numbered { (number : ℕ → ℕ) × AreRegions self.now number }
+        ensures numbered { (numbers : List ℕ) × AreRegions self.now numbers }
         ensures planar { IsPlanar self.now }
         ensures distinct { AreDistinct self.now }
     {

@@ -2,7 +2,7 @@
 use Rattle.std.proofs.Common.{◌≡◌, ◌⊎◌, inl, inr, refl, sym, ◌∙◌, ap, subst, ℤ, pos, ◌<ℤ◌, Bool, true, false, IsTrue, ◌↔◌, FitsSigned, to_z, of_z, arith}
 use Rattle.std.proofs.lemmas.Int.{to_z-of_z}
 use Rattle.std.specs.Ordering.{partial_lt}
-use mir.Syntax.{w128}
+use mir.Syntax.{w64}
 use Rattle.integer_laws.proofs.Ring.{lin}
 use Rattle.integer_laws.proofs.Compare.{lt_or_ge, le_cases}
 use Rattle.cov_types.specs.declared.coord.Coord.{Coord}
@@ -45,32 +45,32 @@ opposite_from x y n =
       ]
     ]
 
--- ---- what the tests of the code say of two turns u and v, which are held in 128 bits as x and y
+-- ---- what the tests of the code say of two turns u and v, which are held in 64 bits as x and y
 
-passed : (P : ℤ → ℤ → Type 0) (x y u v : ℤ) → FitsSigned w128 x → FitsSigned w128 y → x ≡ u → y ≡ v → P (to_z w128 (of_z w128 x)) (to_z w128 (of_z w128 y)) → P u v
-passed P x y u v f g e k h = subst (λ z. P u z) (to_z-of_z w128 y g ∙ k) (subst (λ z. P z (to_z w128 (of_z w128 y))) (to_z-of_z w128 x f ∙ e) h)
+passed : (P : ℤ → ℤ → Type 0) (x y u v : ℤ) → FitsSigned w64 x → FitsSigned w64 y → x ≡ u → y ≡ v → P (to_z w64 (of_z w64 x)) (to_z w64 (of_z w64 y)) → P u v
+passed P x y u v f g e k h = subst (λ z. P u z) (to_z-of_z w64 y g ∙ k) (subst (λ z. P z (to_z w64 (of_z w64 y))) (to_z-of_z w64 x f ∙ e) h)
 
-one_side_passed : (x y u v : ℤ) (b : Bool) → FitsSigned w128 x → FitsSigned w128 y → x ≡ u → y ≡ v
-    → IsTrue b ↔ AreOnOneSide (to_z w128 (of_z w128 x)) (to_z w128 (of_z w128 y)) → IsTrue b ↔ AreOnOneSide u v
+one_side_passed : (x y u v : ℤ) (b : Bool) → FitsSigned w64 x → FitsSigned w64 y → x ≡ u → y ≡ v
+    → IsTrue b ↔ AreOnOneSide (to_z w64 (of_z w64 x)) (to_z w64 (of_z w64 y)) → IsTrue b ↔ AreOnOneSide u v
 one_side_passed x y u v b = passed (λ z w. IsTrue b ↔ AreOnOneSide z w) x y u v
 
-pub one_side_told : (x y u v : ℤ) (b : Bool) → FitsSigned w128 x → FitsSigned w128 y → x ≡ u → y ≡ v
-    → IsTrue b ↔ AreOnOneSide (to_z w128 (of_z w128 x)) (to_z w128 (of_z w128 y)) → b ≡ true → AreOnOneSide u v
+pub one_side_told : (x y u v : ℤ) (b : Bool) → FitsSigned w64 x → FitsSigned w64 y → x ≡ u → y ≡ v
+    → IsTrue b ↔ AreOnOneSide (to_z w64 (of_z w64 x)) (to_z w64 (of_z w64 y)) → b ≡ true → AreOnOneSide u v
 one_side_told x y u v b f g e k told h = (one_side_passed x y u v b f g e k told).0 h
 
-pub opposite_told : (x y u v : ℤ) (b : Bool) → FitsSigned w128 x → FitsSigned w128 y → x ≡ u → y ≡ v
-    → IsTrue b ↔ AreOnOneSide (to_z w128 (of_z w128 x)) (to_z w128 (of_z w128 y)) → b ≡ false → AreOpposite u v
+pub opposite_told : (x y u v : ℤ) (b : Bool) → FitsSigned w64 x → FitsSigned w64 y → x ≡ u → y ≡ v
+    → IsTrue b ↔ AreOnOneSide (to_z w64 (of_z w64 x)) (to_z w64 (of_z w64 y)) → b ≡ false → AreOpposite u v
 opposite_told x y u v b f g e k told h = opposite_from u v (λ side. absurd (let t = (one_side_passed x y u v b f g e k told).1 side in cc))
 
-pub end_told : (x y u v : ℤ) (b : Bool) → FitsSigned w128 x → FitsSigned w128 y → x ≡ u → y ≡ v
-    → IsTrue b ↔ ((to_z w128 (of_z w128 x) ≡ pos 0) ⊎ (to_z w128 (of_z w128 y) ≡ pos 0)) → IsTrue b ↔ ((u ≡ pos 0) ⊎ (v ≡ pos 0))
+pub end_told : (x y u v : ℤ) (b : Bool) → FitsSigned w64 x → FitsSigned w64 y → x ≡ u → y ≡ v
+    → IsTrue b ↔ ((to_z w64 (of_z w64 x) ≡ pos 0) ⊎ (to_z w64 (of_z w64 y) ≡ pos 0)) → IsTrue b ↔ ((u ≡ pos 0) ⊎ (v ≡ pos 0))
 end_told x y u v b = passed (λ z w. IsTrue b ↔ ((z ≡ pos 0) ⊎ (w ≡ pos 0))) x y u v
 
-pub equal_told : (x y u v : ℤ) → FitsSigned w128 x → FitsSigned w128 y → x ≡ u → y ≡ v → of_z w128 x ≡ of_z w128 y → u ≡ v
-equal_told x y u v f g e k h = sym e ∙ sym (to_z-of_z w128 x f) ∙ ap (to_z w128) h ∙ to_z-of_z w128 y g ∙ k
+pub equal_told : (x y u v : ℤ) → FitsSigned w64 x → FitsSigned w64 y → x ≡ u → y ≡ v → of_z w64 x ≡ of_z w64 y → u ≡ v
+equal_told x y u v f g e k h = sym e ∙ sym (to_z-of_z w64 x f) ∙ ap (to_z w64) h ∙ to_z-of_z w64 y g ∙ k
 
-pub unequal_told : (x y u v : ℤ) → x ≡ u → y ≡ v → (of_z w128 x ≡ of_z w128 y → ⊥) → ¬ (u ≡ v)
-unequal_told x y u v e k n h = n (ap (of_z w128) (e ∙ h ∙ sym k))
+pub unequal_told : (x y u v : ℤ) → x ≡ u → y ≡ v → (of_z w64 x ≡ of_z w64 y → ⊥) → ¬ (u ≡ v)
+unequal_told x y u v e k n h = n (ap (of_z w64) (e ∙ h ∙ sym k))
 
 -- ---- one common point
 

@@ -1,10 +1,9 @@
 -- Whether a grid point is below, on or above a segment along the ray, by its side.
 use mathlib.Core.List.{[], ◌∷◌}
 use Rattle.std.proofs.Common.{◌≡◌, refl, sym, ◌∙◌, ap, ℕ, ◌+◌, ◌≤◌, ◌^◌, ℤ, pos, ◌+ℤ◌, ◌-ℤ◌, ◌*ℤ◌, ◌<ℤ◌, ◌≤ℤ◌, ◌↔◌, subst, FitsSigned, Ordering, Less, Equal, Greater, int_cmp, arith}
-use Rattle.std.proofs.lemmas.Int.{to_z-of_z}
 use Rattle.std.proofs.lemmas.Cmp.{int_ranked}
 use Rattle.std.specs.Ordering.{MatchOrdering}
-use mir.Syntax.{w128}
+use mir.Syntax.{w64}
 use Rattle.integer_laws.proofs.Ring.{lin, by_one, by_two, Term, Var, Lit, ◌⊕◌, ◌⊖◌, ◌⊗◌, mul_zero, mul_one, one_mul}
 use Rattle.integer_laws.proofs.Compare.{lt_irrefl, lt_trans, lt_excludes_eq}
 use Rattle.integer_laws.proofs.Cast.{natural}
@@ -12,13 +11,13 @@ use Rattle.integer_laws.proofs.Sign.{positive_times_positive, positive_times_neg
 use Rattle.cov_types.specs.declared.coord.Coord.{Coord}
 use Rattle.cov_types.specs.declared.seg.Seg.{Seg}
 use Rattle.plane.specs.Point.{Point, at_coord}
-use Rattle.plane.specs.Segment.{IsOn, turn_of, side}
+use Rattle.plane.specs.Segment.{IsOn, side}
 use Rattle.plane.specs.Ray.{sweep, Rises}
 use Rattle.plane.proofs.Points.{d_positive, between_by}
 use Rattle.plane.proofs.Sides.{side_zero-on, side-at_coord}
 use Rattle.plane.proofs.Along.{on_from_turn}
-use Rattle.grid_pred.specs.Along.{IsBelow, IsAbove}
-use Rattle.grid_pred.proofs.Small.{read}
+use Rattle.grid_pred.specs.Along.{LiesBelow, LiesAbove}
+use Rattle.grid_pred.proofs.Small.{read, read_is}
 
 -- ---- over plain variables: k is 2^30; lx, ly and hx, hy are the ends, px, py a grid point, rx, ry, rd a point of the segment
 
@@ -83,7 +82,7 @@ gap_is s p r on level =
 
 -- ---- below and above
 
-below-side : (s : Seg) (p : Coord) → Rises s → IsBelow (at_coord p) s → side s (at_coord p) <ℤ pos 0
+below-side : (s : Seg) (p : Coord) → Rises s → LiesBelow (at_coord p) s → side s (at_coord p) <ℤ pos 0
 below-side s p rises b =
     let r = b.at in
     let gap = gap_is s p r b.on b.beyond.on_line in
@@ -92,7 +91,7 @@ below-side s p rises b =
     let positive = d_positive r in
     negative_factor (pos r.d) (side s (at_coord p)) (omega (arith, lin)) (omega (arith, lin))
 
-side-below : (s : Seg) (p : Coord) → Rises s → HasLevel s p → side s (at_coord p) <ℤ pos 0 → IsBelow (at_coord p) s
+side-below : (s : Seg) (p : Coord) → Rises s → HasLevel s p → side s (at_coord p) <ℤ pos 0 → LiesBelow (at_coord p) s
 side-below s p rises at below =
     let r = at.at in
     let gap = gap_is s p r at.on at.level in
@@ -100,7 +99,7 @@ side-below s p rises at below =
     let left = negative_factor (sweep (at_coord s.hi) -ℤ sweep (at_coord s.lo)) ((r.x *ℤ pos 1) -ℤ (p.x *ℤ pos r.d)) (omega (arith, lin)) (omega (arith, lin)) in
     record { at = r; on = at.on; beyond = record { on_line = at.level; further = omega (arith, lin) } }
 
-above-side : (s : Seg) (p : Coord) → Rises s → IsAbove (at_coord p) s → pos 0 <ℤ side s (at_coord p)
+above-side : (s : Seg) (p : Coord) → Rises s → LiesAbove (at_coord p) s → pos 0 <ℤ side s (at_coord p)
 above-side s p rises a =
     let r = a.at in
     let gap = gap_is s p r a.on (sym a.beyond.on_line) in
@@ -109,7 +108,7 @@ above-side s p rises a =
     let positive = d_positive r in
     positive_factor (pos r.d) (side s (at_coord p)) (omega (arith, lin)) (omega (arith, lin))
 
-side-above : (s : Seg) (p : Coord) → Rises s → HasLevel s p → pos 0 <ℤ side s (at_coord p) → IsAbove (at_coord p) s
+side-above : (s : Seg) (p : Coord) → Rises s → HasLevel s p → pos 0 <ℤ side s (at_coord p) → LiesAbove (at_coord p) s
 side-above s p rises at above =
     let r = at.at in
     let gap = gap_is s p r at.on at.level in
@@ -124,23 +123,23 @@ abbrev pub TellsSide : Seg → Coord → Ordering → Type 0
 TellsSide s p r = MatchOrdering r (side s (at_coord p) <ℤ pos 0) (side s (at_coord p) ≡ pos 0) (pos 0 <ℤ side s (at_coord p))
 
 -- the turn, as its bits are read again, against 0
-pub tells_side : (s : Seg) (p : Coord) (t : ℤ) (r : Ordering) → FitsSigned w128 t → t ≡ turn_of s.lo s.hi p → r ≡ int_cmp (read t) (pos 0) → TellsSide s p r
+pub tells_side : (s : Seg) (p : Coord) (t : ℤ) (r : Ordering) → FitsSigned w64 t → t ≡ side s (at_coord p) → r ≡ int_cmp (read w64 t) (pos 0) → TellsSide s p r
 tells_side s p t r fits turn is =
-    subst (λ x. MatchOrdering r (x <ℤ pos 0) (x ≡ pos 0) (pos 0 <ℤ x)) (to_z-of_z w128 t fits ∙ turn ∙ sym (side-at_coord s p)) (int_ranked (read t) (pos 0) r is)
+    subst (λ x. MatchOrdering r (x <ℤ pos 0) (x ≡ pos 0) (pos 0 <ℤ x)) (read_is w64 t _ fits turn) (int_ranked (read w64 t) (pos 0) r is)
 
 -- ---- a point within the segment's sweep range
 
 module _ (s : Seg) (p : Coord) (rises : Rises s) (from : sweep (at_coord s.lo) ≤ℤ sweep (at_coord p)) (to : sweep (at_coord p) ≤ℤ sweep (at_coord s.hi)) where
-  below-is : IsBelow (at_coord p) s ↔ (side s (at_coord p) <ℤ pos 0)
+  below-is : LiesBelow (at_coord p) s ↔ (side s (at_coord p) <ℤ pos 0)
   below-is = (below-side s p rises, side-below s p rises (level-of s p rises from to))
 
   on-zero : IsOn s (at_coord p) ↔ (side s (at_coord p) ≡ pos 0)
   on-zero = (side_zero-on s (at_coord p), λ zero. on_from_turn s p rises (sym (side-at_coord s p) ∙ zero) from to)
 
-  above-is : IsAbove (at_coord p) s ↔ (pos 0 <ℤ side s (at_coord p))
+  above-is : LiesAbove (at_coord p) s ↔ (pos 0 <ℤ side s (at_coord p))
   above-is = (above-side s p rises, side-above s p rises (level-of s p rises from to))
 
-  pub less-below : (r : Ordering) → TellsSide s p r → (r ≡ Less) ↔ IsBelow (at_coord p) s
+  pub less-below : (r : Ordering) → TellsSide s p r → (r ≡ Less) ↔ LiesBelow (at_coord p) s
   less-below Less h = (λ _. below-is.1 h, λ _. refl)
   less-below Equal h = (λ e. absurd (cc), λ b. absurd (lt_excludes_eq (below-is.0 b) h))
   less-below Greater h = (λ e. absurd (cc), λ b. absurd (lt_irrefl (lt_trans h (below-is.0 b))))
@@ -150,7 +149,7 @@ module _ (s : Seg) (p : Coord) (rises : Rises s) (from : sweep (at_coord s.lo) �
   equal-on Equal h = (λ _. on-zero.1 h, λ _. refl)
   equal-on Greater h = (λ e. absurd (cc), λ on. absurd (lt_excludes_eq h (sym (on-zero.0 on))))
 
-  pub greater-above : (r : Ordering) → TellsSide s p r → (r ≡ Greater) ↔ IsAbove (at_coord p) s
+  pub greater-above : (r : Ordering) → TellsSide s p r → (r ≡ Greater) ↔ LiesAbove (at_coord p) s
   greater-above Less h = (λ e. absurd (cc), λ a. absurd (lt_irrefl (lt_trans h (above-is.0 a))))
   greater-above Equal h = (λ e. absurd (cc), λ a. absurd (lt_excludes_eq (above-is.0 a) (sym h)))
   greater-above Greater h = (λ _. above-is.1 h, λ _. refl)

@@ -1,8 +1,12 @@
-mod Wide
+mod Turns
 mod Vectors
-mod Small
+pub mod Small
+pub mod Sizes
 pub mod Order
 mod BySides
+pub mod Upper
+mod UnderTests
+mod Nearer
 mod Weighted
 mod MeetingPoint
 mod Heights

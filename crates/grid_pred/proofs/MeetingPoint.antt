@@ -1,17 +1,15 @@
 -- The point in which two segments cross: the mean of the ends of the one with their distances from the other as weights.
 use mathlib.Core.List.{[], ◌∷◌}
 use Rattle.std.proofs.Common.{◌≡◌, inl, inr, sym, ◌∙◌, ap, refl, ℕ, ◌^◌, ℤ, pos, neg_ℤ, ◌+ℤ◌, ◌-ℤ◌, ◌*ℤ◌, ◌<ℤ◌, ◌≤ℤ◌, unsigned_abs, subst, FitsSigned, lit<, arith}
-use Rattle.std.proofs.lemmas.Int.{to_z-of_z}
-use mir.Syntax.{w128}
-use Rattle.integer_laws.proofs.Ring.{lin, by_three, Term, Var, Lit, ◌⊕◌, ◌⊖◌, ◌⊗◌, Neg, mul_add, mul_comm}
+use mir.Syntax.{w64}
+use Rattle.integer_laws.proofs.Ring.{lin, by_three, Var, Lit, ◌⊕◌, ◌⊖◌, ◌⊗◌, Neg, mul_add, mul_comm}
 use Rattle.integer_laws.proofs.Cast.{int_casts, positive_natural}
 use Rattle.integer_laws.proofs.Compare.{le_cases, le_of_lt, apart_cases}
 use Rattle.integer_laws.proofs.Order.{mul_le, cancel_lt_right}
-use Rattle.integer_laws.proofs.Bound.{IsWithin, by_bound, within_fits, within_neg, abs_within}
+use Rattle.integer_laws.proofs.Bound.{IsWithin, within_fits, within_neg, abs_within}
 use Rattle.cov_types.specs.declared.coord.TheConstants.{LIMIT}
-use Rattle.cov_types.specs.declared.coord.Coord.{Coord}
 use Rattle.cov_types.specs.declared.seg.Seg.{Seg}
-use Rattle.cov_types.specs.Range.{IsInRange, IsSegInRange}
+use Rattle.cov_types.specs.Range.{IsSegInRange}
 use Rattle.plane.specs.declared.contact.Contact.TheVariants.{Bad}
 use Rattle.plane.specs.declared.contact.Badness.TheVariants.{Cross}
 use Rattle.plane.specs.Point.{Point, SamePoint, at_coord}
@@ -27,7 +25,7 @@ use Rattle.plane.proofs.Meeting.{AreOpposite, turns-balance, equal_opposite, onl
 use Rattle.plane.proofs.Along.{overlapping}
 use Rattle.grid_pred.specs.declared.cross.Cross.{Cross as CrossPoint}
 use Rattle.grid_pred.specs.Crossing.{IsCrossing, at_cross, IsCrossInRange}
-use Rattle.grid_pred.proofs.Small.{read}
+use Rattle.grid_pred.proofs.Small.{read, read_is}
 use Rattle.grid_pred.proofs.BySides.{one_side_apart, opposite_from}
 
 -- ---- segments that cross are not parallel
@@ -162,31 +160,11 @@ mean_in_range s m n c range small_m small_n hm hn mean =
 
 -- ---- its weights are small
 
--- a turn in range
-abbrev turn_term : Term
-turn_term = (Var 2 ⊖ Var 0) ⊗ (Var 5 ⊖ Var 1) ⊖ (Var 3 ⊖ Var 1) ⊗ (Var 4 ⊖ Var 0)
+pub negation_fits : (x z : ℤ) → FitsSigned w64 x → x ≡ z → IsWithin (2 ^ 59) z → FitsSigned w64 (neg_ℤ (read w64 x))
+negation_fits x z fits e h = subst (λ v. FitsSigned w64 (neg_ℤ v)) (sym (read_is w64 x z fits e)) (within_fits w64 (lit< tt) (within_neg h))
 
-in_limit_x : (c : Coord) → IsInRange c → IsWithin (2 ^ 28) c.x
-in_limit_x c h = let left = h.left in let right = h.right in record { low = omega (arith, lin); high = omega (arith, lin) }
+pub distance_is : (x z d : ℤ) → FitsSigned w64 x → FitsSigned w64 d → x ≡ z → d ≡ pos (unsigned_abs (read w64 x)) → read w64 d ≡ pos (unsigned_abs z)
+distance_is x z d fits fits_d e k = read_is w64 d _ fits_d (k ∙ ap (λ v. pos (unsigned_abs v)) (read_is w64 x z fits e))
 
-in_limit_y : (c : Coord) → IsInRange c → IsWithin (2 ^ 28) c.y
-in_limit_y c h = let bottom = h.bottom in let top = h.top in record { low = omega (arith, lin); high = omega (arith, lin) }
-
-pub turn_small : (t : Seg) (c : Coord) → IsSegInRange t → IsInRange c → IsWithin (2 ^ 59) (turn_of t.lo t.hi c)
-unfolding turn_of
-turn_small t c rt rc =
-    by_bound (2 ^ 28 ∷ 2 ^ 28 ∷ 2 ^ 28 ∷ 2 ^ 28 ∷ 2 ^ 28 ∷ 2 ^ 28 ∷ []) (t.lo.x ∷ t.lo.y ∷ t.hi.x ∷ t.hi.y ∷ c.x ∷ c.y ∷ []) turn_term
-    (in_limit_x t.lo rt.lo, (in_limit_y t.lo rt.lo, (in_limit_x t.hi rt.hi, (in_limit_y t.hi rt.hi, (in_limit_x c rc, (in_limit_y c rc, tt))))))
-
-pub negation_fits : (x z : ℤ) → x ≡ z → IsWithin (2 ^ 59) z → FitsSigned w128 (neg_ℤ (read x))
-negation_fits x z e h =
-    let fits : FitsSigned w128 x = subst (FitsSigned w128) (sym e) (within_fits w128 (lit< tt) h) in
-    simp to_z-of_z (subst (λ v. FitsSigned w128 (neg_ℤ v)) (sym e) (within_fits w128 (lit< tt) (within_neg h)))
-
-pub distance_small : (x z d : ℤ) → x ≡ z → IsWithin (2 ^ 59) z → d ≡ pos (unsigned_abs (read x)) → IsWithin (2 ^ 59) (read d)
-distance_small x z d e h k =
-    let fits : FitsSigned w128 x = subst (FitsSigned w128) (sym e) (within_fits w128 (lit< tt) h) in
-    let size : d ≡ pos (unsigned_abs z) = k ∙ ap (λ v. pos (unsigned_abs v)) (to_z-of_z w128 x fits ∙ e) in
-    let small : IsWithin (2 ^ 59) d = subst (IsWithin (2 ^ 59)) (sym size) (record { low = omega (arith, lin); high = omega (arith, lin, abs_within h) }) in
-    let fits_d : FitsSigned w128 d = within_fits w128 (lit< tt) small in
-    simp to_z-of_z small
+pub distance_small : (z : ℤ) → IsWithin (2 ^ 59) z → IsWithin (2 ^ 59) (pos (unsigned_abs z))
+distance_small z h = record { low = omega (arith, lin); high = omega (arith, lin, abs_within h) }

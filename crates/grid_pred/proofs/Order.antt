@@ -2,7 +2,7 @@
 use Rattle.std.proofs.Common.{◌≡◌, sym, ◌∙◌, ap, ℤ, pos, ◌≤ℤ◌, ◌<ℤ◌, Bool, not, true, false, refl, IsTrue, FitsSigned, of_z, inl, inr, arith}
 use Rattle.std.proofs.lemmas.Int.{ints}
 use Rattle.std.specs.Ordering.{partial_le, partial_lt}
-use mir.Syntax.{w128}
+use mir.Syntax.{w64}
 use Rattle.integer_laws.proofs.Ring.{lin}
 use Rattle.integer_laws.proofs.Compare.{lt_or_ge}
 use Rattle.cov_types.specs.declared.coord.Coord.{Coord}
@@ -50,8 +50,8 @@ not_lt_from a b ra rb h =
       | inr g ↦ g
     ]
 
--- a number of 128 bits is 0 where its bits are
-pub zero_from_bits : (z : ℤ) → FitsSigned w128 z → of_z w128 z ≡ 0 → z ≡ pos 0
+-- a number of 64 bits is 0 where its bits are
+pub zero_from_bits : (z : ℤ) → FitsSigned w64 z → of_z w64 z ≡ 0 → z ≡ pos 0
 zero_from_bits z fits h = omega (arith, ints)
 
 -- the test of `on_segment`

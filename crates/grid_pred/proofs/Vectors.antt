@@ -8,6 +8,7 @@ use Rattle.cov_types.specs.declared.seg.Seg.{Seg}
 use Rattle.plane.specs.Point.{Point, at_coord}
 use Rattle.plane.specs.Segment.{side}
 use Rattle.plane.specs.Ray.{sweep, is_over}
+use Rattle.plane.specs.Below.{sweep_rise}
 use Rattle.plane.proofs.Over.{over-is}
 use Rattle.plane.proofs.Same.{same_tests}
 use Rattle.grid_pred.specs.declared.ray.RationalPoint.{RationalPoint}
@@ -25,6 +26,14 @@ rise_is c q =
     by_ring (pos (2 ^ 30) ∷ c.x ∷ c.y ∷ q.x ∷ q.y ∷ pos q.d ∷ [])
     (Var 0 ⊗ (Var 3 ⊖ Var 1 ⊗ Var 5) ⊕ (Var 4 ⊖ Var 2 ⊗ Var 5))
     ((Var 0 ⊗ Var 3 ⊕ Var 4) ⊖ (Var 0 ⊗ Var 1 ⊕ Var 2) ⊗ Var 5) refl
+
+-- how much the sweep value grows along a segment, by its width and its height
+pub rise_by : (s : Seg) (x y : ℤ) → x ≡ s.hi.x -ℤ s.lo.x → y ≡ s.hi.y -ℤ s.lo.y → (pos (2 ^ 30) *ℤ x) +ℤ y ≡ sweep_rise s
+unfolding sweep
+rise_by s x y is_x is_y =
+    (λ i. (pos (2 ^ 30) *ℤ is_x i) +ℤ is_y i)
+    ∙ by_ring (pos (2 ^ 30) ∷ s.lo.x ∷ s.lo.y ∷ s.hi.x ∷ s.hi.y ∷ [])
+    (Var 0 ⊗ (Var 3 ⊖ Var 1) ⊕ (Var 4 ⊖ Var 2)) ((Var 0 ⊗ Var 3 ⊕ Var 4) ⊖ (Var 0 ⊗ Var 1 ⊕ Var 2)) refl
 
 -- v leads from c to p, times the denominator of p
 pub record Leads (c : Coord) (p : RationalPoint) (v : Vector) : Type 0 where

@@ -4,9 +4,9 @@ ghost use Rattle.cov_types.specs.Range.{IsInRange, IsSegInRange};
 ghost use Rattle.plane.specs.Point.{at_coord};
 ghost use Rattle.plane.specs.Segment.{IsOn, side};
 ghost use Rattle.plane.specs.Ray.{sweep};
-ghost use Rattle.grid_pred.specs.Along.{IsBelow, IsAbove};
+ghost use Rattle.grid_pred.specs.Along.{LiesBelow, LiesAbove};
 
-use crate::orientation::turn;
+use crate::orientation::turn_to;
 use cov_types::{Coord, Seg};
 use std::cmp::Ordering;
 
@@ -17,9 +17,9 @@ pub fn below(p: Coord, s: Seg) -> Ordering
     requires segment_in_range { IsSegInRange s }
     requires from { sweep (at_coord s.lo) ≤ℤ sweep (at_coord p) }
     requires to { sweep (at_coord p) ≤ℤ sweep (at_coord s.hi) }
-    ensures less { (result ≡ Ordering.Less) ↔ IsBelow (at_coord p) s }
+    ensures less { (result ≡ Ordering.Less) ↔ LiesBelow (at_coord p) s }
     ensures equal { (result ≡ Ordering.Equal) ↔ IsOn s (at_coord p) }
-    ensures greater { (result ≡ Ordering.Greater) ↔ IsAbove (at_coord p) s }
+    ensures greater { (result ≡ Ordering.Greater) ↔ LiesAbove (at_coord p) s }
 
     // The side of the point is negative, zero or positive.
     ensures side { MatchOrdering result
@@ -27,5 +27,5 @@ pub fn below(p: Coord, s: Seg) -> Ordering
         (side s (at_coord p) ≡ pos 0)
         (pos 0 <ℤ side s (at_coord p)) }
 {
-    turn(s.lo, s.hi, p).cmp(&0)
+    turn_to(s, p).cmp(&0)
 }

@@ -6,8 +6,9 @@ ghost use Rattle.plane.specs.Segment.{turn_of};
 ghost use Rattle.grid_pred.specs.Crossing.{at_cross, IsCrossInRange, IsCrossing};
 
 use crate::cross::Cross;
+use crate::exact::wide_product;
 use crate::meeting::relation;
-use crate::orientation::turn;
+use crate::orientation::turn_to;
 use cov_types::{Coord, Seg};
 use plane::{Badness, Contact};
 
@@ -46,17 +47,17 @@ fn meeting_point(s: Seg, t: Seg) -> Cross
 }
 
 // How far c is from the line of t, times the length of t.
-fn distance(t: Seg, c: Coord) -> i128
+fn distance(t: Seg, c: Coord) -> i64
     requires segment_in_range { IsSegInRange t }
     requires point_in_range { IsInRange c }
     ensures exact { result ≡ pos (unsigned_abs (turn_of t.lo t.hi c)) }
     ensures small { IsWithin (2 ^ 59) result }
 {
-    turn(t.lo, t.hi, c).abs()
+    turn_to(t, c).abs()
 }
 
 // The mean of the ends of s with these weights.
-fn mean_of_ends(s: Seg, lo: i128, hi: i128) -> Cross
+fn mean_of_ends(s: Seg, lo: i64, hi: i64) -> Cross
     requires in_range { IsSegInRange s }
     requires lo_small { IsWithin (2 ^ 59) lo }
     requires hi_small { IsWithin (2 ^ 59) hi }
@@ -68,16 +69,16 @@ fn mean_of_ends(s: Seg, lo: i128, hi: i128) -> Cross
     Cross {
         num_x: weighted_sum(lo, s.lo.x, hi, s.hi.x),
         num_y: weighted_sum(lo, s.lo.y, hi, s.hi.y),
-        den: lo + hi,
+        den: (lo + hi) as i128,
     }
 }
 
-fn weighted_sum(m: i128, a: i32, n: i128, b: i32) -> i128
+fn weighted_sum(m: i64, a: i32, n: i64, b: i32) -> i128
     requires m_small { IsWithin (2 ^ 59) m }
     requires a_small { IsWithin (2 ^ 28) a }
     requires n_small { IsWithin (2 ^ 59) n }
     requires b_small { IsWithin (2 ^ 28) b }
     ensures { result ≡ (m *ℤ a) +ℤ (n *ℤ b) }
 {
-    m * a as i128 + n * b as i128
+    wide_product(m, a as i64) + wide_product(n, b as i64)
 }

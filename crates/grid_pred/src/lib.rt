@@ -11,12 +11,14 @@
 
 mod along;
 mod cross;
+pub mod exact;
 mod incidence;
 mod intersection;
 mod measure;
 mod meeting;
 mod orientation;
 mod ray;
+mod under;
 
 pub use along::below;
 pub use cross::Cross;
@@ -24,9 +26,10 @@ pub use incidence::on_segment;
 pub use intersection::crossing;
 pub use measure::{edge_len, root};
 pub use meeting::{meets_badly, relation};
-pub use orientation::turn;
+pub use orientation::{turn, turn_in_range, turn_to};
 pub use plane::{Badness, Contact};
-pub use ray::{over, over_mid, over_upper};
+pub use ray::{over, over_mid, over_upper, rise};
+pub use under::{is_nearer, is_under};
 
 #[cfg(test)]
 mod tests;

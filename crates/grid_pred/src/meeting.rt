@@ -4,7 +4,7 @@ ghost use Rattle.grid_pred.specs.Sides.{AreOnOneSide, contact_of_ends};
 ghost use Rattle.plane.specs.Contact.{IsContact, MeetsBadly, is_bad};
 ghost use Rattle.plane.specs.Segment.{turn_of};
 
-use crate::orientation::turn;
+use crate::orientation::turn_to;
 use cov_types::Seg;
 use plane::{Badness, Contact};
 
@@ -17,13 +17,13 @@ pub fn relation(s: Seg, t: Seg) -> Contact
     // A contact is bad just where the segments differ and share a point that is not an end of both.
     ensures bad { IsTrue (is_bad result) ↔ MeetsBadly s t }
 {
-    let t_lo = turn(s.lo, s.hi, t.lo);
-    let t_hi = turn(s.lo, s.hi, t.hi);
+    let t_lo = turn_to(s, t.lo);
+    let t_hi = turn_to(s, t.hi);
     if are_on_one_side(t_lo, t_hi) {
         return Contact::Apart;
     }
-    let s_lo = turn(t.lo, t.hi, s.lo);
-    let s_hi = turn(t.lo, t.hi, s.hi);
+    let s_lo = turn_to(t, s.lo);
+    let s_hi = turn_to(t, s.hi);
     if are_on_one_side(s_lo, s_hi) {
         return Contact::Apart;
     }
@@ -64,14 +64,14 @@ fn relation_on_line(s: Seg, t: Seg) -> Contact
 }
 
 // Whether two points whose turns against a line these are lie strictly on one side of it.
-fn are_on_one_side(a: i128, b: i128) -> bool
+fn are_on_one_side(a: i64, b: i64) -> bool
     ensures { IsTrue result ↔ AreOnOneSide a b }
 {
     (a > 0 && b > 0) || (a < 0 && b < 0)
 }
 
 // Whether an end of a segment is on a line, by the turns of its ends against that line.
-fn is_end_on_line(lo: i128, hi: i128) -> bool
+fn is_end_on_line(lo: i64, hi: i64) -> bool
     ensures { IsTrue result ↔ ((lo ≡ pos 0) ⊎ (hi ≡ pos 0)) }
 {
     lo == 0 || hi == 0

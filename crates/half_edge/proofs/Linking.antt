@@ -10,28 +10,28 @@ use Rattle.half_edge.specs.Arena.{IsNextTable}
 use Rattle.half_edge.specs.Departures.{IsDeparture, AreDepartures}
 use Rattle.half_edge.specs.Directed.{half_edge_to}
 use Rattle.half_edge.specs.declared.departure.Departure.{Departure}
-use Rattle.half_edge.specs.declared.directed.HalfEdgeId.{HalfEdgeId}
+use Rattle.half_edge.specs.declared.side.Side.{Side}
 use Rattle.sector_laws.specs.Sector.{twin, IsHalfEdge, IsNextNumber, AreDistinct}
 use Rattle.sector_laws.proofs.Next.{twin-twin}
 use Rattle.sector_laws.proofs.Numbers.{one_number, one_half_edge, half_edge_among, some_number}
 
 -- for the twins of the first departures the table has the half-edges that follow
-abbrev pub AreLinked : List Seg → List Departure → ℕ → List HalfEdgeId → Type 0
-AreLinked edges list count table = (j : ℕ) (d : Departure) (w : ℕ) (id : HalfEdgeId) → j < count → slice_get list j ≡ Some d → IsHalfEdge edges w (twin (half_edge_to d.direction)) → slice_get table w ≡ Some id
+abbrev pub AreLinked : List Seg → List Departure → ℕ → List Side → Type 0
+AreLinked edges list count table = (j : ℕ) (d : Departure) (w : ℕ) (id : Side) → j < count → slice_get list j ≡ Some d → IsHalfEdge edges w (twin (half_edge_to d.direction)) → slice_get table w ≡ Some id
     → IsNextNumber edges w id.number
 
-pub linked-none : (edges : List Seg) (list : List Departure) (table : List HalfEdgeId) → AreLinked edges list 0 table
+pub linked-none : (edges : List Seg) (list : List Departure) (table : List Side) → AreLinked edges list 0 table
 linked-none edges list table = λ j d w id within. absurd (omega arith)
 
 -- one more link
-pub linked-more : (edges : List Seg) → AreDistinct edges → (list : List Departure) (i : ℕ) (a : Departure) → slice_get list i ≡ Some a → (table : List HalfEdgeId) (m : ℕ) (g : HalfEdgeId)
+pub linked-more : (edges : List Seg) → AreDistinct edges → (list : List Departure) (i : ℕ) (a : Departure) → slice_get list i ≡ Some a → (table : List Side) (m : ℕ) (g : Side)
     → IsHalfEdge edges m (twin (half_edge_to a.direction)) → IsNextNumber edges m g.number → AreLinked edges list i table → AreLinked edges list (i + 1) (set table m g)
 linked-more edges distinct list i a here table m g at_m next old =
     λ j d w id within at at_w read.
     elim (cases_eq w m) [
       | inl same ↦ (
           let is : g ≡ id = read_same table m g id (subst (λ n. slice_get (set table m g) n ≡ Some id) same read) in
-          subst (λ n. IsNextNumber edges n id.number) (sym same) (subst (λ (x : HalfEdgeId). IsNextNumber edges m x.number) is next)
+          subst (λ n. IsNextNumber edges n id.number) (sym same) (subst (λ (x : Side). IsNextNumber edges m x.number) is next)
           )
       | inr other ↦ elim (cases_lt j i) [
         | inl early ↦ old j d w id early at at_w (read_other table m w g id other read)
@@ -44,7 +44,7 @@ linked-more edges distinct list i a here table m g at_m next old =
     ]
 
 -- each half-edge is the twin of a departure
-pub linked-all : (edges : List Seg) (list : List Departure) (count : ℕ) (table : List HalfEdgeId) → AreDepartures edges list → length list ≤ count → length table ≡ 2 * length edges
+pub linked-all : (edges : List Seg) (list : List Departure) (count : ℕ) (table : List Side) → AreDepartures edges list → length list ≤ count → length table ≡ 2 * length edges
     → AreLinked edges list count table → IsNextTable edges table
 linked-all edges list count table all long size linked =
     record {

@@ -13,7 +13,7 @@ use Rattle.half_edge.proofs.Latest.{IsBefore}
 use Rattle.half_edge.specs.Departures.{IsDeparture, AreDepartures, AreInOrder}
 use Rattle.half_edge.specs.Directed.{half_edge_to}
 use Rattle.half_edge.specs.declared.departure.Departure.{Departure}
-use Rattle.half_edge.specs.declared.directed.HalfEdgeId.{HalfEdgeId}
+use Rattle.half_edge.specs.declared.side.Side.{Side}
 use Rattle.sector_laws.specs.Sector.{HalfEdge, origin, target, twin, is_before_by_angle, is_in_sector, IsHalfEdge, Leaves, IsNext, IsNextNumber, IsPlanar, AreDistinct}
 use Rattle.sector_laws.proofs.Angles.{not_both}
 use Rattle.sector_laws.proofs.Next.{twin-twin}
@@ -145,7 +145,7 @@ module _ (edges : List Seg) (planar : IsPlanar edges) (distinct : AreDistinct ed
         ])
 
     -- the half-edge before this one follows its twin
-    pub follows_before : (id : HalfEdgeId) → IsBefore list i a.vertex.number id → (w : ℕ) → IsHalfEdge edges w (twin (half a)) → IsNextNumber edges w id.number
+    pub follows_before : (id : Side) → IsBefore list i a.vertex.number id → (w : ℕ) → IsHalfEdge edges w (twin (half a)) → IsNextNumber edges w id.number
     follows_before id before w at_w =
         elim before [
           | inl last ↦ number_of last.place last.departure last.at_place last.leaves last.is (inl (last.within, last.latest))
@@ -174,6 +174,6 @@ module _ (edges : List Seg) (planar : IsPlanar edges) (distinct : AreDistinct ed
               from = twin (half a);
               to = half g;
               from_is = at_w;
-              to_is = subst (λ (x : HalfEdgeId). IsHalfEdge edges x.number (half g)) is (numbered_at j g at_g);
+              to_is = subst (λ (x : Side). IsHalfEdge edges x.number (half g)) is (numbered_at j g at_g);
               follows = follows (half g) (half a) (subst (λ v. Leaves edges v (half g)) (one_vertex j i g a at_g at_a vertex) (leaves_at j g at_g)) (leaves_at i a at_a) (none_between j g at_g vertex where_g);
             }

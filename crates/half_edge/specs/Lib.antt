@@ -1,3 +1,4 @@
+pub mod Side
 pub mod Directed
 pub mod Departures
 pub mod Arena

@@ -5,11 +5,13 @@ ghost use Rattle.plane.specs.Point.{Point};
 ghost use Rattle.plane.specs.Region.{IsSide};
 ghost use Rattle.sector_laws.specs.Sector.{HalfEdge, origin, target, twin, is_before_by_angle, IsHalfEdge, IsNext, IsNextNumber, IsPlanar, AreDistinct};
 ghost use Rattle.half_edge.specs.Arena.{IsArena};
+ghost use Rattle.half_edge.specs.Side.{across};
 
 use crate::departure::departures_in_order;
-use crate::directed::{HalfEdgeId, directed, twin_id};
+use crate::directed::directed;
 use crate::direction::Direction;
 use crate::next::next_table;
+use crate::side::Side;
 use cov_types::{Coord, NoMemory, Seg};
 use std::alloc::Global;
 use std::marker::Model;
@@ -19,7 +21,7 @@ use std::marker::Model;
 #[derive(Drop)]
 pub struct Arena {
     edges: Vec<Seg>,
-    next: Vec<HalfEdgeId>,
+    next: Vec<Side>,
 }
 
 impl Model for Arena {
@@ -52,14 +54,23 @@ impl Arena {
         self.next.len()
     }
 
+    /// The edges, in the order in which they were given.
+    pub fn edges(&self) -> &[Seg]
+        ensures edges { result.now ≡ self.now }
+        ensures planar { IsPlanar self.now }
+        ensures distinct { AreDistinct self.now }
+    {
+        &self.edges
+    }
+
     /// The half-edge of the same edge in the other direction.
     pub fn twin(&self, h: usize) -> usize
         requires within { h < 2 * length self.now }
         ensures within { result < 2 * length self.now }
+        ensures across { result ≡ across h }
         ensures opposite { (g : HalfEdge) → IsHalfEdge self.now h g → IsHalfEdge self.now result (twin g) }
     {
-        let _count = self.next.len();
-        twin_id(HalfEdgeId { number: h }).number
+        Side::of_number(h).twin().number()
     }
 
     /// The vertex where the half-edge begins.
@@ -67,7 +78,7 @@ impl Arena {
         requires within { h < 2 * length self.now }
         ensures { (g : HalfEdge) → IsHalfEdge self.now h g → result ≡ origin g }
     {
-        directed(&self.edges, HalfEdgeId { number: h }).origin()
+        directed(&self.edges, Side::of_number(h)).origin()
     }
 
     /// The half-edge that follows it round the region on its left. At a dead end it is the twin.
@@ -84,7 +95,7 @@ impl Arena {
         ensures begins { (f g : HalfEdge) → IsHalfEdge self.now h f → IsHalfEdge self.now result g → origin g ≡ target f }
         ensures joined { (p q : Point) → IsSide self.now h p → IsSide self.now result q → Joined self.now p q }
     {
-        self.next[h].number
+        self.next[h].number()
     }
 
     /// Whether the way straight down the ray is in the sector on the left, between the half-edge and the one that follows it.
@@ -96,7 +107,7 @@ impl Arena {
             of: directed(&self.edges, self.next[h]),
         };
         let back = Direction {
-            of: directed(&self.edges, twin_id(HalfEdgeId { number: h })),
+            of: directed(&self.edges, Side::of_number(h).twin()),
         };
         next >= back
     }
@@ -106,6 +117,6 @@ impl Arena {
         requires within { h < 2 * length self.now }
         ensures { slice_get self.now (h / 2) ≡ Some result }
     {
-        self.edges[h / 2]
+        self.edges[Side::of_number(h).edge()]
     }
 }

@@ -10,8 +10,10 @@ mod departure;
 mod directed;
 mod direction;
 mod next;
+mod side;
 #[cfg(test)]
 mod tests;
 
 pub use arena::Arena;
 pub use arranged::are_arranged;
+pub use side::Side;

@@ -1,5 +1,5 @@
-use crate::Arena;
 use crate::arranged::are_arranged;
+use crate::{Arena, Side};
 use cov_types::{Coord, NoMemory, Seg};
 use std::alloc::Global;
 use std::process::Abort;
@@ -47,10 +47,20 @@ fn two_squares_that_overlap_have_twenty_half_edges(rt: HostRuntime) -> Result<()
     assert_eq!(rt; arena.twin(6), 7);
     assert_eq!(rt; arena.origin(6), Coord { x: 5, y: 0 });
     assert_eq!(rt; arena.origin(7), Coord { x: 5, y: 10 });
+    assert_eq!(rt; arena.edges().len(), 10);
     let edge = arena.edge(6);
     assert_eq!(rt; edge.lo, Coord { x: 5, y: 0 });
     assert_eq!(rt; edge.hi, Coord { x: 5, y: 10 });
     Ok(())
+}
+
+#[test]
+fn the_sides_of_edge_3_are_6_and_7(rt: HostRuntime) {
+    assert_eq!(rt; Side::upper(3).number(), 6);
+    assert_eq!(rt; Side::lower(3), Side::of_number(7));
+    assert_eq!(rt; Side::of_number(7).edge(), 3);
+    assert_eq!(rt; Side::of_number(7).twin(), Side::upper(3));
+    assert!(rt; Side::of_number(6).is_upper() && !Side::of_number(7).is_upper());
 }
 
 #[test]

@@ -41,8 +41,7 @@ built edges odd regions count planar distinct ascending places used even all are
   places = places;
   used = λ k inside. used_member odd k (used k inside);
   even = even;
-  sides = are.long ∙ all;
-  numbered = λ n p at. are.each n p (omega (arith, slice_get_within (side_points edges) n p at, sides-length edges)) at;
+  numbered = record { count = are.long ∙ all; each = λ n p at. are.each n p (omega (arith, slice_get_within (side_points edges) n p at, sides-length edges)) at };
 }
 
 -- a list that was empty, after another one was put behind it
@@ -63,7 +62,7 @@ built_from edges copy arena walked odd odd_copy regions count same_edges same_od
 pub outer_of : (s : Sided) → AreSided s → (outer : Option ℕ) → (IsNone outer ↔ (s.edges ≡ [])) → IfSome outer (λ r. IsOuterRegion s.edges r)
     → IfSome outer (λ r. (p : Point) → IsOuter s.edges p → IsRegionOf s.edges p r) → IsOuterOf s outer
 outer_of s sided None none outer region = none.0 refl
-outer_of s sided (Some r) none outer region = (outer, one_region s.edges outer.at (region_at s r) r (sided.numbered r outer.at outer.side) (region outer.at outer.outer))
+outer_of s sided (Some r) none outer region = let side = outer.outer in (outer, one_region s.edges side.at (region_at s r) r (sided.numbered.each r side.at side.side) (region side.at side.outer))
 
 pub outer_from : (s : Sided) → AreSided s → (edges : List Seg) → edges ≡ s.edges → (outer : Option ℕ) → (IsNone outer ↔ (edges ≡ [])) → IfSome outer (λ r. IsOuterRegion edges r)
     → IfSome outer (λ r. (p : Point) → IsOuter edges p → IsRegionOf edges p r) → IsOuterOf s outer

@@ -1,6 +1,6 @@
 -- The labels of regions as those of an overlay.
 use mathlib.Core.List.{[], ◌∷◌}
-use Rattle.std.proofs.Common.{◌≡◌, refl, sym, ◌∙◌, ap, subst, ℕ, zero, suc, ◌+◌, ◌*◌, ◌<◌, ◌≤◌, ◌%◌, ◌==◌, ◌&&◌, Bool, true, false, not, cond, ltb, List, length, get_or, count_by, Option, Some, None, slice_get, inl, inr, arith}
+use Rattle.std.proofs.Common.{slice_index, ◌≡◌, refl, sym, ◌∙◌, ap, subst, ℕ, zero, suc, ◌+◌, ◌*◌, ◌<◌, ◌≤◌, ◌%◌, ◌==◌, ◌&&◌, Bool, true, false, not, cond, ltb, List, length, get_or, count_by, Option, Some, None, slice_get, inl, inr, arith}
 use Rattle.std.specs.Global.{Vec}
 use Rattle.std.specs.Prelude.{All, flat_map, option_to_list}
 use Rattle.std.proofs.lemmas.Bool.{cases_lt, lt-ltb, le-ltb, ne_eqb, and_left, both_ways}
@@ -60,11 +60,11 @@ abbrev pub labelled_of : Sided → Labelled
 labelled_of s = record { edges = s.edges; odd = s.odd }
 
 module _ (s : Sided) (sided : AreSided s) (o : Overlay) (overlay : IsOverlay (labelled_of s) o) where
-  are_regions : AreRegions s.edges o.number
-  are_regions = subst (λ es. AreRegions es o.number) overlay.edges overlay.numbered
+  are_regions : AreRegions s.edges o.numbers
+  are_regions = subst (λ es. AreRegions es o.numbers) overlay.edges overlay.numbered
 
-  pub number_is : (n : ℕ) (p : Point) → IsSide s.edges n p → o.number n ≡ region_at s n
-  number_is n p at = one_region s.edges p (o.number n) (region_at s n) (are_regions n p at) (sided.numbered n p at)
+  pub number_is : (n : ℕ) (p : Point) → IsSide s.edges n p → slice_index o.numbers n ≡ region_at s n
+  number_is n p at = one_region s.edges p (slice_index o.numbers n) (region_at s n) (are_regions.each n p at) (sided.numbered.each n p at)
 
   holds_below : (m : ℕ) (p : Point) → (ltb m o.members && member_holds (uses_of s) m p) ≡ member_holds (uses_of s) m p
   holds_below m p =
@@ -90,10 +90,10 @@ module _ (s : Sided) (sided : AreSided s) (o : Overlay) (overlay : IsOverlay (la
       ∙ ap (λ found. flat_map (label_at o.uses o.members) (option_to_list found)) at ∙ append-nil (label_at o.uses o.members p)
 
   -- and that of each side point in it
-  pub side_label : (n : ℕ) (p : Point) (label : List ℕ) → IsSide s.edges n p → IsLabelAt (uses_of s) p label → label ≡ label_of o (o.number n)
+  pub side_label : (n : ℕ) (p : Point) (label : List ℕ) → IsSide s.edges n p → IsLabelAt (uses_of s) p label → label ≡ label_of o (slice_index o.numbers n)
   side_label n p label at is =
-      let region = are_regions n p at in
-      label_is region.joined.at label (label_joined s sided p region.joined.at label region.joined.joined is) ∙ sym (label_of_is (o.number n) region.joined.at region.joined.side)
+      let region = are_regions.each n p at in
+      label_is region.joined.at label (label_joined s sided p region.joined.at label region.joined.joined is) ∙ sym (label_of_is (slice_index o.numbers n) region.joined.at region.joined.side)
 
   -- the label of the definition is one
   pub label_right : (p : Point) → IsLabelAt (uses_of s) p (label_at (uses_of s) o.members p)
@@ -120,12 +120,12 @@ module _ (s : Sided) (sided : AreSided s) (o : Overlay) (overlay : IsOverlay (la
       not_itself true h = both_ways true h refl
       not_itself false h = both_ways false refl h
 
-  pub side_label_at : (n : ℕ) (p : Point) → IsSide s.edges n p → IsLabelAt (uses_of s) p (label_of o (o.number n))
+  pub side_label_at : (n : ℕ) (p : Point) → IsSide s.edges n p → IsLabelAt (uses_of s) p (label_of o (slice_index o.numbers n))
   side_label_at n p at = subst (λ xs. IsLabelAt (uses_of s) p xs) (side_label n p (label_at (uses_of s) o.members p) at (label_right p)) (label_right p)
 
-  pub labels_apart : (k : ℕ) → k < length s.edges → label_of o (o.number (2 * k)) ≡ label_of o (o.number (2 * k + 1)) → ⊥
+  pub labels_apart : (k : ℕ) → k < length s.edges → label_of o (slice_index o.numbers (2 * k)) ≡ label_of o (slice_index o.numbers (2 * k + 1)) → ⊥
   labels_apart k inside same =
-      sides_apart k inside (label_of o (o.number (2 * k))) (label_of o (o.number (2 * k + 1)))
+      sides_apart k inside (label_of o (slice_index o.numbers (2 * k))) (label_of o (slice_index o.numbers (2 * k + 1)))
       (λ e at. (side_label_at (2 * k) (upper e) (upper_side s.edges k e at), side_label_at (2 * k + 1) (lower e) (lower_side s.edges k e at))) same
 
 -- ---- there is such an overlay
@@ -140,7 +140,7 @@ above_all (o ∷ odd) =
 pub some_overlay : (s : Sided) → AreSided s → (o : Overlay) × IsOverlay (labelled_of s) o
 some_overlay s sided =
     let above = above_all s.odd in
-    (record { edges = s.edges; uses = uses_of s; members = above.0; number = region_at s }, record { edges = refl; uses = refl; members = above.1; numbered = sided.numbered })
+    (record { edges = s.edges; uses = uses_of s; members = above.0; numbers = s.regions }, record { edges = refl; uses = refl; members = above.1; numbered = sided.numbered })
 
 -- ---- regions
 
@@ -165,21 +165,21 @@ not_past (x ∷ xs) zero h is = cc
 not_past (x ∷ xs) (suc i) h is = not_past xs i (omega arith) is
 
 pub region_ready : (s : Sided) → AreSided s → (r : ℕ) → IsRegion s.edges r → region_at s r ≡ r
-region_ready s sided r is = one_region s.edges is.at (region_at s r) r (sided.numbered r is.at is.side) is.own
+region_ready s sided r is = one_region s.edges is.at (region_at s r) r (sided.numbered.each r is.at is.side) is.own
 
 module _ (s : Sided) (sided : AreSided s) (lists : List (SmallVec ℕ)) (labels : AreRegionLabels s lists) where
   -- the label of the region of a side
   pub label_at_side : (n : ℕ) (p : Point) → IsSide s.edges n p → (v : SmallVec ℕ) → slice_get lists (region_at s n) ≡ Some v → IsLabelAt (uses_of s) p v.items
-  label_at_side n p at v here = labels.each n (omega (arith, side_within s sided n p at, sided.sides)) v here n p at refl
+  label_at_side n p at v here = labels.each n (omega (arith, side_within s sided n p at, sided.numbered.count)) v here n p at refl
 
   pub label_read : (n : ℕ) (p : Point) → IsSide s.edges n p → (r : ℕ) → r ≡ region_at s n → (v : SmallVec ℕ) → v ≡ get_or lists r v → IsLabelAt (uses_of s) p v.items
   label_read n p at r same v here =
-      let region = (sided.numbered n p at).joined in
-      let within : r < length lists = omega (arith, side_within s sided (region_at s n) region.at region.side, sided.sides, labels.count) in
+      let region = (sided.numbered.each n p at).joined in
+      let within : r < length lists = omega (arith, side_within s sided (region_at s n) region.at region.side, sided.numbered.count, labels.count) in
       label_at_side n p at v (ap (λ k. slice_get lists k) (sym same) ∙ slice_get-get_or lists r v within ∙ ap (λ w. Some w) (sym here))
 
   pub region_within : (r : ℕ) → IsRegion s.edges r → r < length lists
-  region_within r is = omega (arith, side_within s sided r is.at is.side, sided.sides, labels.count)
+  region_within r is = omega (arith, side_within s sided r is.at is.side, sided.numbered.count, labels.count)
 
   module _ (r : ℕ) (is : IsRegion s.edges r) (v : SmallVec ℕ) (here : v ≡ get_or lists r v) where
     found : slice_get lists (region_at s r) ≡ Some v
@@ -196,7 +196,7 @@ module _ (s : Sided) (sided : AreSided s) (lists : List (SmallVec ℕ)) (labels 
 
     pub label_outer : IsOuterRegion s.edges r → v.items ≡ []
     label_outer outer =
-        let empty = outer_label s sided r outer.at outer.side outer.outer r is.at is.side refl in
+        let empty = outer_label s sided r outer.outer.at outer.outer.side outer.outer.outer r is.at is.side refl in
         same_ascending 0 v.items [] label_here.ascending tt (λ m. label_here.exact m ∙ sym (empty.exact m))
 
     -- it is not that of a region over an edge
@@ -210,13 +210,13 @@ module _ (s : Sided) (sided : AreSided s) (lists : List (SmallVec ℕ)) (labels 
         ])
 
   -- the label in the table is that of the definition
-  pub table_label : (o : Overlay) → IsOverlay (labelled_of s) o → (n : ℕ) (p : Point) → IsSide s.edges n p → items_of (slice_get lists (region_at s n)) ≡ label_of o (o.number n)
+  pub table_label : (o : Overlay) → IsOverlay (labelled_of s) o → (n : ℕ) (p : Point) → IsSide s.edges n p → items_of (slice_get lists (region_at s n)) ≡ label_of o (slice_index o.numbers n)
   table_label o overlay n p at = by (slice_get lists (region_at s n)) refl
     where
       inside : region_at s n < length lists
-      inside = let region = (sided.numbered n p at).joined in omega (arith, side_within s sided (region_at s n) region.at region.side, sided.sides, labels.count)
+      inside = let region = (sided.numbered.each n p at).joined in omega (arith, side_within s sided (region_at s n) region.at region.side, sided.numbered.count, labels.count)
 
-      by : (found : Option (SmallVec ℕ)) → slice_get lists (region_at s n) ≡ found → items_of found ≡ label_of o (o.number n)
+      by : (found : Option (SmallVec ℕ)) → slice_get lists (region_at s n) ≡ found → items_of found ≡ label_of o (slice_index o.numbers n)
       by (Some v) is = side_label s sided o overlay n p v.items at (label_at_side n p at v is)
       by None is = absurd (not_past lists (region_at s n) inside is)
 
@@ -224,7 +224,7 @@ module _ (s : Sided) (sided : AreSided s) (lists : List (SmallVec ℕ)) (labels 
 
 module _ (s : Sided) (sided : AreSided s) (lists : List (Vec ℕ)) (sides : AreRegionSides s (length s.regions) lists) (r : ℕ) (is : IsRegion s.edges r) where
   pub sides_within : r < length lists
-  sides_within = omega (arith, side_within s sided r is.at is.side, sided.sides, sides.count)
+  sides_within = omega (arith, side_within s sided r is.at is.side, sided.numbered.count, sides.count)
 
   pub sides_here : (v : Vec ℕ) → v ≡ get_or lists r v → v.items ≡ sides_of s r (length s.regions)
   sides_here v here = sides.each r v (slice_get-get_or lists r v sides_within ∙ ap (λ w. Some w) (sym here))
@@ -232,4 +232,4 @@ module _ (s : Sided) (sided : AreSided s) (lists : List (Vec ℕ)) (sides : AreR
   pub sides_small : (v : Vec ℕ) → v ≡ get_or lists r v → All (λ n. n < 2 * length s.edges) v.items
   sides_small v here k d within =
       let listed = (region_sides s (length s.regions) lists sides r v (slice_get-get_or lists r v sides_within ∙ ap (λ w. Some w) (sym here)) (get_or v.items k d)).0 (Contains-get_or v.items k d within) in
-      omega (arith, listed.0, sided.sides)
+      omega (arith, listed.0, sided.numbered.count)

@@ -23,18 +23,18 @@ module _ (s : Sided) (sided : AreSided s) where
   -- the region of a side is a side, and its own region
   pub region_own : (n : ℕ) (p : Point) → IsSide s.edges n p → region_at s (region_at s n) ≡ region_at s n
   region_own n p at =
-      let is = sided.numbered n p at in
-      one_region s.edges is.joined.at (region_at s (region_at s n)) (region_at s n) (sided.numbered (region_at s n) is.joined.at is.joined.side)
+      let is = sided.numbered.each n p at in
+      one_region s.edges is.joined.at (region_at s (region_at s n)) (region_at s n) (sided.numbered.each (region_at s n) is.joined.at is.joined.side)
       (region-joined s.edges p is.joined.at (region_at s n) is.joined.joined is)
 
   -- sides are joined exactly where they have one region
   pub region_joined : (n m : ℕ) (p q : Point) → IsSide s.edges n p → IsSide s.edges m q → region_at s n ≡ region_at s m → Joined s.edges p q
   region_joined n m p q at_n at_m same =
-      same_region s.edges p q (region_at s n) (sided.numbered n p at_n) (subst (λ r. IsRegionOf s.edges q r) (sym same) (sided.numbered m q at_m))
+      same_region s.edges p q (region_at s n) (sided.numbered.each n p at_n) (subst (λ r. IsRegionOf s.edges q r) (sym same) (sided.numbered.each m q at_m))
 
   pub joined_region : (n m : ℕ) (p q : Point) → IsSide s.edges n p → IsSide s.edges m q → Joined s.edges p q → region_at s n ≡ region_at s m
   joined_region n m p q at_n at_m j =
-      one_region s.edges q (region_at s n) (region_at s m) (region-joined s.edges p q (region_at s n) j (sided.numbered n p at_n)) (sided.numbered m q at_m)
+      one_region s.edges q (region_at s n) (region_at s m) (region-joined s.edges p q (region_at s n) j (sided.numbered.each n p at_n)) (sided.numbered.each m q at_m)
 
   -- members hold joined points alike
   pub holds_joined : (p q : Point) → Joined s.edges p q → (m : ℕ) → member_holds (uses_of s) m p ≡ member_holds (uses_of s) m q
@@ -70,13 +70,13 @@ module _ (s : Sided) (sided : AreSided s) where
   pub region_within : (n : ℕ) → n < 2 * length s.edges → region_at s n < 2 * length s.edges
   region_within n h =
       let at = slice_get-get_or (side_points s.edges) n far_point (omega (arith, sides-length s.edges)) in
-      let is = sided.numbered n _ at in
+      let is = sided.numbered.each n _ at in
       side_within (region_at s n) is.joined.at is.joined.side
 
   -- the same for what was read
   pub region_read : (n r : ℕ) → n < 2 * length s.edges → r ≡ get_or s.regions n r → r < 2 * length s.edges
   region_read n r h e =
-      let same = get_or_read s.regions n r (omega (arith, sided.sides)) e 0 in
+      let same = get_or_read s.regions n r (omega (arith, sided.numbered.count)) e 0 in
       subst (λ k. k < 2 * length s.edges) (sym same) (region_within n h)
 
   -- each side has a side point
@@ -88,4 +88,4 @@ module _ (s : Sided) (sided : AreSided s) where
   outer_label n p at outer = region_label n p [] at (record { ascending = tt; exact = λ m. sym (outer_free s.edges s.odd sided.planar sided.even p outer m) })
 
   pub label_outer : (r : ℕ) (label : List ℕ) → IsOuterRegion s.edges r → region_at s r ≡ r → label ≡ [] → IsRegionLabel s r label
-  label_outer r label outer own empty = subst (λ xs. IsRegionLabel s r xs) (sym empty) (subst (λ k. IsRegionLabel s k []) own (outer_label r outer.at outer.side outer.outer))
+  label_outer r label outer own empty = subst (λ xs. IsRegionLabel s r xs) (sym empty) (subst (λ k. IsRegionLabel s k []) own (outer_label r outer.outer.at outer.outer.side outer.outer.outer))

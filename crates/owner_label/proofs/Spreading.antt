@@ -129,7 +129,7 @@ module _ (s : Sided) (sided : AreSided s) (spread : Spread) (is : IsSpread s spr
     (from : ℕ) (same : from ≡ region_at s n) (v : SmallVec ℕ) (here : v ≡ get_or spread.labels.items from v) where
   label_from : (p : Point) → IsSide s.edges n p → IsLabelAt (uses_of s) p v.items
   label_from p at =
-      let within : from < length spread.labels.items = (let h = region_within s sided n inside in omega (arith, is.labels, sided.sides)) in
+      let within : from < length spread.labels.items = (let h = region_within s sided n inside in omega (arith, is.labels, sided.numbered.count)) in
       let got : slice_get spread.labels.items from ≡ Some v = slice_get-get_or spread.labels.items from v within ∙ ap (λ w. Some w) (sym here) in
       is.right from v (subst (λ r. IsReached spread r) (sym same) reached) got n p at (sym same)
 
@@ -198,7 +198,7 @@ pub sides_ready : (s : Sided) → AreSided s → (spread : Spread) → IsSpread 
     → sides ≡ get_or lists r sides → r < length lists → IsReached spread r → All (λ n. (n < 2 * length s.edges) × IsReached spread (region_at s n)) sides.items
 sides_ready s sided spread is r sides lists are at_sides in_lists reached k d within =
     let each = (region_sides s (length s.regions) lists are r sides (slice_get-get_or lists r sides in_lists ∙ ap (λ v. Some v) (sym at_sides)) (get_or sides.items k d)).0 (Contains-get_or sides.items k d within) in
-    (omega (arith, each.0, sided.sides), subst (λ j. IsReached spread j) (sym each.1) reached)
+    (omega (arith, each.0, sided.numbered.count), subst (λ j. IsReached spread j) (sym each.1) reached)
 
 -- ---- at the end
 
@@ -215,7 +215,7 @@ module _ (s : Sided) (sided : AreSided s) (spread : Spread) (is : IsSpread s spr
   index_side h c = half_edge_side s.edges (index s.edges h) h (index_is s.edges h c)
 
   index_within : (h : HalfEdge) → Contains s.edges h.edge → index s.edges h < length s.regions
-  index_within h c = omega (arith, sided.sides, side_within s sided (index s.edges h) (side_left h) (index_side h c))
+  index_within h c = omega (arith, sided.numbered.count, side_within s sided (index s.edges h) (side_left h) (index_side h c))
 
   passes_over : (h : HalfEdge) → Contains s.edges h.edge → passes h ≡ true → passes (twin h) ≡ true
   passes_over h c reached =
@@ -255,7 +255,7 @@ module _ (s : Sided) (sided : AreSided s) (spread : Spread) (is : IsSpread s spr
   pub labels_right : IsBegun s spread → AreRegionLabels s spread.labels.items
   labels_right begun = record {
     count = is.labels;
-    each = λ n inside v at. is.right (region_at s n) v (all_reached begun n (omega (arith, sided.sides))) at;
+    each = λ n inside v at. is.right (region_at s n) v (all_reached begun n (omega (arith, sided.numbered.count))) at;
   }
 
 pub all_left : (s : Sided) (spread : Spread) (next : ℕ) → length spread.queue.items ≤ next → ((i k : ℕ) → i < next → slice_get spread.queue.items i ≡ Some k → IsLeft s spread k)

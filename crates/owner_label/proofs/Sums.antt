@@ -1,6 +1,6 @@
 -- Sums over edges as sums over the sides of a region.
 use mathlib.Core.List.{[], ◌∷◌}
-use Rattle.std.proofs.Common.{◌≡◌, refl, sym, ◌∙◌, ap, ℕ, suc, ◌+◌, ◌*◌, ◌/◌, ◌%◌, ◌-◌, ◌<◌, ◌==◌, ◌||◌, ◌&&◌, Bool, true, false, cond, List, ◌++◌, length, filter, sum_by, Some, slice_get, ℤ, pos, ◌+ℤ◌, ◌-ℤ◌, arith}
+use Rattle.std.proofs.Common.{slice_index, ◌≡◌, refl, sym, ◌∙◌, ap, ℕ, suc, ◌+◌, ◌*◌, ◌/◌, ◌%◌, ◌-◌, ◌<◌, ◌==◌, ◌||◌, ◌&&◌, Bool, true, false, cond, List, ◌++◌, length, filter, sum_by, Some, slice_get, ℤ, pos, ◌+ℤ◌, ◌-ℤ◌, arith}
 use Rattle.std.specs.List.{enumerate_from}
 use Rattle.std.proofs.lemmas.Bool.{eq-eqb, ne_eqb, eqb-true, cond-true, cond-false}
 use Rattle.std.proofs.lemmas.Option.{slice_get_within}
@@ -124,29 +124,29 @@ gain_splits false true e = omega (arith, lin)
 gain_splits false false e = omega (arith, lin)
 
 module _ (s : Sided) (sided : AreSided s) (o : Overlay) (overlay : IsOverlay (labelled_of s) o) (r : ℕ) where
-  pub above_is : (k : ℕ) (e : Seg) → slice_get s.edges k ≡ Some e → o.number (2 * k) ≡ region_at s (2 * k)
+  pub above_is : (k : ℕ) (e : Seg) → slice_get s.edges k ≡ Some e → slice_index o.numbers (2 * k) ≡ region_at s (2 * k)
   above_is k e at = number_is s sided o overlay (2 * k) (upper e) (upper_side s.edges k e at)
 
-  pub below_is : (k : ℕ) (e : Seg) → slice_get s.edges k ≡ Some e → o.number (2 * k + 1) ≡ region_at s (2 * k + 1)
+  pub below_is : (k : ℕ) (e : Seg) → slice_get s.edges k ≡ Some e → slice_index o.numbers (2 * k + 1) ≡ region_at s (2 * k + 1)
   below_is k e at = number_is s sided o overlay (2 * k + 1) (lower e) (lower_side s.edges k e at)
 
   abbrev area_in : ℕ → ℤ
   area_in n = cond (region_at s n == r) (side_area s n) (pos 0)
 
-  area_splits : IsSplit (λ p. area_gain (o.number (2 * p.0 + 1) == r) (o.number (2 * p.0) == r) p.1) area_in 0 s.edges
+  area_splits : IsSplit (λ p. area_gain (slice_index o.numbers (2 * p.0 + 1) == r) (slice_index o.numbers (2 * p.0) == r) p.1) area_in 0 s.edges
   area_splits j k e same at =
       let here : slice_get s.edges k ≡ Some e = ap (λ i. slice_get s.edges i) (omega (arith, same)) ∙ at in
-      gain_splits (o.number (2 * k) == r) (o.number (2 * k + 1) == r) e
+      gain_splits (slice_index o.numbers (2 * k) == r) (slice_index o.numbers (2 * k + 1) == r) e
       ∙ (λ i. cond (above_is k e here i == r) (sym (area_above s k e here) i) (pos 0) +ℤ cond (below_is k e here i == r) (sym (area_below s k e here) i) (pos 0))
 
   -- the doubled area of the region is what its sides add
   pub area_is : (sides : List ℕ) → sides ≡ sides_of s r (length s.regions) → int_sum_by (side_area s) sides ≡ region_area2 o r
   area_is sides are =
-      let all = int_by_sides (λ p. area_gain (o.number (2 * p.0 + 1) == r) (o.number (2 * p.0) == r) p.1) area_in 0 s.edges area_splits in
+      let all = int_by_sides (λ p. area_gain (slice_index o.numbers (2 * p.0 + 1) == r) (slice_index o.numbers (2 * p.0) == r) p.1) area_in 0 s.edges area_splits in
       let start : int_sum_by area_in (numbers_below (2 * 0)) ≡ pos 0 = refl in
-      let long : length s.regions ≡ 2 * (0 + length s.edges) = omega (arith, sided.sides) in
+      let long : length s.regions ≡ 2 * (0 + length s.edges) = omega (arith, sided.numbered.count) in
       let chosen = ap (λ xs. int_sum_by (side_area s) xs) are ∙ int_sum-filter (λ n. region_at s n == r) (side_area s) (numbers_below (length s.regions)) ∙ ap (λ n. int_sum_by area_in (numbers_below n)) long in
-      let same_edges = ap (λ es. int_sum_by (λ p. area_gain (o.number (2 * p.0 + 1) == r) (o.number (2 * p.0) == r) p.1) (enumerate_from 0 es)) (overlay.edges) in
+      let same_edges = ap (λ es. int_sum_by (λ p. area_gain (slice_index o.numbers (2 * p.0 + 1) == r) (slice_index o.numbers (2 * p.0) == r) p.1) (enumerate_from 0 es)) (overlay.edges) in
       chosen ∙ omega (arith, lin, all, start) ∙ sym same_edges
 
 -- ---- lengths
@@ -174,7 +174,7 @@ border_splits false true false pb n apart = omega arith
 border_splits false false pa pb n apart = omega arith
 
 module _ (s : Sided) (sided : AreSided s) (o : Overlay) (overlay : IsOverlay (labelled_of s) o) (r : ℕ) (passes test : ℕ → Bool)
-    (agree : (n : ℕ) (p : Point) → IsSide s.edges n p → passes (o.number n) ≡ test (region_at s n)) where
+    (agree : (n : ℕ) (p : Point) → IsSide s.edges n p → passes (slice_index o.numbers n) ≡ test (region_at s n)) where
   abbrev length_in : ℕ → ℕ
   length_in n = cond (region_at s n == r) (side_length s test n) 0
 
@@ -184,8 +184,8 @@ module _ (s : Sided) (sided : AreSided s) (o : Overlay) (overlay : IsOverlay (la
       let inside : k < length s.edges = slice_get_within s.edges k e here in
       let up = agree (2 * k) (upper e) (upper_side s.edges k e here) in
       let down = agree (2 * k + 1) (lower e) (lower_side s.edges k e here) in
-      border_splits (o.number (2 * k) == r) (o.number (2 * k + 1) == r) (passes (o.number (2 * k))) (passes (o.number (2 * k + 1))) (edge_length e)
-      (λ h g. labels_apart s sided o overlay k inside (ap (label_of o) (eqb-true (o.number (2 * k)) r h ∙ sym (eqb-true (o.number (2 * k + 1)) r g))))
+      border_splits (slice_index o.numbers (2 * k) == r) (slice_index o.numbers (2 * k + 1) == r) (passes (slice_index o.numbers (2 * k))) (passes (slice_index o.numbers (2 * k + 1))) (edge_length e)
+      (λ h g. labels_apart s sided o overlay k inside (ap (label_of o) (eqb-true (slice_index o.numbers (2 * k)) r h ∙ sym (eqb-true (slice_index o.numbers (2 * k + 1)) r g))))
       ∙ (λ i. cond (above_is s sided o overlay r k e here i == r) (cond (down i) (edge_length e) 0) 0 + cond (below_is s sided o overlay r k e here i == r) (cond (up i) (edge_length e) 0) 0)
       ∙ (λ i. cond (region_at s (2 * k) == r) (sym (length_above s test k e here) i) 0 + cond (region_at s (2 * k + 1) == r) (sym (length_below s test k e here) i) 0)
 
@@ -194,7 +194,7 @@ module _ (s : Sided) (sided : AreSided s) (o : Overlay) (overlay : IsOverlay (la
   border_is sides are =
       let all = by_sides (λ p. cond (is_border o r passes p.0) (edge_length p.1) 0) length_in 0 s.edges length_splits in
       let start : sum_by length_in (numbers_below (2 * 0)) ≡ 0 = refl in
-      let long : length s.regions ≡ 2 * (0 + length s.edges) = omega (arith, sided.sides) in
+      let long : length s.regions ≡ 2 * (0 + length s.edges) = omega (arith, sided.numbered.count) in
       let chosen = ap (λ xs. sum_by (side_length s test) xs) are ∙ sum-filter (λ n. region_at s n == r) (side_length s test) (numbers_below (length s.regions)) ∙ ap (λ n. sum_by length_in (numbers_below n)) long in
       let same_edges = ap (λ es. sum_by (λ p. cond (is_border o r passes p.0) (edge_length p.1) 0) (enumerate_from 0 es)) (overlay.edges) in
       chosen ∙ omega (arith, all, start) ∙ sym same_edges

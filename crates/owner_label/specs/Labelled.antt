@@ -16,7 +16,7 @@ pub record IsOverlay (l : Labelled) (o : Overlay) : Type 0 where
   pub edges : o.edges ≡ l.edges
   pub uses : o.uses ≡ odd_uses l.edges l.odd
   pub members : All (λ u. u.member < o.members) l.odd
-  pub numbered : AreRegions o.edges o.number
+  pub numbered : AreRegions o.edges o.numbers
 
 -- the owner of a region by its number, and none past the end of the list
 abbrev pub owner_in : List (Option ℕ) → ℕ → Option ℕ

@@ -37,8 +37,7 @@ pub record AreSided (s : Sided) : Type 0 where
   pub places : All (λ o. o.edge < length s.edges) s.odd
   pub used : (k : ℕ) → k < length s.edges → (member : ℕ) × (has (members_of s.odd k) member ≡ true)
   pub even : HasEvenEnds (uses_of s)
-  pub sides : length s.regions ≡ 2 * length s.edges
-  pub numbered : AreRegions s.edges (region_at s)
+  pub numbered : AreRegions s.edges s.regions
 
 -- the label of a point: the members that hold it, ascending
 pub record IsLabelAt (uses : List EdgeUse) (p : Point) (label : List ℕ) : Type 0 where

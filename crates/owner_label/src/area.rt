@@ -14,8 +14,8 @@ ghost use Rattle.owner_label.specs.Sides.{side_area, pair_gain};
 
 use crate::label::Label;
 use crate::sided::SidedEdges;
-use cov_types::Seg;
 use arrangement::OddUse;
+use cov_types::Seg;
 
 /// The doubled area of a member, over its odd edges.
 pub fn area_of_member(map: &SidedEdges, labels: &[Label], member: u32) -> i128

@@ -4,8 +4,8 @@ ghost use Rattle.owner_label.specs.Sided.{Sided};
 
 use crate::label::Label;
 use crate::sided::SidedEdges;
-use cov_types::NoMemory;
 use arrangement::OddUse;
+use cov_types::NoMemory;
 use smallvec::SmallVec;
 use std::alloc::Global;
 

@@ -5,10 +5,10 @@ ghost use Rattle.cov_types.specs.declared.seg.Seg.{Seg};
 ghost use Rattle.arrangement.specs.Noding.{odd_uses};
 ghost use Rattle.owner_label.specs.Sided.{across, region_at, AreSided, AreFirstRegions};
 
+use arrangement::OddUse;
 use cov_types::{NoMemory, Seg};
 use face_walk::Regions;
 use half_edge::Arena;
-use arrangement::OddUse;
 use snap_noder::LiveEdges;
 use std::alloc::Global;
 use std::marker::Model;

@@ -1,6 +1,7 @@
 pub mod Point
 pub mod Segment
 pub mod Ray
+pub mod Below
 pub mod Parity
 pub mod Contact
 pub mod Length

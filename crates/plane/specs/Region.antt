@@ -1,5 +1,5 @@
 -- Regions: the sides of edges, and what is joined with their side points.
-use Rattle.std.specs.Prelude.{◌≡◌, ℕ, ◌≤◌, ◌^◌, List, [], ◌∷◌, flat_map, Some, slice_get, pos}
+use Rattle.std.specs.Prelude.{◌≡◌, ℕ, ◌*◌, ◌≤◌, ◌^◌, List, [], ◌∷◌, length, flat_map, Some, slice_get, slice_index, pos}
 use Rattle.std.proofs.Common.{lit≤}
 use Rattle.cov_types.specs.declared.seg.Seg.{Seg}
 use Rattle.plane.specs.Joined.{Joined}
@@ -33,12 +33,18 @@ pub record IsRegionOf (edges : List Seg) (p : Point) (r : ℕ) : Type 0 where
   pub joined : IsJoinedSide edges p r
   pub least : (n : ℕ) → IsJoinedSide edges p n → r ≤ n
 
--- the numbers give each side the region of its side point
-abbrev pub AreRegions : List Seg → (ℕ → ℕ) → Type 0
-AreRegions edges number = (n : ℕ) (p : Point) → IsSide edges n p → IsRegionOf edges p (number n)
+-- a number for each side, which is the region of its side point
+pub record AreRegions (edges : List Seg) (numbers : List ℕ) : Type 0 where
+  pub count : length numbers ≡ 2 * length edges
+  pub each : (n : ℕ) (p : Point) → IsSide edges n p → IsRegionOf edges p (slice_index numbers n)
 
--- the region has an outer side point
-pub record IsOuterRegion (edges : List Seg) (r : ℕ) : Type 0 where
+-- n is a side whose side point is outer
+pub record IsOuterSide (edges : List Seg) (n : ℕ) : Type 0 where
   pub at : Point
-  pub side : IsSide edges r at
+  pub side : IsSide edges n at
   pub outer : IsOuter edges at
+
+-- r is the number of the outer region: the least side whose side point is outer
+pub record IsOuterRegion (edges : List Seg) (r : ℕ) : Type 0 where
+  pub outer : IsOuterSide edges r
+  pub least : (n : ℕ) → IsOuterSide edges n → r ≤ n

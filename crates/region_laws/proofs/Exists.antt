@@ -1,6 +1,6 @@
 -- The regions have numbers by least sides.
 use mathlib.Core.List.{List, [], ◌∷◌}
-use Rattle.std.proofs.Common.{◌≡◌, refl, sym, ◌∙◌, ap, subst, ℕ, zero, suc, ◌≤◌, ◌==◌, Bool, true, false, cond, Contains, ◌⊎◌, inl, inr, pos, ◌-ℤ◌, ◌*ℤ◌, ◌<ℤ◌, arith}
+use Rattle.std.proofs.Common.{◌≡◌, refl, sym, ◌∙◌, ap, subst, ℕ, zero, suc, ◌*◌, ◌<◌, ◌≤◌, ◌==◌, Bool, true, false, cond, length, slice_index, Contains, ◌⊎◌, inl, inr, pos, ◌-ℤ◌, ◌*ℤ◌, ◌<ℤ◌, arith}
 use Rattle.std.proofs.lemmas.Bool.Decides.{nat_tests}
 use Rattle.cov_types.specs.declared.coord.Coord.{Coord}
 use Rattle.cov_types.specs.declared.seg.Seg.{Seg}
@@ -15,6 +15,7 @@ use Rattle.plane.proofs.Points.{d_positive}
 use Rattle.plane.proofs.Sweeps.{rises-in_range}
 use Rattle.crossing_laws.proofs.Ways.{joined-trans, joined-sym, joined-refl, joined_off}
 use Rattle.crossing_laws.proofs.Lists.{contains_here, contains_there}
+use Rattle.crossing_laws.proofs.Located.{side_within}
 use Rattle.sector_laws.specs.Sector.{HalfEdge, origin, left, twin, half_edges, is_before_by_angle, IsNext, AreDistinct, IsPlanar}
 use Rattle.sector_laws.proofs.Sectors.{next_joined}
 use Rattle.sector_laws.proofs.Next.{one_next}
@@ -352,8 +353,25 @@ module _ (edges : List Seg) (planar : IsPlanar edges) (distinct : AreDistinct ed
         least = λ k j. l.least k (same_true (c (suc k)) (c (suc n)) (sym (joined_class n k p j.at at j.side j.joined)));
       }
 
-pub regions_exist : (edges : List Seg) → IsPlanar edges → AreDistinct edges → (number : ℕ → ℕ) × AreRegions edges number
+-- the list of so many numbers that the function gives
+listed : (f : ℕ → ℕ) (n : ℕ) → (numbers : List ℕ) × (length numbers ≡ n) × ((i : ℕ) → i < n → slice_index numbers i ≡ f i)
+listed f zero = ([], refl, λ i below. absurd (omega arith))
+listed f (suc n) =
+    let (numbers, count, each) = listed (λ i. f (suc i)) n in
+    (f 0 ∷ numbers, omega arith, at numbers each)
+  where
+    at : (numbers : List ℕ) → ((i : ℕ) → i < n → slice_index numbers i ≡ f (suc i)) → (i : ℕ) → i < suc n → slice_index (f 0 ∷ numbers) i ≡ f i
+    at numbers each zero below = refl
+    at numbers each (suc i) below = each i (omega arith)
+
+pub regions_exist : (edges : List Seg) → IsPlanar edges → AreDistinct edges → (numbers : List ℕ) × AreRegions edges numbers
 regions_exist edges planar distinct =
     let (pairs, made) = all_pairs edges planar distinct (half_edges edges) (half_edge_edge edges) in
     let (c, cls) = classes (AreTied edges) (tied-turn edges planar distinct) (tied-chain edges planar distinct) pairs made.tied in
-    ((λ n. (least_side edges planar distinct pairs made c cls n).0), region_of_side edges planar distinct pairs made c cls)
+    let (numbers, count, each) = listed (λ n. (least_side edges planar distinct pairs made c cls n).0) (2 * length edges) in (
+      numbers,
+      record {
+        count = count;
+        each = λ n p at. subst (λ r. IsRegionOf edges p r) (sym (each n (side_within edges n p at))) (region_of_side edges planar distinct pairs made c cls n p at);
+      },
+    )

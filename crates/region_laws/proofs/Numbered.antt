@@ -1,6 +1,6 @@
 -- Joined sides have one number, for the numbers of a walk, and so for any numbers that links keep.
 use mathlib.Core.List.{List, [], ◌∷◌}
-use Rattle.std.proofs.Common.{◌≡◌, refl, sym, ◌∙◌, ap, subst, ℕ, zero, suc, ◌==◌, Bool, true, false, true≢false, cond, IsTrue, Contains, ◌⊎◌, inl, inr, arith, ◌≤◌}
+use Rattle.std.proofs.Common.{◌≡◌, refl, sym, ◌∙◌, ap, subst, ℕ, zero, suc, ◌==◌, Bool, true, false, true≢false, cond, IsTrue, Contains, ◌⊎◌, inl, inr, arith}
 use Rattle.std.proofs.lemmas.Option.{none-some, same_Some}
 use Rattle.std.proofs.lemmas.Bool.Decides.{nat_tests}
 use Rattle.cov_types.specs.declared.coord.Coord.{Coord}
@@ -9,13 +9,13 @@ use Rattle.cov_types.specs.Coord.{is_before}
 use Rattle.cov_types.proofs.Equal.{Decides-same_segs}
 use Rattle.plane.specs.Point.{Point}
 use Rattle.plane.specs.Joined.{Joined}
-use Rattle.plane.specs.Region.{IsSide, IsOuter, IsJoinedSide, AreRegions}
-use Rattle.crossing_laws.proofs.Located.{one_region}
+use Rattle.plane.specs.Region.{IsSide, IsOuter}
 use Rattle.crossing_laws.specs.Across.{is_same_seg}
 use Rattle.crossing_laws.proofs.Lists.{contains_here, contains_there}
 use Rattle.sector_laws.specs.Sector.{HalfEdge, left, IsHalfEdge, AreDistinct, IsPlanar}
 use Rattle.sector_laws.proofs.Numbers.{one_number, half_edge_among, half_edge_side}
 use Rattle.sector_laws.proofs.Angles.{true_or_false}
+use Rattle.region_laws.specs.Laws.{AreNoLater, AreSideRegions}
 use Rattle.region_laws.specs.Linked.{LeavesOverRay, IsLinked, IsWalk}
 use Rattle.region_laws.proofs.Balance.{first_or_later}
 use Rattle.region_laws.proofs.Outwards.{HasWayOut, some_out}
@@ -121,7 +121,7 @@ module _ (edges : List Seg) (planar : IsPlanar edges) (distinct : AreDistinct ed
 
 -- numbers of sides that are no later, and joined, and the same on joined sides
 regions_by : (edges : List Seg) (number : ℕ → ℕ) → ((n m : ℕ) (p q : Point) → IsSide edges n p → IsSide edges m q → Joined edges p q → number n ≡ number m)
-    → ((n : ℕ) (p : Point) → IsSide edges n p → (number n ≤ n) × IsJoinedSide edges p (number n)) → AreRegions edges number
+    → AreNoLater edges number → AreSideRegions edges number
 regions_by edges number joined low n p at = record {
   joined = (low n p at).1;
   least = λ k j. (
@@ -132,7 +132,7 @@ regions_by edges number joined low n p at = record {
 }
 
 pub fewer_links_regions : (edges : List Seg) → IsPlanar edges → AreDistinct edges → (number : ℕ → ℕ) (outer : ℕ) → IsWalk edges number outer
-    → ((n : ℕ) (p : Point) → IsSide edges n p → (number n ≤ n) × IsJoinedSide edges p (number n)) → AreRegions edges number
+    → AreNoLater edges number → AreSideRegions edges number
 fewer_links_regions edges planar distinct number outer walk low = regions_by edges number (walk_joined edges planar distinct number outer walk) low
 
 -- ---- numbers that all links keep
@@ -160,8 +160,5 @@ module _ (edges : List Seg) (planar : IsPlanar edges) (distinct : AreDistinct ed
       let out = some_out edges planar h of.among in
       walk_joined edges planar distinct number (number (index edges out.half_edge)) (kept_walk out) n m p q at_n at_m j
 
-  pub walk_regions : ((n : ℕ) (p : Point) → IsSide edges n p → (number n ≤ n) × IsJoinedSide edges p (number n)) → AreRegions edges number
+  pub walk_regions : AreNoLater edges number → AreSideRegions edges number
   walk_regions low = regions_by edges number joined_number low
-
-pub one_numbering : (edges : List Seg) (number other : ℕ → ℕ) → AreRegions edges number → AreRegions edges other → (n : ℕ) (p : Point) → IsSide edges n p → number n ≡ other n
-one_numbering edges number other h k n p at = one_region edges p (number n) (other n) (h n p at) (k n p at)

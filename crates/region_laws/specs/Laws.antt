@@ -5,7 +5,7 @@ use Rattle.cov_types.specs.declared.seg.Seg.{Seg}
 use Rattle.plane.specs.Point.{Point, at_coord}
 use Rattle.plane.specs.Segment.{upper}
 use Rattle.plane.specs.Joined.{IsOff, Joined}
-use Rattle.plane.specs.Region.{IsSide, IsJoinedSide, IsOuter, AreRegions}
+use Rattle.plane.specs.Region.{IsSide, IsJoinedSide, IsRegionOf, IsOuter, AreRegions}
 use Rattle.sector_laws.specs.Sector.{HalfEdge, left, IsNext, AreDistinct, IsPlanar}
 use Rattle.region_laws.specs.Below.{IsNearestBelow, HasNoneBelow}
 use Rattle.crossing_laws.specs.Crossing.{IsBalanced}
@@ -71,23 +71,31 @@ CrossedLaw = (edges : List Seg) → IsPlanar edges → (passes : HalfEdge → Bo
 
 -- ---- the numbers of the regions
 
--- there are numbers that give each side its region, the least side that it is joined with
+-- there is a list that gives each side its region, the least side that it is joined with
 abbrev pub RegionsExistLaw : Type 0
-RegionsExistLaw = (edges : List Seg) → IsPlanar edges → AreDistinct edges → (number : ℕ → ℕ) × AreRegions edges number
+RegionsExistLaw = (edges : List Seg) → IsPlanar edges → AreDistinct edges → (numbers : List ℕ) × AreRegions edges numbers
 
--- and any two such numbers are one at each side
+-- and only one
 abbrev pub OneNumberingLaw : Type 0
-OneNumberingLaw = (edges : List Seg) (number other : ℕ → ℕ) → AreRegions edges number → AreRegions edges other → (n : ℕ) (p : Point) → IsSide edges n p → number n ≡ other n
+OneNumberingLaw = (edges : List Seg) (numbers others : List ℕ) → AreRegions edges numbers → AreRegions edges others → numbers ≡ others
 
--- numbers that links keep are such numbers, where each is the number of a side that is no later and is joined with its own
+-- the numbers of the sides are those of their regions
+abbrev pub AreSideRegions : List Seg → (ℕ → ℕ) → Type 0
+AreSideRegions edges number = (n : ℕ) (p : Point) → IsSide edges n p → IsRegionOf edges p (number n)
+
+-- the number of each side is that of a side that is no later and is joined with it
+abbrev pub AreNoLater : List Seg → (ℕ → ℕ) → Type 0
+AreNoLater edges number = (n : ℕ) (p : Point) → IsSide edges n p → (number n ≤ n) × IsJoinedSide edges p (number n)
+
+-- numbers that links keep are those of the regions, where each is that of a joined side that is no later
 abbrev pub WalkLaw : Type 0
 WalkLaw = (edges : List Seg) → IsPlanar edges → AreDistinct edges → (number : ℕ → ℕ) → ((n m : ℕ) → IsLinked edges n m → number n ≡ number m)
-    → ((n : ℕ) (p : Point) → IsSide edges n p → (number n ≤ n) × IsJoinedSide edges p (number n)) → AreRegions edges number
+    → AreNoLater edges number → AreSideRegions edges number
 
--- numbers of a walk, which links down only where no earlier side is, are the regions too, where each is the number of a side that is no later and is joined with its own
+-- so are the numbers of a walk, which links down only where no earlier side is
 abbrev pub FewerLinksLaw : Type 0
 FewerLinksLaw = (edges : List Seg) → IsPlanar edges → AreDistinct edges → (number : ℕ → ℕ) (outer : ℕ) → IsWalk edges number outer
-    → ((n : ℕ) (p : Point) → IsSide edges n p → (number n ≤ n) × IsJoinedSide edges p (number n)) → AreRegions edges number
+    → AreNoLater edges number → AreSideRegions edges number
 
 -- and on such a walk each side with an outer side point has the number of the outer region
 abbrev pub OuterNumberLaw : Type 0

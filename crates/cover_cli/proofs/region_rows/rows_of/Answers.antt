@@ -17,8 +17,8 @@ loop-side-init c = λ o is_overlay. rows_start o c.new-text.result.items c.new-t
 
 pub loop-side-preserved : goal.loop-side-preserved
 loop-side-preserved c = λ o is_overlay.
-    (let numbered : AreRegions c.args.regions.now o.number = subst (λ (es : List Seg). AreRegions es o.number) (is_overlay.edges ∙ c.requires.labels ∙ sym c.requires.regions) is_overlay.numbered in
-    let number = c.region_of.ensures.numbering o.number numbered in
+    (let numbered : AreRegions c.args.regions.now o.numbers = subst (λ (es : List Seg). AreRegions es o.numbers) (is_overlay.edges ∙ c.requires.labels ∙ sym c.requires.regions) is_overlay.numbered in
+    let number = c.region_of.ensures.numbering o.numbers numbered in
     elim c.if-region_of-side.branch as (λ _. AreRows o (regions_below o (c.loop-side.side + 1)) c.if-region_of-side.text.items) [
       | then-region_of-side+in_ok-append_row w ↦
           (let row = w.in_ok-append_row.ensures o is_overlay in

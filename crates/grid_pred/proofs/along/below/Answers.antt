@@ -4,7 +4,7 @@ use Rattle.grid_pred.proofs.Heights.{tells_side, less-below, equal-on, greater-a
 use Rattle.grid_pred.proofs.along.below.Goals as goal
 
 pub returns-clause-side : goal.returns-clause-side
-returns-clause-side c = tells_side c.args.s c.args.p c.turn.result c.cmp.result (search rules) c.turn.ensures c.cmp.ensures
+returns-clause-side c = tells_side c.args.s c.args.p c.turn_to.result c.cmp.result (search rules) c.turn_to.ensures.side c.cmp.ensures
 
 pub returns-clause-less : goal.returns-clause-less
 returns-clause-less c = less-below c.args.s c.args.p (rises-in_range c.args.s c.requires.segment_in_range) c.requires.from c.requires.to c.cmp.result (returns-clause-side c)

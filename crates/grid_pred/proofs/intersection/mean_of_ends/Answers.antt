@@ -1,6 +1,8 @@
-use Rattle.std.proofs.Common.{pos, ◌<ℤ◌, sym, subst, arith}
+use Rattle.std.proofs.Common.{◌^◌, lit<, pos, ◌<ℤ◌, sym, subst, arith}
 use Rattle.std.proofs.lemmas.Int.{ints}
-use Rattle.grid_pred.proofs.Weighted.{weights_fit, weights_is}
+use mir.Syntax.{w64}
+use Rattle.grid_pred.proofs.Small.{plus_fits}
+use Rattle.grid_pred.proofs.Weighted.{weights_is}
 use Rattle.grid_pred.proofs.intersection.mean_of_ends.Goals as goal
 
 pub weighted_sum-requires-2-clause-a_small : goal.weighted_sum-requires-2-clause-a_small
@@ -10,7 +12,7 @@ pub weighted_sum-requires-2-clause-b_small : goal.weighted_sum-requires-2-clause
 weighted_sum-requires-2-clause-b_small c = let hi = c.requires.in_range.hi in record { low = omega (arith, ints); high = omega (arith, ints) }
 
 pub overflow_add-result : goal.overflow_add-result
-overflow_add-result c = weights_fit c.args.lo c.args.hi c.requires.lo_small c.requires.hi_small
+overflow_add-result c = plus_fits w64 c.args.lo c.args.hi (2 ^ 59) (2 ^ 59) (lit< tt) (lit< tt) c.requires.lo_small c.requires.hi_small (lit< tt)
 
 pub invariant_of-result : goal.invariant_of-result
 invariant_of-result c = record {

@@ -1,38 +1,26 @@
-use Rattle.std.proofs.Common.{◌≡◌, ◌∙◌, ℤ, ◌-ℤ◌, ◌*ℤ◌, FitsSigned, rules}
-use Rattle.std.proofs.lemmas.Int.{to_z-of_z}
-use mir.Syntax.{w32, w128}
-use Rattle.cov_types.specs.declared.coord.Coord.{Coord}
-use Rattle.plane.specs.Segment.{turn_of}
-use Rattle.grid_pred.proofs.Wide.{difference_fits, difference_is}
+use Rattle.std.proofs.Common.{◌∙◌, ◌^◌, lit<, rules}
+use mir.Syntax.{w128}
+use Rattle.grid_pred.proofs.Small.{minus_fits, minus_is}
+use Rattle.grid_pred.proofs.Turns.{wide_within, turn_by}
+use Rattle.integer_laws.proofs.Bound.{IsWithin}
 use Rattle.grid_pred.proofs.orientation.turn.Goals as goal
 
--- the turn from its two products, and these from the four differences
-turn_of_parts : (a b c : Coord) (p q u v w z : ℤ) → p ≡ u *ℤ v → q ≡ w *ℤ z
-    → u ≡ b.x -ℤ a.x → v ≡ c.y -ℤ a.y → w ≡ b.y -ℤ a.y → z ≡ c.x -ℤ a.x → p -ℤ q ≡ turn_of a b c
-unfolding turn_of
-turn_of_parts a b c p q u v w z hp hq hu hv hw hz = (λ i. hp i -ℤ hq i) ∙ (λ i. (hu i *ℤ hv i) -ℤ (hw i *ℤ hz i))
+first_within : (c : goal.After-wide_product-2) → IsWithin (2 ^ 64) c.wide_product.result
+first_within c = wide_within _ _ _ c.difference.ensures.small c.difference-2.ensures.small c.wide_product.ensures.exact
+
+second_within : (c : goal.After-wide_product-2) → IsWithin (2 ^ 64) c.wide_product-2.result
+second_within c = wide_within _ _ _ c.difference-3.ensures.small c.difference-4.ensures.small c.wide_product-2.ensures.exact
 
 pub overflow_sub-result : goal.overflow_sub-result
-overflow_sub-result c =
-    difference_fits c.product.result c.product-2.result (search rules) (search rules) c.product.ensures.small c.product-2.ensures.small
+overflow_sub-result c = minus_fits w128 c.wide_product.result c.wide_product-2.result (2 ^ 64) (2 ^ 64) (lit< tt) (lit< tt) (first_within c) (second_within c) (lit< tt)
 
 pub returns : goal.returns
 returns c =
-    let f1 : FitsSigned w128 c.difference.result = search rules in
-    let f2 : FitsSigned w128 c.difference-2.result = search rules in
-    let f3 : FitsSigned w128 c.difference-3.result = search rules in
-    let f4 : FitsSigned w128 c.difference-4.result = search rules in
-    let g1 : FitsSigned w32 c.args.a.x = search rules in
-    let g2 : FitsSigned w32 c.args.a.y = search rules in
-    let g3 : FitsSigned w32 c.args.b.x = search rules in
-    let g4 : FitsSigned w32 c.args.b.y = search rules in
-    let g5 : FitsSigned w32 c.args.c.x = search rules in
-    let g6 : FitsSigned w32 c.args.c.y = search rules in
-    let e1 = simp to_z-of_z at c.product.ensures.exact in
-    let e2 = simp to_z-of_z at c.product-2.ensures.exact in
-    let e3 = simp to_z-of_z at c.difference.ensures.exact in
-    let e4 = simp to_z-of_z at c.difference-2.ensures.exact in
-    let e5 = simp to_z-of_z at c.difference-3.ensures.exact in
-    let e6 = simp to_z-of_z at c.difference-4.ensures.exact in
-    difference_is c.product.result c.product-2.result (search rules) (search rules) c.product.ensures.small c.product-2.ensures.small
-    ∙ turn_of_parts c.args.a c.args.b c.args.c c.product.result c.product-2.result c.difference.result c.difference-2.result c.difference-3.result c.difference-4.result e1 e2 e3 e4 e5 e6
+    minus_is w128 c.wide_product.result c.wide_product-2.result (2 ^ 64) (2 ^ 64) (lit< tt) (lit< tt) (first_within c) (second_within c) (lit< tt)
+    ∙ turn_by c.args.a c.args.b c.args.c c.wide_product.result c.wide_product-2.result c.difference.result c.difference-2.result c.difference-3.result c.difference-4.result
+    (record { x = search rules; y = search rules }) (record { x = search rules; y = search rules }) (record { x = search rules; y = search rules })
+    c.wide_product.ensures.exact c.wide_product-2.ensures.exact
+    (record { exact = c.difference.ensures.exact; small = c.difference.ensures.small })
+    (record { exact = c.difference-2.ensures.exact; small = c.difference-2.ensures.small })
+    (record { exact = c.difference-3.ensures.exact; small = c.difference-3.ensures.small })
+    (record { exact = c.difference-4.ensures.exact; small = c.difference-4.ensures.small })

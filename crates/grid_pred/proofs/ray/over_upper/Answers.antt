@@ -1,10 +1,6 @@
-use Rattle.std.proofs.Common.{refl, arith}
-use Rattle.std.proofs.lemmas.Int.{ints}
-use Rattle.plane.specs.Segment.{upper}
+use Rattle.std.proofs.Common.{◌∙◌, sym}
+use Rattle.grid_pred.proofs.Upper.{over_upper-is_over_mid}
 use Rattle.grid_pred.proofs.ray.over_upper.Goals as goal
 
-pub over_point-requires-clause-small : goal.over_point-requires-clause-small
-over_point-requires-clause-small c = record { x = omega (arith, ints); y = omega (arith, ints); d = omega (arith, ints) }
-
 pub returns : goal.returns
-returns c = c.over_point.ensures (upper c.args.s) (record { x = omega (arith, ints); y = omega (arith, ints); d = refl })
+returns c = c.over_mid.ensures ∙ sym (over_upper-is_over_mid c.args.e c.args.s c.requires.edge_in_range)

@@ -10,7 +10,7 @@ bounds-sides-region c =
 pub offset_bounds-sides-region : goal.offset_bounds-sides-region
 offset_bounds-sides-region c =
     let within = queue_within c.args.map.now c.loop-next.spread c.loop-next.invariant.spread c.loop-next.next _ (omega (arith, c.loop-next-test.true)) c.index-region.ensures in
-    omega (arith, c.requires.sides.count, c.len.ensures.sided.sides, c.len.ensures.small, c.len.ensures.count)
+    omega (arith, c.requires.sides.count, c.len.ensures.sided.numbered.count, c.len.ensures.small, c.len.ensures.count)
 
 pub leave-requires-clause-within : goal.leave-requires-clause-within
 leave-requires-clause-within c =

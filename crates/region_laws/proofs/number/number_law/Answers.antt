@@ -1,5 +1,6 @@
+use Rattle.crossing_laws.proofs.Located.{one_numbering}
 use Rattle.region_laws.proofs.Exists.{regions_exist}
-use Rattle.region_laws.proofs.Numbered.{one_numbering, walk_regions, fewer_links_regions, outer_number}
+use Rattle.region_laws.proofs.Numbered.{walk_regions, fewer_links_regions, outer_number}
 use Rattle.region_laws.proofs.number.number_law.Goals as goal
 
 pub returns-clause-some : goal.returns-clause-some

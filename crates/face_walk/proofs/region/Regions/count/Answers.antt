@@ -1,7 +1,7 @@
 use Rattle.std.proofs.Common.{◌≡◌, ◌==◌, sym, ◌∙◌, ap, ℕ, ◌+◌, ◌*◌, length, slice_index, count_by, Bool, arith}
 use Rattle.std.proofs.lemmas.List.{get_or_read}
 use Rattle.plane.specs.Label.{numbers_below}
-use Rattle.face_walk.proofs.Reading.{numbered-shown, same_passes, other_fails, count_more_yes, count_more_no, count_numbered}
+use Rattle.face_walk.proofs.Reading.{numbered-shown, same_passes, other_fails, count_more_yes, count_more_no, count_numbered, side_numbers}
 use Rattle.face_walk.proofs.region.Regions.count.Goals as goal
 use Rattle.face_walk.proofs.region.Regions.count.Goals.{then-index-side, else-index-side}
 
@@ -35,7 +35,7 @@ loop-side-preserved c =
 
 pub returns-clause-count : goal.returns-clause-count
 returns-clause-count c =
-    λ number h.
+    λ numbers h.
     let edges = c.args.self.now in
     let table = c.self.inside.least.items in
     let numbered = numbered-shown c.self.inside.edges.items edges table c.self.view_is c.self.invariant in
@@ -44,10 +44,10 @@ returns-clause-count c =
     let stop = c.loop-side-test.false in
     let far = c.loop-side.auto.side-end in
     let all : c.loop-side.side ≡ 2 * length edges = omega (arith, size, count, stop, far) in
-    c.loop-side.invariant.counted ∙ ap (λ n. count_by (λ k. slice_index table k == k) (numbers_below n)) all ∙ count_numbered edges table numbered number h
+    c.loop-side.invariant.counted ∙ ap (λ n. count_by (λ k. slice_index table k == k) (numbers_below n)) all ∙ count_numbered edges table numbered numbers h
 
 pub returns-clause-numbered : goal.returns-clause-numbered
 returns-clause-numbered c =
     let table = c.self.inside.least.items in
     let numbered = numbered-shown c.self.inside.edges.items c.args.self.now table c.self.view_is c.self.invariant in
-    (λ n. slice_index table n, numbered.regions)
+    side_numbers c.args.self.now table numbered

@@ -16,7 +16,7 @@ directed-requires c =
 pub directed-requires-2 : goal.directed-requires-2
 directed-requires-2 c =
     let shown : c.deref-2.result.now ≡ c.args.self.now = c.deref-2.ensures.value ∙ c.self.view_is in
-    record { within = subst (λ (es : List Seg). c.twin_id.result.number < 2 * length es) (sym shown) (c.twin_id.ensures.within (length c.args.self.now) c.requires.within) }
+    record { within = subst (λ (es : List Seg). c.twin.result.number < 2 * length es) (sym shown) (c.twin.ensures.within (length c.args.self.now) (subst (λ n. n < 2 * length c.args.self.now) (sym c.of_number.ensures) c.requires.within)) }
 
 pub returns : goal.returns
 returns c =
@@ -26,8 +26,8 @@ returns c =
     let second : c.deref-2.result.now ≡ c.args.self.now = c.deref-2.ensures.value ∙ c.self.view_is in
     λ f g at_f follows.
     c.ge.ensures
-    ∙ opens c.args.self.now planar c.args.h c.index.result.now.number c.twin_id.result.number (half_edge_of c.directed.result) (half_edge_of c.directed-2.result) next
+    ∙ opens c.args.self.now planar c.args.h c.index.result.now.number c.twin.result.number (half_edge_of c.directed.result) (half_edge_of c.directed-2.result) next
     (subst (λ (es : List Seg). IsHalfEdge es c.index.result.now.number (half_edge_of c.directed.result)) first c.directed.ensures.numbered)
-    (c.twin_id.ensures.opposite c.args.self.now)
-    (subst (λ (es : List Seg). IsHalfEdge es c.twin_id.result.number (half_edge_of c.directed-2.result)) second c.directed-2.ensures.numbered)
+    (λ k at. c.twin.ensures.opposite c.args.self.now k (subst (λ n. IsHalfEdge c.args.self.now n k) (sym c.of_number.ensures) at))
+    (subst (λ (es : List Seg). IsHalfEdge es c.twin.result.number (half_edge_of c.directed-2.result)) second c.directed-2.ensures.numbered)
     f g at_f follows

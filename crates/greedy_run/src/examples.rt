@@ -1,0 +1,12 @@
+ghost use Rattle.greedy_run.specs.Examples.{StateExamples};
+ghost use Rattle.greedy_run.specs.Runs.{RunExamples};
+
+/// Examples with numbers, by computation. A call does nothing.
+pub fn vectors()
+    ensures { StateExamples }
+{}
+
+/// Small instances of the definitions that do not compute. A call does nothing.
+pub fn instances()
+    ensures { RunExamples }
+{}

@@ -1,0 +1,3 @@
+pub mod Middle
+pub mod Under
+pub mod Path

@@ -1,0 +1,36 @@
+ghost use Rattle.region_owners.specs.Laws.{ClearanceLaw, NarrowLaw, PickLaw, AreLawful, CandidateLaw, LabelOwnerLaw, NeighbourLaw, OwnerLaw, OwnerBelowLaw, OwnersLaw, NoWidthLaw};
+
+/// A region has one clearance at most, and is narrow where that is passed. A call does nothing.
+pub fn clearance_law()
+    ensures one { ClearanceLaw }
+    ensures narrow { NarrowLaw }
+{}
+
+/// What the four rules pick. A call does nothing.
+pub fn pick_law()
+    ensures { PickLaw }
+{}
+
+/// The candidates for a region, which ascend by member. A call does nothing.
+pub fn candidate_law()
+    ensures { CandidateLaw }
+{}
+
+/// Each of the four rules picks one of the candidates. A call does nothing.
+pub fn lawful_law<State>()
+    ensures { AreLawful State }
+{}
+
+/// A region that members hold has an owner among them, and a gap a neighbour that owns a region beside it. A call does nothing.
+pub fn owned_law<State>()
+    ensures held { LabelOwnerLaw State }
+    ensures gap { NeighbourLaw State }
+    ensures below { OwnerBelowLaw State }
+{}
+
+/// A region has one owner at most, and owners exist. A call does nothing.
+pub fn owner_law<State>()
+    ensures one { OwnerLaw State }
+    ensures exist { OwnersLaw State }
+    ensures no_width { NoWidthLaw State }
+{}

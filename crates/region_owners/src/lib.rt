@@ -1,0 +1,33 @@
+//! Gaps and owners of regions: how narrow a gap is, what a merge rule is told of a region, and who owns a region.
+//!
+//! It has definitions, laws and examples, and no code but the structs that contracts speak of. Its promise: each definition
+//! asks for grid points, adds up over edges or folds a rule over the shared regions, and none knows a search, a label that is
+//! stored or an index. The laws are the public functions `clearance_law` to `pick_law`; `vectors` has examples with numbers,
+//! and `instances` has small cases of what does not compute.
+//!
+//! The files of `specs/`, lowest first:
+//!
+//! - `Gap`: gaps, the room of a grid point, the clearance of a region.
+//! - `Candidates`, `Facts`: the candidates for a region, by ascending member, and what a rule is told of it.
+//! - `Owner`: lawful rules, the four rules, a rule with a state over the shared regions, and who owns a region.
+//! - `Laws`; `Examples`; `Square`: the instances over one square.
+//!
+//! A crate above takes a lemma by `use Rattle.region_owners.proofs.FILE.{NAME}` in its `proofs/`. The files:
+//!
+//! - `Clearances`: one clearance (`clearance_unique`), and narrow by it (`narrow_is`).
+//! - `Picks`: the first best place (`first_best_is`). `Held`: the candidates ascend (`ordered`), the four rules are lawful
+//!   (`lawful`), and a region that is held has an owner (`held_owner`).
+//! - `Neighbours`: an edge has a length (`has_length`), a gap has a region that is held beside it (`held_beside`) and so a neighbour
+//!   (`gap_neighbour`). `Owners`: one owner, which is a member (`owner_below`), and owners exist (`owners_exist`, `no_width`).
+//! - `Computed`, `SquareClearance`, `SquareOwners`: the examples and instances.
+#![tactic(auto)]
+
+mod candidate;
+mod examples;
+mod facts;
+mod laws;
+
+pub use candidate::Candidate;
+pub use examples::{instances, vectors};
+pub use facts::Facts;
+pub use laws::{candidate_law, clearance_law, lawful_law, owned_law, owner_law, pick_law};

@@ -1,0 +1,5 @@
+pub mod Parts
+pub mod Cleaned
+pub mod Laws
+pub mod Examples
+pub mod Square

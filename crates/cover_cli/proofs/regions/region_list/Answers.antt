@@ -1,7 +1,6 @@
 -- The overlay of the live edges, and its rows.
-use Rattle.std.proofs.Common.{◌<◌, ◌∙◌, List, length, subst}
+use Rattle.std.proofs.Common.{◌<◌, ◌∙◌, List, length, refl, subst}
 use Rattle.std.specs.Prelude.{All}
-use Rattle.std.proofs.lemmas.Result.{IfOk-weaker}
 use Rattle.cov_types.specs.Uses.{uses_of}
 use Rattle.cov_types.specs.declared.edge_use.EdgeUse.{EdgeUse}
 use Rattle.cov_types.specs.declared.seg.Seg.{Seg}
@@ -10,7 +9,7 @@ use Rattle.region_laws.proofs.Exists.{regions_exist}
 use Rattle.arrangement.specs.Noding.{IsNoded}
 use Rattle.arrangement.specs.declared.odd_use.OddUse.{OddUse}
 use Rattle.cover_cli.proofs.Overlays.{overlay_of, odd_members, snapped_overlay, is_overlay_of}
-use Rattle.cover_cli.proofs.region_listing.region_list.Goals as goal
+use Rattle.cover_cli.proofs.regions.region_list.Goals as goal
 
 pub returns : goal.returns
 returns c =
@@ -26,9 +25,9 @@ returns c =
     let numbering = regions_exist live planar c.in_ok-live.ensures.distinct in
     let are = odd_members list members edges live odd live_odd noded c.in_ok-live.ensures.exact all in
     let overlay = overlay_of live live_odd members numbering.0 in
-    IfOk-weaker c.rows_of.result _ _
-    (λ text rows. record {
+    record {
+      done = refl;
       overlay = overlay;
       is_overlay = snapped_overlay list members edges live odd live_odd noded c.in_ok-live.ensures.exact numbering.0 numbering.1;
-      rows = rows overlay (is_overlay_of c.in_ok-labels.labels live live_odd members numbering.0 c.in_ok-labels.ensures are numbering.1);
-    }) c.rows_of.ensures
+      rows = c.in_ok-text.ensures overlay (is_overlay_of c.in_ok-labels.labels live live_odd members numbering.0 c.in_ok-labels.ensures are numbering.1);
+    }

@@ -9,7 +9,7 @@ use Rattle.cover_cli.proofs.Listing.{member_lists_are, lists_moved}
 use Rattle.cover_cli.specs.Lines.{AreMemberLists}
 use Rattle.arrangement.specs.Noding.{IsNoded, odd_uses}
 use Rattle.arrangement.specs.declared.odd_use.OddUse.{OddUse}
-use Rattle.cover_cli.proofs.noding.noding.Goals as goal
+use Rattle.cover_cli.proofs.node.noding.Goals as goal
 
 pub returns : goal.returns
 returns c =
@@ -23,10 +23,11 @@ returns c =
     let inserted : c.deref-3.result.now ≡ c.in_ok-noded.noded.edges ∷ c.in_ok-lists.lists.items = c.deref-3.ensures.value ∙ c.in_ok-insert.ensures.items in
     let IsNodedBy : List EdgeUse → Type 0 = λ list. IsNoded list edges pairs in
     record {
+      done = refl;
       edges = edges;
       odd = pairs;
       noded = subst IsNodedBy uses c.in_ok-noded.ensures.exact;
-      lines = c.in_ok-lines_of.ensures
+      lines = c.in_ok-text.ensures
           ∙ ap (λ (all : List (Vec Seg Global)). lines_text (map (λ (l : Vec Seg Global). l.items) all)) inserted
           ∙ ap (λ (all : List (List Seg)). lines_text (edges ∷ all)) (member_lists_are (odd_uses edges pairs) c.args.c.now c.in_ok-lists.lists.items lists);
     }

@@ -6,3 +6,5 @@ pub mod SquareClearance
 pub mod SquareOwners
 pub mod Held
 pub mod Neighbours
+pub mod Boxes
+pub mod Frame

@@ -108,7 +108,7 @@ level_room v x y z s room square =
     let up : ((y *ℤ pos 1) -ℤ y) *ℤ ((y *ℤ pos 1) -ℤ y) ≡ pos 0 = λ i. dy i *ℤ dy i in
     omega (arith, ints)
 
-at_most_ten : (v : ℕ) (q : Coord) → Joined square_edges (at_coord q) (lower left) → ((e : Seg) → Contains square_edges e → HasRoom q v e) → v ≤ 10
+pub at_most_ten : (v : ℕ) (q : Coord) → Joined square_edges (at_coord q) (lower left) → ((e : Seg) → Contains square_edges e → HasRoom q v e) → v ≤ 10
 unfolding squared_distance
 at_most_ten v q j room =
     let low = from_south q j in

@@ -5,3 +5,4 @@ pub mod Owner
 pub mod Laws
 pub mod Examples
 pub mod Square
+pub mod Frame

@@ -1,4 +1,5 @@
 ghost use Rattle.region_owners.specs.Examples.{RuleExamples, OverlapExamples, RowExamples, MoatExamples};
+ghost use Rattle.region_owners.specs.Frame.{FrameExamples};
 ghost use Rattle.region_owners.specs.Square.{SquareExamples};
 
 /// Examples with numbers, by computation. A call does nothing.
@@ -11,5 +12,6 @@ pub fn vectors()
 
 /// Small instances of the definitions that do not compute. A call does nothing.
 pub fn instances()
-    ensures { SquareExamples }
+    ensures square { SquareExamples }
+    ensures frame { FrameExamples }
 {}

@@ -10,7 +10,7 @@
 //! - `Gap`: gaps, the room of a grid point, the clearance of a region.
 //! - `Candidates`, `Facts`: the candidates for a region, by ascending member, and what a rule is told of it.
 //! - `Owner`: lawful rules, the four rules, a rule with a state over the shared regions, and who owns a region.
-//! - `Laws`; `Examples`; `Square`: the instances over one square.
+//! - `Laws`; `Examples`; `Square`: the instances over one square; `Frame`: a gap.
 //!
 //! A crate above takes a lemma by `use Rattle.region_owners.proofs.FILE.{NAME}` in its `proofs/`. The files:
 //!
@@ -19,7 +19,7 @@
 //!   (`lawful`), and a region that is held has an owner (`held_owner`).
 //! - `Neighbours`: an edge has a length (`has_length`), a gap has a region that is held beside it (`held_beside`) and so a neighbour
 //!   (`gap_neighbour`). `Owners`: one owner, which is a member (`owner_below`), and owners exist (`owners_exist`, `no_width`).
-//! - `Computed`, `SquareClearance`, `SquareOwners`: the examples and instances.
+//! - `Boxes`: points of a box that no edge enters are joined (`box_joined`). `Computed`, `SquareClearance`, `SquareOwners`, `Frame`: the examples and instances.
 #![tactic(auto)]
 
 mod candidate;

@@ -5,3 +5,5 @@ pub mod Ways
 pub mod SquareCleaned
 pub mod Reached
 pub mod Polygons
+pub mod NextWays
+pub mod Rotated

@@ -1,0 +1,5 @@
+pub mod Rect
+pub mod Probe
+pub mod Places
+pub mod Hulls
+pub mod Levels

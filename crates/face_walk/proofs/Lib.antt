@@ -1,10 +1,9 @@
 pub mod Nearer
-pub mod Depth
 pub mod Places
 pub mod Numbering
-pub mod Under
-pub mod Scan
-pub mod LinksDown
-pub mod Cycles
-pub mod LinksSoFar
+mod Marking
+mod Cycles
+mod Settling
+mod LinksDown
+mod Linking
 pub mod Reading

@@ -1,38 +1,58 @@
-ghost use Rattle.std.specs.Prelude.{◌≡◌, ◌*◌, ◌<◌, length, All, IfOk};
-ghost use Rattle.face_walk.specs.Cycles.{AreAlong, AreFirst, AreFirstAmong};
+ghost use Rattle.std.specs.Prelude.{◌≡◌, ◌*◌, ◌<◌, ◌≤◌, length, slice_index, IfOk};
+ghost use Rattle.sector_laws.specs.Sector.{IsPlanar, AreDistinct};
+ghost use Rattle.face_walk.specs.Cycles.{IsBeforeMarks, IsMarkedRound, AreCycles};
 
-use components::{Link, components};
 use cov_types::NoMemory;
 use half_edge::Arena;
 use std::alloc::Global;
 
-/// For each half-edge one of its boundary cycle that leaves the least vertex of the cycle, in linear time and memory. The links are
-/// those from each half-edge to the next one.
-pub fn first_of_cycles(alloc: Global, a: &Arena, along: &[Link]) -> Result<Vec<usize>, NoMemory>
-    requires { AreAlong a.now along.now }
-    ensures { IfOk result (λ v. AreFirst a.now along.now v.items) }
-{
-    let cycles = components(alloc, a.len(), along)?;
-    let first = first_at_numbers(alloc, a, &cycles)?;
-    let mut table = Vec::new(alloc);
-    for cycle in &cycles {
-        table.push(first[*cycle])?;
-    }
-    Ok(table)
+/// A boundary cycle: its least side, and one of its half-edges that leaves the least vertex of the cycle.
+#[derive(Clone, Copy)]
+pub struct Cycle {
+    pub least: usize,
+    pub first: usize,
 }
 
-// At the number of each cycle one of its half-edges that leaves the least vertex, where each half-edge has the number of its cycle.
-fn first_at_numbers(alloc: Global, a: &Arena, cycles: &[usize]) -> Result<Vec<usize>, NoMemory>
-    requires count { length cycles.now ≡ 2 * length a.now }
-    requires within { All (λ c. c < 2 * length a.now) cycles.now }
-    ensures { IfOk result (λ v. AreFirstAmong a.now cycles.now (2 * length a.now) v.items) }
+/// The boundary cycles of an arena, ascending by their least sides, and for each half-edge the place of its cycle.
+#[derive(Drop)]
+pub struct Cycles {
+    pub of: Vec<usize>,
+    pub list: Vec<Cycle>,
+}
+
+/// The boundary cycles of an arena, in linear time and memory: from each half-edge that none has passed a walk along `next` leads back
+/// to it, and marks what it passes.
+pub fn boundary_cycles(alloc: Global, a: &Arena) -> Result<Cycles, NoMemory>
+    ensures { IfOk result (λ c. AreCycles a.now c.of.items c.list.items) }
 {
-    let mut first: Vec<usize> = (0..a.len()).collect(alloc)?;
+    let unmarked = a.len();
+    let mut of = vec![in alloc; unmarked; a.len()]?;
+    let mut list = Vec::new(alloc);
     for h in 0..a.len() {
-        let cycle = cycles[h];
-        if a.origin(h) < a.origin(first[cycle]) {
-            first[cycle] = h;
+        if of[h] == unmarked {
+            let first = walk(a, h, list.len(), &mut of);
+            list.push(Cycle { least: h, first })?;
         }
     }
-    Ok(first)
+    Ok(Cycles { of, list })
+}
+
+// Marks the half-edges of the cycle that the start is on, and answers one of them that leaves the least vertex. A half-edge without a
+// mark has the number of all half-edges.
+fn walk(a: &Arena, start: usize, mark: usize, marks: &mut [usize]) -> usize
+    requires before { IsBeforeMarks a.now start marks.old }
+    requires fresh { mark < 2 * length a.now }
+    ensures { IsMarkedRound a.now start mark result marks.old marks.new }
+{
+    let unmarked = a.len();
+    let mut first = start;
+    let mut h = start;
+    'round: while marks[h] == unmarked {
+        marks[h] = mark;
+        if a.origin(h) < a.origin(first) {
+            first = h;
+        }
+        h = a.next(h);
+    }
+    first
 }

@@ -1,12 +1,13 @@
-ghost use Rattle.std.specs.Prelude.{◌≡◌, ℕ, ◌*◌, ◌<◌, ◌≤◌, ◌==◌, ◌↔◌, [], length, slice_index, count_by, List, IfOk, IfSome, IsNone};
+ghost use Rattle.std.specs.Prelude.{◌≡◌, ℕ, ◌*◌, ◌<◌, ◌≤◌, ◌==◌, ◌↔◌, [], length, slice_get, slice_index, option_map, count_by, List, IfOk, IfSome, IsNone};
 ghost use Rattle.cov_types.specs.declared.seg.Seg.{Seg};
 ghost use Rattle.plane.specs.Joined.{Joined};
 ghost use Rattle.plane.specs.Label.{numbers_below};
 ghost use Rattle.plane.specs.Point.{Point};
 ghost use Rattle.plane.specs.Region.{IsSide, IsOuter, IsRegionOf, IsOuterRegion, AreRegions};
 ghost use Rattle.sector_laws.specs.Sector.{IsPlanar, AreDistinct};
-ghost use Rattle.face_walk.specs.Numbers.{AreNumbered};
+ghost use Rattle.face_walk.specs.Numbers.{AreLeastSides, AreNumbered};
 
+use crate::cycle::{Cycles, boundary_cycles};
 use crate::links::links;
 use components::components;
 use cov_types::{NoMemory, Seg};
@@ -17,31 +18,40 @@ use std::marker::Model;
 /// The regions of the plane between the edges of an arena, each with the number of its least side. Side 2k is the upper side of edge k,
 /// side 2k + 1 its lower side. A contract sees them as the list of edges of the arena that they were built of.
 #[derive(Drop)]
-pub struct Regions {
-    edges: Vec<Seg>,
-    // For each side the least side of its region, and after these the least side of the outer region.
+pub struct Regions<'a> {
+    edges: &'a [Seg],
+    // For each side the least side of its region.
     least: Vec<usize>,
+    // The least side of the outer region.
+    outer: Option<usize>,
 }
 
-impl Model for Regions {
+impl<'a> Model for Regions<'a> {
     ghost Value = { List Seg };
 
-    ghost view = { λ r. r.edges.items };
+    ghost view = { λ r. r.edges.now };
 
-    ghost invariant = { λ r. AreNumbered r.edges.items r.least.items };
+    ghost invariant = { λ r. AreNumbered r.edges.now r.least.items r.outer };
 }
 
-impl Regions {
-    /// The regions between the edges of the arena. Takes linear memory. Its time is linear too, but that for each connected piece of the
-    /// drawing all edges are looked at once, for the nearest one below its least vertex: time in proportion to pieces times edges.
-    pub fn build(alloc: Global, a: &Arena) -> Result<Regions, NoMemory>
+impl<'a> Regions<'a> {
+    /// The regions between the edges of the arena, which they borrow. Takes linear memory.
+    pub fn build(alloc: Global, a: &'a Arena) -> Result<Regions<'a>, NoMemory>
         ensures { IfOk result (λ r. r ≡ a.now) }
     {
-        let edges = edges_of(alloc, a)?;
-        let links = links(alloc, a, &edges)?;
-        // A node for each side, and one for the place past the range.
-        let least = components(alloc, a.len() + 1, &links)?;
-        Ok(Regions { edges, least })
+        let edges = a.edges();
+        let cycles = boundary_cycles(alloc, a)?;
+        let links = links(alloc, a, &cycles)?;
+        // A node for each cycle, and one for the place past the range.
+        let past_range = cycles.list.len();
+        let connected = components(alloc, past_range + 1, &links)?;
+        let least = least_sides(alloc, &cycles, &connected)?;
+        let outer = least_side(&cycles, connected[past_range]);
+        Ok(Regions {
+            edges,
+            least,
+            outer,
+        })
     }
 
     /// The region of a side: the least side whose side point is joined with its own.
@@ -66,11 +76,7 @@ impl Regions {
         // It is the region of each outer point, and so of its own side point, and no other region is outer.
         ensures region { IfSome result (λ r. (p : Point) → IsOuter self.now p → IsRegionOf self.now p r) }
     {
-        if self.edges.is_empty() {
-            None
-        } else {
-            Some(self.least[self.least.len() - 1])
-        }
+        self.outer
     }
 
     /// How many regions have a side. Takes time in proportion to the edges.
@@ -83,7 +89,7 @@ impl Regions {
         ensures distinct { AreDistinct self.now }
     {
         let mut count = 0;
-        for side in 0..self.least.len() - 1 {
+        for side in 0..self.least.len() {
             if self.least[side] == side {
                 count += 1;
             }
@@ -92,13 +98,26 @@ impl Regions {
     }
 }
 
-// The edges of the arena.
-fn edges_of(alloc: Global, a: &Arena) -> Result<Vec<Seg>, NoMemory>
-    ensures { IfOk result (λ v. v.items ≡ a.now) }
+// For each side the least side of the cycles that links connect its cycle with.
+fn least_sides(alloc: Global, cycles: &Cycles, connected: &[usize]) -> Result<Vec<usize>, NoMemory>
+    requires within { (n : ℕ) → n < length cycles.now.of.items → slice_index cycles.now.of.items n < length connected.now }
+    requires some { (n : ℕ) → n < length cycles.now.of.items → slice_index connected.now (slice_index cycles.now.of.items n) < length cycles.now.list.items }
+    ensures { IfOk result (λ v. AreLeastSides cycles.now.of.items cycles.now.list.items connected.now v.items) }
 {
-    let mut edges = Vec::new(alloc);
-    for k in 0..a.len() / 2 {
-        edges.push(a.edge(2 * k))?;
+    let mut least = Vec::new(alloc);
+    for cycle in &cycles.of {
+        least.push(cycles.list[connected[*cycle]].least)?;
     }
-    Ok(edges)
+    Ok(least)
+}
+
+// The least side of the cycle at the place, if there is one.
+fn least_side(cycles: &Cycles, place: usize) -> Option<usize>
+    ensures { result ≡ option_map (λ c. c.least) (slice_get cycles.now.list.items place) }
+{
+    if place < cycles.list.len() {
+        Some(cycles.list[place].least)
+    } else {
+        None
+    }
 }

@@ -22,13 +22,15 @@ fn edges_between(
     Ok(edges)
 }
 
-/// The regions of the edges, whose sides have these regions.
-fn regions_with(
+/// The sides of these edges have these regions, so many in all, and this outer region.
+fn expect_regions(
     alloc: Global,
     rt: &impl Abort,
     numbers: &[(i32, i32, i32, i32)],
     want: &[usize],
-) -> Result<Regions, Fail> {
+    count: usize,
+    outer: Option<usize>,
+) -> Result<(), Fail> {
     let edges = edges_between(alloc, rt, numbers)?;
     assert!(rt; are_arranged(&edges));
     let arena = Arena::build(alloc, edges)?;
@@ -37,7 +39,9 @@ fn regions_with(
     for side in 0..arena.len() {
         assert_eq!(rt; regions.region_of(side), want[side], "side {side}");
     }
-    Ok(regions)
+    assert_eq!(rt; regions.count(), count);
+    assert_eq!(rt; regions.outer(), outer);
+    Ok(())
 }
 
 /// Two members round a gap, and a third one in the gap.
@@ -68,18 +72,12 @@ fn the_outside_of_an_island_is_the_gap_round_it(rt: HostRuntime) -> Result<(), F
         0, 1, 1, 0, 0, 1, 1, 7, 7, 1, 1, 7, 7, 13, 13, 7, 7, 13, 1, 19, 19, 0, 7, 19, 1, 19, 19, 7,
         0, 19, 13, 7, 7, 19, 19, 0,
     ];
-    let regions = regions_with(rt.alloc(), &rt, &GAP, &want)?;
-    assert_eq!(rt; regions.count(), 5);
-    assert_eq!(rt; regions.outer(), Some(0));
-    Ok(())
+    expect_regions(rt.alloc(), &rt, &GAP, &want, 5, Some(0))
 }
 
 #[test]
 fn without_edges_there_is_no_region(rt: HostRuntime) -> Result<(), Fail> {
-    let regions = regions_with(rt.alloc(), &rt, &[], &[])?;
-    assert_eq!(rt; regions.count(), 0);
-    assert_eq!(rt; regions.outer(), None);
-    Ok(())
+    expect_regions(rt.alloc(), &rt, &[], &[], 0, None)
 }
 
 /// Five squares, each in the one before: a hole, an island in it, its hole, and an island in that.
@@ -112,10 +110,7 @@ fn nested_squares_bound_a_region_each(rt: HostRuntime) -> Result<(), Fail> {
         0, 1, 1, 0, 0, 1, 1, 7, 7, 1, 1, 7, 7, 13, 13, 7, 7, 13, 13, 19, 19, 13, 13, 19, 19, 25,
         25, 19, 19, 25, 25, 19, 19, 13, 13, 7, 7, 1, 1, 0,
     ];
-    let regions = regions_with(rt.alloc(), &rt, &NESTED, &want)?;
-    assert_eq!(rt; regions.count(), 6);
-    assert_eq!(rt; regions.outer(), Some(0));
-    Ok(())
+    expect_regions(rt.alloc(), &rt, &NESTED, &want, 6, Some(0))
 }
 
 /// A square with two smaller ones in it, which have the vertex (10, 10) in common.
@@ -139,10 +134,7 @@ fn islands_that_touch_in_a_vertex_stay_apart(rt: HostRuntime) -> Result<(), Fail
     let want = [
         0, 1, 1, 0, 0, 1, 1, 7, 7, 1, 1, 7, 7, 1, 1, 15, 15, 1, 1, 15, 15, 1, 1, 0,
     ];
-    let regions = regions_with(rt.alloc(), &rt, &TOUCHING, &want)?;
-    assert_eq!(rt; regions.count(), 4);
-    assert_eq!(rt; regions.outer(), Some(0));
-    Ok(())
+    expect_regions(rt.alloc(), &rt, &TOUCHING, &want, 4, Some(0))
 }
 
 /// A comb whose three teeth hang from its bar, over a line below it.
@@ -167,10 +159,7 @@ fn between_the_teeth_of_a_comb_is_the_outer_region(rt: HostRuntime) -> Result<()
     let want = [
         0, 0, 0, 3, 3, 0, 0, 3, 3, 0, 3, 0, 0, 3, 3, 0, 3, 0, 3, 0, 0, 3, 3, 0, 3, 0,
     ];
-    let regions = regions_with(rt.alloc(), &rt, &COMB, &want)?;
-    assert_eq!(rt; regions.count(), 2);
-    assert_eq!(rt; regions.outer(), Some(0));
-    Ok(())
+    expect_regions(rt.alloc(), &rt, &COMB, &want, 2, Some(0))
 }
 
 #[test]
@@ -186,10 +175,7 @@ fn separate_parts_have_one_outer_region(rt: HostRuntime) -> Result<(), Fail> {
         (30, 0, 30, 10),
     ];
     let want = [0, 1, 1, 0, 0, 1, 1, 0, 0, 9, 9, 0, 0, 9, 9, 0];
-    let regions = regions_with(rt.alloc(), &rt, &squares, &want)?;
-    assert_eq!(rt; regions.count(), 3);
-    assert_eq!(rt; regions.outer(), Some(0));
-    Ok(())
+    expect_regions(rt.alloc(), &rt, &squares, &want, 3, Some(0))
 }
 
 #[test]
@@ -203,10 +189,7 @@ fn both_sides_of_a_dead_end_have_one_region(rt: HostRuntime) -> Result<(), Fail>
         (10, 0, 10, 10),
     ];
     let want = [0, 1, 1, 1, 1, 0, 0, 1, 1, 1, 1, 0];
-    let regions = regions_with(rt.alloc(), &rt, &edges, &want)?;
-    assert_eq!(rt; regions.count(), 2);
-    assert_eq!(rt; regions.outer(), Some(0));
-    Ok(())
+    expect_regions(rt.alloc(), &rt, &edges, &want, 2, Some(0))
 }
 
 /// Adds the edges of twenty squares of size 2 in a column, four units from one to the next, ascending.

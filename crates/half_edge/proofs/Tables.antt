@@ -11,7 +11,7 @@ pub record IsTable {X : Type 0} (P : ℕ → X → Type 0) (xs : List X) (n : �
 pub table-none : {X : Type 0} (P : ℕ → X → Type 0) → IsTable P [] 0
 table-none P = record { count = refl; each = λ i x at. absurd (none-some x at) }
 
-last_or_before : {X : Type 0} (xs : List X) (y : X) (i : ℕ) (x : X) → slice_get (xs ++ y ∷ []) i ≡ Some x → (slice_get xs i ≡ Some x) ⊎ ((i ≡ length xs) × (y ≡ x))
+pub last_or_before : {X : Type 0} (xs : List X) (y : X) (i : ℕ) (x : X) → slice_get (xs ++ y ∷ []) i ≡ Some x → (slice_get xs i ≡ Some x) ⊎ ((i ≡ length xs) × (y ≡ x))
 last_or_before [] y zero x at = inr (refl, same_Some y x at)
 last_or_before [] y (suc i) x at = absurd (none-some x at)
 last_or_before (z ∷ zs) y zero x at = inl at

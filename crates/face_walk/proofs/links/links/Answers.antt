@@ -1,42 +1,56 @@
-use Rattle.std.proofs.Common.{◌≡◌, sym, ◌∙◌, ap, subst, ◌+◌, List, [], ◌∷◌, ◌++◌, arith}
+use Rattle.std.proofs.Common.{sym, ◌∙◌, ap, subst, ℕ, List, Option, All, ◌*◌, ◌<◌, length}
+use Rattle.std.proofs.lemmas.Result.{IfOk-weaker}
+use Rattle.std.specs.Global.{Vec}
+use Rattle.cov_types.specs.declared.coord.Coord.{Coord}
+use Rattle.cov_types.specs.declared.seg.Seg.{Seg}
+use Rattle.cov_types.specs.Range.{IsInRange}
 use Rattle.components.specs.declared.link.Link.{Link}
-use Rattle.face_walk.specs.Cycles.{AreAlong, AreFirst}
-use Rattle.face_walk.proofs.Cycles.{first-shown, first-within}
-use Rattle.face_walk.proofs.LinksSoFar.{AreLinksOfFirst, links_first, links_same, links_push, links_of_all}
+use Rattle.face_walk.specs.Links.{AreOverRay, AreVertices, AreLinksOf, AreLinks}
+use Rattle.face_walk.specs.Nearest.{AreNearest}
+use Rattle.face_walk.proofs.Linking.{over_within, vertices_in_range, answers_within, links_all}
 use Rattle.face_walk.proofs.links.links.Goals as goal
-use Rattle.face_walk.proofs.links.links.Goals.{in-Some+in_ok-push, in_default}
 
-pub first_of_cycles-requires : goal.first_of_cycles-requires
-first_of_cycles-requires c = subst (λ (ls : List Link). AreAlong c.args.a.now ls) (sym c.deref.ensures.value) c.in_ok-links.ensures
+pub vertices_of-requires : goal.vertices_of-requires
+vertices_of-requires c =
+    subst (λ (ns : List ℕ). All (λ n. n < 2 * length c.args.a.now) ns) (sym c.deref.ensures.value)
+    (over_within c.args.a.now c.args.cycles.now.of.items c.args.cycles.now.list.items c.in_ok-sides.sides.items c.in_ok-sides.ensures)
 
-pub loop-h-init : goal.loop-h-init
-loop-h-init c = links_first c.args.a.now c.in_ok-links.links.items c.in_ok-links.ensures
+pub nearest_edges_below-requires-clause-in_range : goal.nearest_edges_below-requires-clause-in_range
+nearest_edges_below-requires-clause-in_range c =
+    let within = subst (λ (ns : List ℕ). All (λ n. n < 2 * length c.args.a.now) ns) (sym c.deref.ensures.value)
+    (over_within c.args.a.now c.args.cycles.now.of.items c.args.cycles.now.list.items c.in_ok-sides.sides.items c.in_ok-sides.ensures) in
+    subst (λ (vs : List Coord). All IsInRange vs) (sym c.deref-2.ensures.value)
+    (vertices_in_range c.args.a.now c.edges.ensures.planar c.deref.result.now c.in_ok-vertices.vertices.items within c.in_ok-vertices.ensures)
 
-pub link_down-requires-clause-first_within : goal.link_down-requires-clause-first_within
-link_down-requires-clause-first_within c =
-    let all = first-shown _ _ _ _ _ c.deref.ensures.value c.deref-in-loop-h.ensures.value c.in_ok-first.ensures in
-    first-within c.args.a.now c.in_ok-links.links.items c.deref-in-loop-h.result.now c.in_ok-links.ensures all
-
-pub loop-h-preserved : goal.loop-h-preserved
-loop-h-preserved c =
+pub links_down-requires : goal.links_down-requires
+links_down-requires c =
     let edges = c.args.a.now in
-    let along = c.in_ok-links.links.items in
-    let first = c.deref-in-loop-h.result.now in
-    let h = c.loop-h.h in
-    let all : AreFirst edges along first = first-shown _ _ _ _ _ c.deref.ensures.value c.deref-in-loop-h.ensures.value c.in_ok-first.ensures in
-    elim c.match-link_down.branch [
-      | in-Some+in_ok-push w ↦ (
-          let items : c.match-link_down.links.items ≡ c.loop-h.links.items ++ w.in-Some.link ∷ [] = ap (λ v. v.items) w.links-is ∙ w.in_ok-push.ensures.items in
-          subst (λ (ls : List Link). AreLinksOfFirst edges along (h + 1) ls) (sym items)
-          (links_push edges along first h w.in-Some.link c.loop-h.links.items all w.in-Some.ensures c.loop-h.invariant)
-          )
-      | in_default w ↦
-          subst (λ (ls : List Link). AreLinksOfFirst edges along (h + 1) ls) (sym (ap (λ v. v.items) w.links-is))
-          (links_same edges along first h c.loop-h.links.items all w.in_default.ensures c.loop-h.invariant)
-    ]
+    let points = c.deref-2.result.now in
+    let nearest : AreNearest edges points c.deref-4.result.now =
+    subst (λ (answers : List (Option ℕ)). AreNearest edges points answers) (sym c.deref-4.ensures.value)
+    (subst (λ (es : List Seg). AreNearest es points c.in_ok-below.below.items) c.edges.ensures.edges c.in_ok-below.ensures) in
+    record {
+      cycles = c.requires;
+      sides = subst (λ (ns : List ℕ). All (λ n. n < 2 * length edges) ns) (sym c.deref-3.ensures.value)
+          (over_within edges c.args.cycles.now.of.items c.args.cycles.now.list.items c.in_ok-sides.sides.items c.in_ok-sides.ensures);
+      below = answers_within edges points c.deref-4.result.now nearest;
+      count = nearest.count ∙ ap (λ (vs : List Coord). length vs) c.deref-2.ensures.value ∙ c.in_ok-vertices.ensures.count
+          ∙ ap (λ (ns : List ℕ). length ns) (c.deref.ensures.value ∙ sym c.deref-3.ensures.value);
+    }
 
 pub returns : goal.returns
 returns c =
-    let count = c.len-h-end.ensures.count in
-    let stop = c.loop-h-test.false in
-    links_of_all c.args.a.now c.in_ok-links.links.items c.loop-h.h c.loop-h.links.items (omega (arith, count, stop)) c.in_ok-links.ensures c.loop-h.invariant
+    let edges = c.args.a.now in
+    let of = c.args.cycles.now.of.items in
+    let list = c.args.cycles.now.list.items in
+    let sides = c.deref-3.result.now in
+    let vertices = c.in_ok-vertices.vertices.items in
+    let below = c.deref-4.result.now in
+    let over = subst (λ (ns : List ℕ). AreOverRay edges of list ns) (sym c.deref-3.ensures.value) c.in_ok-sides.ensures in
+    let begin = subst (λ (ns : List ℕ). AreVertices edges ns vertices) (c.deref.ensures.value ∙ sym c.deref-3.ensures.value) c.in_ok-vertices.ensures in
+    let nearest : AreNearest edges vertices below =
+    subst (λ (answers : List (Option ℕ)). AreNearest edges vertices answers) (sym c.deref-4.ensures.value)
+    (subst (λ (es : List Seg). AreNearest es vertices c.in_ok-below.below.items) c.edges.ensures.edges
+    (subst (λ (vs : List Coord). AreNearest c.edges.result.now vs c.in_ok-below.below.items) c.deref-2.ensures.value c.in_ok-below.ensures)) in
+    IfOk-weaker c.links_down.result (λ (v : Vec Link). AreLinksOf edges of list sides below v.items) (λ (v : Vec Link). AreLinks edges of list v.items)
+    (λ (v : Vec Link) made. links_all edges c.edges.ensures.planar c.edges.ensures.distinct of list sides vertices below v.items over begin nearest made) c.links_down.ensures

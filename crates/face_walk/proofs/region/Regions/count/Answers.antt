@@ -1,7 +1,7 @@
 use Rattle.std.proofs.Common.{◌≡◌, ◌==◌, sym, ◌∙◌, ap, ℕ, ◌+◌, ◌*◌, length, slice_index, count_by, Bool, arith}
 use Rattle.std.proofs.lemmas.List.{get_or_read}
 use Rattle.plane.specs.Label.{numbers_below}
-use Rattle.face_walk.proofs.Reading.{numbered-shown, same_passes, other_fails, count_more_yes, count_more_no, count_numbered, side_numbers}
+use Rattle.face_walk.proofs.Reading.{numbered-shown, same_passes, other_fails, count_more_yes, count_more_no, count_numbered}
 use Rattle.face_walk.proofs.region.Regions.count.Goals as goal
 use Rattle.face_walk.proofs.region.Regions.count.Goals.{then-index-side, else-index-side}
 
@@ -38,16 +38,16 @@ returns-clause-count c =
     λ numbers h.
     let edges = c.args.self.now in
     let table = c.self.inside.least.items in
-    let numbered = numbered-shown c.self.inside.edges.items edges table c.self.view_is c.self.invariant in
+    let numbered = numbered-shown c.self.inside.edges.now edges table c.self.inside.outer c.self.view_is c.self.invariant in
     let size : c.len-side-end.result ≡ length table = omega (arith, c.len-side-end.ensures) in
-    let count = numbered.count in
+    let count = numbered.regions.count in
     let stop = c.loop-side-test.false in
     let far = c.loop-side.auto.side-end in
     let all : c.loop-side.side ≡ 2 * length edges = omega (arith, size, count, stop, far) in
-    c.loop-side.invariant.counted ∙ ap (λ n. count_by (λ k. slice_index table k == k) (numbers_below n)) all ∙ count_numbered edges table numbered numbers h
+    c.loop-side.invariant.counted ∙ ap (λ n. count_by (λ k. slice_index table k == k) (numbers_below n)) all ∙ count_numbered edges table numbers numbered.regions h
 
 pub returns-clause-numbered : goal.returns-clause-numbered
 returns-clause-numbered c =
     let table = c.self.inside.least.items in
-    let numbered = numbered-shown c.self.inside.edges.items c.args.self.now table c.self.view_is c.self.invariant in
-    side_numbers c.args.self.now table numbered
+    let numbered = numbered-shown c.self.inside.edges.now c.args.self.now table c.self.inside.outer c.self.view_is c.self.invariant in
+    (table, numbered.regions)

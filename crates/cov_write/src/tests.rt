@@ -1,4 +1,4 @@
-use crate::{lines_of, text_of};
+use crate::{append_inner_row, append_outer_row, lines_of, text_of};
 use cov_types::{Coord, Coverage, Member, Poly, Ring, Seg};
 use std::alloc::{AllocError, Global};
 use std::test::Fail;
@@ -96,5 +96,20 @@ fn several_segments_share_a_line(rt: HostRuntime) -> Result<(), Fail> {
     let written = lines_of(rt.alloc(), &lists)?;
     let wanted = b"MULTILINESTRING ((0 0, 7 -5), (-1 12, 0 0), (0 0, 7 -5))\n";
     assert!(rt; same(&written, wanted));
+    Ok(())
+}
+
+#[test]
+fn rows_of_regions_by_the_members_in_their_labels(rt: HostRuntime) -> Result<(), Fail> {
+    let mut rows = Vec::new(rt.alloc());
+    append_outer_row(&mut rows, 0)?;
+    append_inner_row(&mut rows, 1, &[4], 100)?;
+    append_inner_row(&mut rows, 7, &[], 72)?;
+    append_inner_row(&mut rows, 13, &[0, 2, 10], 576_460_752_303_423_488)?;
+    let wanted = b"0 outer - - -\n\
+        1 single 4 100 -\n\
+        7 gap - 72 -\n\
+        13 shared 0,2,10 576460752303423488 -\n";
+    assert!(rt; same(&rows, wanted));
     Ok(())
 }

@@ -1,8 +1,8 @@
 ghost use Rattle.std.specs.Prelude.{◌≡◌, ℕ, List, ◌++◌, OnOk};
-ghost use Rattle.cov_write.specs.Written.{separated, number_text, position_text};
+ghost use Rattle.cov_write.specs.Written.{separated, position_text};
 
 use cov_types::{Coord, NoMemory};
-use itoa::Buffer;
+use itoa::{Buffer, Integer};
 
 /// What has a written form.
 pub(crate) trait Written {
@@ -23,8 +23,9 @@ impl Written for Coord {
     }
 }
 
-fn append_number(out: &mut Vec<u8>, number: i32) -> Result<(), NoMemory>
-    ensures { OnOk result (out.new.items ≡ out.old.items ++ number_text number) }
+/// Appends a number in decimal.
+pub(crate) fn append_number<I: Integer>(out: &mut Vec<u8>, number: I) -> Result<(), NoMemory>
+    ensures { OnOk result (out.new.items ≡ out.old.items ++ I.text number) }
 {
     let mut digits = Buffer::new();
     out.extend_from_slice(digits.format(number).as_bytes())?;

@@ -4,5 +4,6 @@ pub mod Inputs
 pub mod Reading
 pub mod Listing
 pub mod Answering
+pub mod OneText
 pub mod RegionRows
 pub mod Overlays

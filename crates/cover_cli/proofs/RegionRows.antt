@@ -18,7 +18,7 @@ use Rattle.arrangement.specs.Measure.{region_area2}
 use Rattle.owner_label.specs.Labelled.{Labelled, IsOverlay}
 use Rattle.snap_noder.proofs.Zip.{zip_push}
 use Rattle.cover_cli.specs.Regions.{IsRow, AreRows}
-use Rattle.cover_cli.specs.Rows.{outer_row, inner_row}
+use Rattle.cov_write.specs.Rows.{outer_row, inner_row}
 
 -- ---- which regions there are
 

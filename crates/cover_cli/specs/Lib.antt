@@ -6,9 +6,9 @@ pub mod Input
 pub mod Text
 pub mod Validate
 pub mod Node
-pub mod Rows
 pub mod Regions
 pub mod Made
 pub mod Refusal
 pub mod Answers
 pub mod Written
+pub mod Laws

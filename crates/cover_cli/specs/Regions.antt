@@ -5,7 +5,7 @@ use Rattle.arrangement.specs.Measure.{region_area2}
 use Rattle.arrangement.specs.Overlay.{Overlay, region_numbers, label_of, IsSnappedOverlay}
 use Rattle.cov_types.specs.declared.coord.Coord.{Coord}
 use Rattle.cov_types.specs.Uses.{uses_of}
-use Rattle.cover_cli.specs.Rows.{outer_row, inner_row}
+use Rattle.cov_write.specs.Rows.{outer_row, inner_row}
 use Rattle.cover_cli.specs.declared.outcome.Outcome.{Outcome}
 use Rattle.cover_cli.specs.declared.outcome.Outcome.TheVariants.{Done}
 use Rattle.plane.specs.Region.{IsOuterRegion}

@@ -10,17 +10,17 @@
 
 mod command;
 mod input;
+mod laws;
 mod lines;
 mod making;
 mod node;
 mod outcome;
 mod output;
 mod refusal;
-mod region_rows;
 mod regions;
-mod rows;
 mod validate;
 mod words;
 
 pub use command::cover;
+pub use laws::written_law;
 pub use outcome::{Outcome, message, status};

@@ -1,20 +1,66 @@
-ghost use Rattle.std.specs.Prelude.{◌≡◌, ◌≤◌, length, IfOk, IfErr};
+ghost use Rattle.std.specs.Prelude.{◌≡◌, ◌≤◌, ◌++◌, ℕ, List, length, IfOk, IfErr, OnOk};
+ghost use Rattle.arrangement.specs.Overlay.{Overlay, region_numbers, IsRegion};
 ghost use Rattle.cov_types.specs.Coverage.{AllInRange};
 ghost use Rattle.cover_cli.specs.Input.{longest_input};
 ghost use Rattle.cover_cli.specs.Refusal.{IsRefusedFor};
-ghost use Rattle.cover_cli.specs.Regions.{IsRegionList};
+ghost use Rattle.cover_cli.specs.Regions.{IsRow, AreRows, IsRegionList};
 ghost use Rattle.cover_cli.specs.Text.{IsReadAnd, RefusesText};
+ghost use Rattle.owner_label.specs.Labelled.{IsOverlay};
 
 use crate::making::Made;
 use crate::outcome::Outcome;
-use crate::region_rows::rows_of;
 use cov_types::{Coverage, NoMemory, uses};
+use cov_write::{append_inner_row, append_outer_row};
 use face_walk::Regions;
 use geo_text::read_text;
 use half_edge::Arena;
 use owner_label::Labels;
 use snap_noder::{live, node};
 use std::alloc::Global;
+
+// The rows of all regions between the edges of the arena, by ascending number.
+fn rows_of(
+    alloc: Global,
+    arena: &Arena,
+    regions: &Regions,
+    labels: &Labels,
+) -> Result<Vec<u8>, NoMemory>
+    requires regions { regions.now ≡ arena.now }
+    requires labels { labels.now.edges ≡ arena.now }
+    ensures { IfOk result (λ text. (o : Overlay) → IsOverlay labels.now o → AreRows o (region_numbers o) text.items) }
+{
+    let mut text = Vec::new(alloc);
+    for side in 0..arena.len() {
+        if regions.region_of(side) == side {
+            append_row(&mut text, regions, labels, side)?;
+        }
+    }
+    Ok(text)
+}
+
+// Appends the row of a region.
+fn append_row(
+    text: &mut Vec<u8>,
+    regions: &Regions,
+    labels: &Labels,
+    region: usize,
+) -> Result<(), NoMemory>
+    requires labels { labels.now.edges ≡ regions.now }
+    requires region { IsRegion regions.now region }
+    ensures { OnOk result ((o : Overlay) → IsOverlay labels.now o
+        → (line : List ℕ) × (IsRow o region line × (text.new.items ≡ text.old.items ++ line))) }
+{
+    if regions.outer() == Some(region) {
+        append_outer_row(text, region)
+    } else {
+        append_inner_row(
+            text,
+            region,
+            labels.label(region),
+            labels.region_area2(region),
+        )
+    }
+}
 
 // The text of the regions of the snapped members.
 fn region_list(alloc: Global, c: &Coverage) -> Result<Made, NoMemory>

@@ -1,5 +1,5 @@
 -- What is read of a text without a fault is formed.
-use Rattle.std.proofs.Common.{ℕ, ◌+◌, ◌-◌, ◌≤◌, List, [], ◌∷◌, ◌++◌, length, map, filter, flat_map, Option, Some, None, sym, ap, Result, Ok, Err, IfOk, subst, arith, length-append, length-take}
+use Rattle.std.proofs.Common.{◌≡◌, ⊎_elim, refl, ℕ, ◌+◌, ◌-◌, ◌≤◌, List, [], ◌∷◌, ◌++◌, length, map, filter, flat_map, Option, Some, None, sym, ap, Result, Ok, Err, IfOk, subst, arith, length-append, length-take}
 use Rattle.std.proofs.lemmas.List.{length-map}
 use Rattle.std.specs.List.{AllByRecursion}
 use Rattle.std.proofs.lemmas.List.Elements.{All-from_recursion, recursion_from_All, All-take}
@@ -8,13 +8,14 @@ use Rattle.cov_types.specs.Range.{IsInRange}
 use Rattle.cov_types.specs.declared.coord.Coord.{Coord}
 use Rattle.geo_text.specs.Token.{Token, Close, Comma, Spells}
 use Rattle.geo_text.specs.Grammar.{Position, Two, Three, Four, Ring, Element, OnePolygon, ManyPolygons, Geometry, Single, Collection, body, dimension, element, geometry, file}
-use Rattle.geo_text.specs.Reading.{coordinate, positions, points, elements, bodies, has_ring, member, coverage}
-use Rattle.geo_text.specs.Fault.{position_numbers, ring_numbers, rings_of, rings, numbers, IsNumberFine, IsRingFine}
+use Rattle.geo_text.specs.Reading.{coordinate, positions, points, elements, bodies, has_ring, member, coverage, Reads}
+use Rattle.geo_text.specs.Fault.{position_numbers, ring_numbers, rings_of, rings, numbers, IsNumberFine, IsRingFine, IsFaultless}
 use Rattle.geo_text.specs.Machine.{Members, Gives}
 use Rattle.geo_text.specs.declared.error.TextError.{TextError}
 use Rattle.geo_text.proofs.Options.{split_append}
 use Rattle.geo_text.proofs.Spelled.{begins}
-use Rattle.geo_text.proofs.Verdicts.{IsClean, answer_to, ok_reads}
+use Rattle.geo_text.proofs.OneReading.{one_reading}
+use Rattle.geo_text.proofs.Verdicts.{IsClean, answer_to, clean_or_fault, ok_reads}
 
 -- ---- rings
 
@@ -126,3 +127,8 @@ formed bytes gs h w =
 pub result_formed : (bytes : List ℕ) (result : Result Members TextError) → length bytes ≤ 67108864 → Gives result (answer_to bytes) → IfOk result IsFormed
 result_formed bytes (Ok c) h g = let read = ok_reads bytes c g in subst IsFormed (sym read.2) (formed bytes read.0 h read.1)
 result_formed bytes (Err e) h g = tt
+
+-- what a text without a fault is read as is formed
+pub read_formed : (bytes : List ℕ) (c : Members) → length bytes ≤ 67108864 → Reads bytes c → IsFaultless bytes → IsFormed c
+read_formed bytes c within reads faultless =
+    ⊎_elim (λ w. subst IsFormed (one_reading bytes (coverage w.0) c (w.0, w.1.is_numeric.is_planar.is_file, refl) reads) (formed bytes w.0 within w.1)) (λ f. absurd (faultless f.0 f.1)) (clean_or_fault bytes)

@@ -131,10 +131,13 @@ pub fn read_text(alloc: Global, bytes: &[u8]) -> Result<Coverage, TextError>
     read_all(alloc, bytes)
 }
 
-/// Laws of texts: each has at most one reading and at most one fault, and has a fault or is read without one.
+/// Laws of texts: each has at most one reading and at most one fault, and has a fault or is read without one, as a
+/// formed coverage. A call does nothing.
 pub fn one_answer()
     ensures reading { (bytes : List ℕ) (c d : List (List (List (List Coord)))) → Reads bytes c → Reads bytes d → c ≡ d }
     ensures fault { (bytes : List ℕ) (e f : TextFault) → IsFault bytes e → IsFault bytes f → e ≡ f }
     ensures either { (bytes : List ℕ)
         → ((c : List (List (List (List Coord)))) × Reads bytes c × IsFaultless bytes) ⊎ ((fault : TextFault) × IsFault bytes fault) }
+    ensures formed { (bytes : List ℕ) (c : List (List (List (List Coord))))
+        → length bytes ≤ 67108864 → Reads bytes c → IsFaultless bytes → IsFormed c }
 {}

@@ -4,8 +4,8 @@ use Rattle.cov_types.specs.declared.seg.Seg.{Seg}
 use Rattle.plane.specs.Region.{AreRegions}
 use Rattle.cover_cli.specs.Regions.{AreRows}
 use Rattle.cover_cli.proofs.RegionRows.{regions_below, own_region, rows_start, rows_more, rows_same, rows_all}
-use Rattle.cover_cli.proofs.region_rows.rows_of.Goals as goal
-use Rattle.cover_cli.proofs.region_rows.rows_of.Goals.{then-region_of-side+in_ok-append_row, else-region_of-side}
+use Rattle.cover_cli.proofs.regions.rows_of.Goals as goal
+use Rattle.cover_cli.proofs.regions.rows_of.Goals.{then-region_of-side+in_ok-append_row, else-region_of-side}
 
 pub append_row-requires-clause-region : goal.append_row-requires-clause-region
 append_row-requires-clause-region c =

@@ -1,8 +1,8 @@
 use Rattle.std.proofs.Common.{◌≡◌, ◌++◌, ℕ, List, append_assoc, ap, ◌∙◌, sym}
 use Rattle.std.specs.Prelude.{codes}
 use Rattle.std.specs.Fmt.{decimal}
-use Rattle.cover_cli.specs.Rows.{outer_row}
-use Rattle.cover_cli.proofs.rows.append_outer_row.Goals as goal
+use Rattle.cov_write.specs.Rows.{outer_row}
+use Rattle.cov_write.proofs.region_row.append_outer_row.Goals as goal
 
 -- the number, and then the rest of the row
 row_is : (number : List ℕ) → number ++ codes " " ++ codes "outer" ++ codes " " ++ codes "-" ++ codes " " ++ codes "-" ++ codes " " ++ codes "-" ++ codes "\n" ≡ number ++ codes " outer - - -\n"

@@ -3,7 +3,7 @@ use Rattle.std.proofs.Common.{sym, ◌∙◌, FitsSigned, rules}
 use mir.Syntax.{w128}
 use Rattle.std.proofs.lemmas.Int.{to_z-of_z}
 use Rattle.cover_cli.proofs.RegionRows.{not_outer, inner_appended}
-use Rattle.cover_cli.proofs.region_rows.append_row.Goals as goal
+use Rattle.cover_cli.proofs.regions.append_row.Goals as goal
 
 pub returns-else-eq : goal.returns-else-eq
 returns-else-eq c =

@@ -2,7 +2,7 @@
 use Rattle.std.proofs.Common.{◌≡◌, ◌++◌, take}
 use Rattle.std.specs.Prelude.{codes, flat_map}
 use Rattle.std.specs.Fmt.{decimal}
-use Rattle.cover_cli.proofs.rows.append_label.Given as goal
+use Rattle.cov_write.proofs.region_row.append_label.Given as goal
 
 abbrev pub invariant-loop-member : goal.invariant-loop-member
 invariant-loop-member l = l.out.items ≡ l.initial.out.items ++ flat_map (λ n. codes "," ++ decimal n) (take l.member-index l.rest)

@@ -1,11 +1,11 @@
 ghost use Rattle.std.specs.Prelude.{◌≡◌, ◌++◌, List, flat_map, codes, OnOk};
 ghost use Rattle.std.specs.Fmt.{decimal};
-ghost use Rattle.cover_cli.specs.Rows.{kind_text, label_text, outer_row, inner_row};
+ghost use Rattle.cov_write.specs.Rows.{kind_text, label_text, outer_row, inner_row};
 
+use crate::written::append_number;
 use cov_types::NoMemory;
-use itoa::{Buffer, Integer};
 
-/// Appends the row of the outer region.
+/// Appends the row of the outer region. After an error some of it may be there.
 pub fn append_outer_row(out: &mut Vec<u8>, number: usize) -> Result<(), NoMemory>
     ensures { OnOk result (out.new.items ≡ out.old.items ++ outer_row number) }
 {
@@ -14,7 +14,8 @@ pub fn append_outer_row(out: &mut Vec<u8>, number: usize) -> Result<(), NoMemory
     Ok(())
 }
 
-/// Appends the row of a region that isn't outer. A label is the members that hold its points, an area is doubled.
+/// Appends the row of a region that isn't outer, by its label and its doubled area. The label is the numbers of the
+/// members that hold its points. After an error some of the row may be there.
 pub fn append_inner_row(
     out: &mut Vec<u8>,
     number: usize,
@@ -34,6 +35,7 @@ pub fn append_inner_row(
     Ok(())
 }
 
+// The kind that a row names.
 fn kind_of(label: &[u32]) -> &'static [u8]
     ensures { result.now ≡ kind_text label.now }
 {
@@ -44,6 +46,7 @@ fn kind_of(label: &[u32]) -> &'static [u8]
     }
 }
 
+// Appends the members with commas between.
 fn append_label(out: &mut Vec<u8>, label: &[u32]) -> Result<(), NoMemory>
     ensures { OnOk result (out.new.items ≡ out.old.items ++ label_text label.now) }
 {
@@ -56,13 +59,5 @@ fn append_label(out: &mut Vec<u8>, label: &[u32]) -> Result<(), NoMemory>
         out.push(b',')?;
         append_number(out, *member)?;
     }
-    Ok(())
-}
-
-fn append_number<I: Integer>(out: &mut Vec<u8>, number: I) -> Result<(), NoMemory>
-    ensures { OnOk result (out.new.items ≡ out.old.items ++ I.text number) }
-{
-    let mut digits = Buffer::new();
-    out.extend_from_slice(digits.format(number).as_bytes())?;
     Ok(())
 }

@@ -24,6 +24,7 @@
 //! - `LiveOverlays`: an overlay of even uses is live (`live_overlay`), a region has the label of its points (`label_is`), and an edge
 //!   a holder on one side alone (`side_holder`). `Ascending`: labels ascend (`label_ascends`).
 //! - `ValidLive`: the distinct segments of a valid coverage are its live edges (`valid_live`, `valid_overlay`).
+//! - `PointOrders`: lists of points of which neither is past the other are one (`points_same`).
 //! - `Short`: facts of short lists, element by element or by a test. `Computed`, `HalfCrossing`, `Squares`, `SquareRegions`,
 //!   `SquareOverlay`: the examples and instances.
 #![tactic(auto)]

@@ -7,3 +7,4 @@ pub mod Reached
 pub mod Polygons
 pub mod NextWays
 pub mod Rotated
+pub mod OnePolygon

@@ -13,3 +13,4 @@ pub mod SquareOverlay
 pub mod LiveOverlays
 pub mod ValidLive
 pub mod PointOrders
+pub mod SnappedPlanar

@@ -8,3 +8,4 @@ pub mod Polygons
 pub mod NextWays
 pub mod Rotated
 pub mod OnePolygon
+pub mod OneCleaned

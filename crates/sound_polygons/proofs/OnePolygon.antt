@@ -1,15 +1,14 @@
 -- Two polygons that are sound for one part and canonical are one.
 use mathlib.Core.List.{[], ◌∷◌}
-use Rattle.std.proofs.Common.{◌≡◌, ◌⊎◌, inl, inr, refl, sym, ◌∙◌, ap, subst, ℕ, zero, suc, ◌+◌, ◌<◌, ◌≤◌, Bool, true, false, not, ◌&&◌, cond, List, ◌++◌, get_or, pos, IsTrue, ◌↔◌, ◌≢◌, arith}
-use Rattle.std.specs.Prelude.{All, AllPairs, Contains, length, take, drop, zip, Option, Some, None, slice_get, flat_map, option_to_list, unwrap_or}
-use Rattle.std.specs.List.{list_all, enumerate_from}
-use Rattle.std.specs.List.Sorted.{IsPermutation}
+use Rattle.std.proofs.Common.{◌≡◌, inl, inr, refl, sym, ◌∙◌, ap, subst, ℕ, zero, suc, ◌+◌, ◌<◌, ◌≤◌, Bool, true, false, not, cond, List, ◌++◌, get_or, pos, IsTrue, arith}
+use Rattle.std.specs.Prelude.{Contains, length, take, drop, zip, Some, slice_get, flat_map, option_to_list, unwrap_or}
+use Rattle.std.specs.List.{enumerate_from}
 use Rattle.std.specs.Ordering.{is_lt}
-use Rattle.std.proofs.lemmas.Bool.{and_parts, true≢false, false≢true, not_from_true}
-use Rattle.std.proofs.lemmas.List.Elements.{All-contains, All-head, All-tail, Contains-append_left, Contains-append_right, Contains-append_cases}
+use Rattle.std.proofs.lemmas.Bool.{false≢true, not_from_true}
+use Rattle.std.proofs.lemmas.List.Elements.{All-contains, Contains-append_left, Contains-append_right, Contains-append_cases}
 use Rattle.std.proofs.lemmas.List.Sorted.{Contains-permutation, IsPermutation-sym}
 use Rattle.std.proofs.lemmas.List.Sums.{AllPass-from_list_all}
-use Rattle.std.proofs.lemmas.Option.{none-some, slice_get_within, slice_get-get_or, get_or_from_slice_get}
+use Rattle.std.proofs.lemmas.Option.{slice_get_within, slice_get-get_or, get_or_from_slice_get}
 use Rattle.cov_types.specs.declared.coord.Coord.{Coord}
 use Rattle.cov_types.specs.declared.seg.Seg.{Seg}
 use Rattle.cov_types.specs.Coord.{is_before, points_cmp}
@@ -26,7 +25,7 @@ use Rattle.arrangement.specs.Overlay.{Overlay, numbered_edges, region_above, reg
 use Rattle.arrangement.proofs.OneNoding.{same_ordered}
 use Rattle.arrangement.proofs.PointOrders.{points_both_ways}
 use Rattle.sound_polygons.specs.Cleaned.{BeginsAtLeast, IsPolyCanonical}
-use Rattle.sound_polygons.specs.Parts.{ring_edges, IsSimple, left_points, is_counter_clockwise, is_clockwise, corners, is_free_corner, boundary_way, boundary, IsShellFirst, IsSound}
+use Rattle.sound_polygons.specs.Parts.{ring_edges, IsSimple, left_points, is_counter_clockwise, is_clockwise, corners, is_free_corner, boundary_way, boundary, IsSound}
 use Rattle.sound_polygons.proofs.NextWays.{Way, AreAlong, one_next_way}
 use Rattle.sound_polygons.proofs.Rotated.{turned, turned_has, sides_turned, length_turned, turned_by, has_turned_by, turned_by_has, sides_turned_by, corners_turned_by, different_turned_by, turned_by_first, length_sides, side_at, alike_same, GoAlike}
 
@@ -206,7 +205,7 @@ module _ (o : Overlay) (planar : IsPlanar o.edges) (inside : ℕ → Bool) (ring
         no_turn zero at z at_z = refl
         no_turn (suc k) at z at_z =
             absurd (other_simple.different 0 (suc k) p (omega arith) (slice_get_within t.other (suc k) p at)
-              (get_or_from_slice_get t.other 0 z p at_z ∙ sym (begins_alike z at_z) ∙ sym (get_or_from_slice_get t.other (suc k) p p at)))
+            (get_or_from_slice_get t.other 0 z p at_z ∙ sym (begins_alike z at_z) ∙ sym (get_or_from_slice_get t.other (suc k) p p at)))
 
         same_ring : points ≡ t.other
         same_ring =

@@ -24,6 +24,7 @@ pub struct Outline {
 }
 
 impl Outline {
+    ghost use Rattle.std.specs.Prelude.{◌≤◌, AllPairs};
     ghost use Rattle.cov_types.specs.Rings.{starts_of, runs_of, AreInRow, IsRing};
     ghost use Rattle.cov_types.specs.Uses.{uses_of};
 
@@ -42,6 +43,9 @@ impl Outline {
         ensures starts_end { IfOk result (λ o. length o.starts.items ≡ length o.uses.items) }
         ensures in_row { IfOk result (λ o. AreInRow 0 o.rings.items (length o.uses.items)) }
         ensures round { IfOk result (λ o. All (IsRing o.uses.items o.starts.items) o.rings.items) }
+
+        // Their members ascend.
+        ensures ascending { IfOk result (λ o. AllPairs (λ r s. r.member ≤ s.member) o.rings.items) }
     {
         let mut outline = Outline {
             uses: Vec::new(alloc),

@@ -1,6 +1,8 @@
+pub mod Boxes
 pub mod Grouping
 pub mod Holding
 pub mod MarksSoFar
+pub mod Meeting
 pub mod Repeats
 pub mod Searches
 pub mod Sorting

@@ -1,3 +1,4 @@
+pub mod Contacts
 pub mod Entries
 pub mod Groups
 pub mod Holders

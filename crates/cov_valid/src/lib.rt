@@ -3,9 +3,11 @@
 //! Its promise: `marks` lists exactly the marks of a coverage, by ascending place.
 #![tactic(auto)]
 
+mod contacts;
 mod entry;
 mod group;
 mod holders;
+mod hull;
 mod kinds;
 mod laws;
 mod mark;

@@ -287,7 +287,7 @@ fn regions_lists_each_region_with_its_label_and_doubled_area(
             "a square reaches from one end of the range to the other",
             "POLYGON ((-268435456 -268435456, 268435456 -268435456, 268435456 268435456, -268435456 268435456, -268435456 -268435456))",
             Outcome::Done,
-            "0 outer - - -\n1 single 0 2251799813685248 -\n",
+            "0 outer - - -\n1 single 0 576460752303423488 -\n",
         ),
     ];
     expect_answers(&rt, rt.alloc(), "regions in out", &cases)

@@ -1,16 +1,105 @@
--- Why an input is refused.
-use Rattle.std.proofs.Common.{◌≡◌, ℕ, ◌≤◌, List, length, Some, IsTrue, refl}
-use Rattle.cov_io.specs.State.{State}
-use Rattle.cover_cli.specs.Input.{longest_input}
-use Rattle.cover_cli.specs.Refusal.{outcome_of_text, IsCause}
+-- Causes of refusals: each input has one cause at most, and none where a text is made of it.
+use Rattle.std.proofs.Common.{◌≡◌, ◌≢◌, ℕ, zero, suc, List, [], ◌∷◌, Bool, true, false, IsTrue, refl, ap, ◌∙◌, sym, inl, inr}
+use Rattle.cov_types.specs.declared.coord.Coord.{Coord}
+use Rattle.cover_cli.specs.Answers.{is_success, is_refusal, is_touching}
+use Rattle.cover_cli.specs.Made.{IsOneAnd, Makes, Refuses}
+use Rattle.cover_cli.specs.Refusal.{outcome_of_text, IsRefusedFor}
+use Rattle.cover_cli.specs.Text.{IsReadAnd, RefusesText}
+use Rattle.cover_cli.specs.Validate.{marking}
+use Rattle.cover_cli.specs.Words.{Operation, Validate, Node, Regions}
+use Rattle.cover_cli.specs.declared.outcome.Outcome.{Outcome}
+use Rattle.cover_cli.specs.declared.outcome.Outcome.TheVariants.{Done, Marked, Usage, ReadFault, WriteFault, TooLong, BadText, NoMemory}
+use Rattle.geo_text.proofs.Verdicts.{one_fault}
 use Rattle.geo_text.specs.Fault.{IsFault}
 use Rattle.geo_text.specs.declared.error.TextError.{TextError}
-use Rattle.geo_text.specs.declared.error.TextError.TheVariants.{Fault, NoMemory}
+use Rattle.geo_text.specs.declared.error.TextError.TheVariants.{Fault, NoMemory as NoTextMemory}
 use Rattle.geo_text.specs.declared.error.TextFault.{TextFault}
 
+-- ---- texts
+
 -- an error of the reader of text is refused for its cause
-pub text_cause : (e : TextError) (name bytes : List ℕ) (old new : State) → ((fault : TextFault) → e ≡ Fault fault → IsFault bytes fault)
-    → new.read_faults ≡ old.read_faults → (IsTrue old.tells_files → old.files name ≡ Some bytes) → length bytes ≤ longest_input
-    → IsCause (outcome_of_text e) name old new
-text_cause (Fault fault) name bytes old new faulty kept file within = (kept, λ told. record { bytes = bytes; file = file told; within = within; fault_is = faulty fault refl })
-text_cause NoMemory name bytes old new faulty kept file within = kept
+pub text_refused : (e : TextError) (input : List ℕ) → ((fault : TextFault) → e ≡ Fault fault → IsFault input fault) → IsRefusedFor (RefusesText input) (outcome_of_text e)
+text_refused (Fault fault) input faulty = inr (faulty fault refl)
+text_refused NoTextMemory input faulty = inl refl
+
+-- a text is refused with one outcome
+one_text_refusal : (input : List ℕ) (o p : Outcome) → RefusesText input o → RefusesText input p → o ≡ p
+one_text_refusal input (BadText f) (BadText g) first second = ap BadText (one_fault input f g first second)
+one_text_refusal input (BadText f) Done first second = absurd second
+one_text_refusal input (BadText f) (Marked edges) first second = absurd second
+one_text_refusal input (BadText f) Usage first second = absurd second
+one_text_refusal input (BadText f) ReadFault first second = absurd second
+one_text_refusal input (BadText f) WriteFault first second = absurd second
+one_text_refusal input (BadText f) TooLong first second = absurd second
+one_text_refusal input (BadText f) NoMemory first second = absurd second
+one_text_refusal input _ p first second = absurd first
+
+text_refusal : (input : List ℕ) (o : Outcome) → RefusesText input o → IsTrue (is_refusal o)
+text_refusal input (BadText f) refuses = refl
+text_refusal input _ refuses = absurd refuses
+
+-- a text that is read is not refused
+not_read_and_refused : (input : List ℕ) (P : List (List (List (List Coord))) → Type 0) (o : Outcome) → IsReadAnd input P → RefusesText input o → ⊥
+not_read_and_refused input P (BadText f) read refuses = read.faultless f refuses
+not_read_and_refused input P _ read refuses = absurd refuses
+
+-- ---- operations
+
+-- what follows for one input, follows for the inputs where there is one
+pub of_one : (inputs : List (List ℕ)) (P : List ℕ → Type 0) (C : Type 0) → ((input : List ℕ) → P input → C) → IsOneAnd inputs P → C
+of_one [] P C follows one = absurd one
+of_one (input ∷ []) P C follows one = follows input one
+of_one (input ∷ more ∷ rest) P C follows one = absurd one
+
+pub of_both : (inputs : List (List ℕ)) (P Q : List ℕ → Type 0) (C : Type 0) → ((input : List ℕ) → P input → Q input → C) → IsOneAnd inputs P → IsOneAnd inputs Q → C
+of_both [] P Q C follows first second = absurd first
+of_both (input ∷ []) P Q C follows first second = follows input first second
+of_both (input ∷ more ∷ rest) P Q C follows first second = absurd first
+
+pub one_refusal : (operation : Operation) (inputs : List (List ℕ)) (o p : Outcome) → Refuses operation inputs o → Refuses operation inputs p → o ≡ p
+one_refusal (Validate from to) inputs o p = of_both inputs _ _ (o ≡ p) (λ input. one_text_refusal input o p)
+one_refusal (Node from to) inputs o p = of_both inputs _ _ (o ≡ p) (λ input. one_text_refusal input o p)
+one_refusal (Regions from to) inputs o p = of_both inputs _ _ (o ≡ p) (λ input. one_text_refusal input o p)
+
+pub refuses_refusal : (operation : Operation) (inputs : List (List ℕ)) (o : Outcome) → Refuses operation inputs o → IsTrue (is_refusal o)
+refuses_refusal (Validate from to) inputs o = of_one inputs _ (IsTrue (is_refusal o)) (λ input. text_refusal input o)
+refuses_refusal (Node from to) inputs o = of_one inputs _ (IsTrue (is_refusal o)) (λ input. text_refusal input o)
+refuses_refusal (Regions from to) inputs o = of_one inputs _ (IsTrue (is_refusal o)) (λ input. text_refusal input o)
+
+-- of inputs that are refused no text is made
+pub not_both : (operation : Operation) (inputs : List (List ℕ)) (o p : Outcome) (text : List ℕ) → Makes operation inputs o text → Refuses operation inputs p → ⊥
+not_both (Validate from to) inputs o p text = of_both inputs _ _ ⊥ (λ input. not_read_and_refused input _ p)
+not_both (Node from to) inputs o p text = of_both inputs _ _ ⊥ (λ input. not_read_and_refused input _ p)
+not_both (Regions from to) inputs o p text = of_both inputs _ _ ⊥ (λ input. not_read_and_refused input _ p)
+
+marking_success : (edges : ℕ) → IsTrue (is_success (marking edges))
+marking_success zero = refl
+marking_success (suc edges) = refl
+
+-- what an operation answers with a text is a success
+pub makes_success : (operation : Operation) (inputs : List (List ℕ)) (o : Outcome) (text : List ℕ) → Makes operation inputs o text → IsTrue (is_success o)
+makes_success (Validate from to) inputs o text = of_one inputs _ (IsTrue (is_success o)) (λ input makes. ap is_success makes.holds.counted ∙ marking_success _)
+makes_success (Node from to) inputs o text = of_one inputs _ (IsTrue (is_success o)) (λ input makes. ap is_success makes.holds.done)
+makes_success (Regions from to) inputs o text = of_one inputs _ (IsTrue (is_success o)) (λ input makes. ap is_success makes.holds.done)
+
+-- ---- the kinds of answers
+
+-- an answer of one kind is none of another
+pub differs : (kind : Outcome → Bool) (o p : Outcome) → IsTrue (kind o) → kind p ≡ false → o ≢ p
+differs kind o p is not same = (let e : true ≡ false = sym is ∙ ap kind same ∙ not in cc)
+
+pub refusal_no_success : (o : Outcome) → IsTrue (is_refusal o) → is_success o ≡ false
+refusal_no_success Done refusal = cc
+refusal_no_success (Marked edges) refusal = cc
+refusal_no_success _ refusal = refl
+
+pub success_no_refusal : (o : Outcome) → IsTrue (is_success o) → is_refusal o ≡ false
+success_no_refusal (BadText fault) success = cc
+success_no_refusal _ success = refl
+
+-- what doesn't touch the output is no success
+pub untouching_no_success : (o : Outcome) → is_touching o ≡ false → is_success o ≡ false
+untouching_no_success WriteFault h = refl
+untouching_no_success Done h = h
+untouching_no_success (Marked edges) h = h
+untouching_no_success _ h = refl

@@ -1,30 +1,16 @@
 -- When the answers of `cover` come, and what they leave.
-use Rattle.std.specs.Prelude.{◌≡◌, ◌≢◌, ℕ, ◌≤◌, Bool, true, false, List, length, IsTrue, ◌⊎◌}
+use Rattle.std.specs.Prelude.{◌≡◌, ◌≢◌, ℕ, ◌≤◌, Bool, true, false, List, length, IsTrue, ◌⊎◌, All, Any}
 use Rattle.cov_io.specs.Calls.{IsPromised}
 use Rattle.cov_io.specs.Contents.{SameFiles, HoldsNow, HoldsPrefix}
 use Rattle.cov_io.specs.Count.{Rose}
 use Rattle.cov_io.specs.State.{State}
-use Rattle.cov_types.specs.declared.coord.Coord.{Coord}
 use Rattle.cover_cli.specs.declared.outcome.Outcome.{Outcome}
 use Rattle.cover_cli.specs.declared.outcome.Outcome.TheVariants.{Done, Marked, Usage, ReadFault, WriteFault, TooLong, BadText, NoMemory}
-use Rattle.cover_cli.specs.Input.{HoldsCoverage, HoldsFault, HoldsTooMuch}
-use Rattle.cover_cli.specs.Noding.{Nodes}
-use Rattle.cover_cli.specs.Regions.{ListsRegions}
-use Rattle.cover_cli.specs.Validate.{Validates}
-use Rattle.cover_cli.specs.Words.{Operation, Validate, Node, Regions}
-use Rattle.geo_text.specs.declared.error.TextFault.{TextFault}
+use Rattle.cover_cli.specs.Input.{HoldsTooMuch, AreInputs}
+use Rattle.cover_cli.specs.Made.{Makes, Refuses}
+use Rattle.cover_cli.specs.Words.{Operation, inputs_of, output_of}
 
--- the name of the file that the operation reads
-abbrev pub input_of : Operation → List ℕ
-input_of (Validate from to) = from
-input_of (Node from to) = from
-input_of (Regions from to) = from
-
--- the name of the file that the operation writes
-abbrev pub output_of : Operation → List ℕ
-output_of (Validate from to) = to
-output_of (Node from to) = to
-output_of (Regions from to) = to
+-- ---- the kinds of answers
 
 -- the output was written
 abbrev pub is_success : Outcome → Bool
@@ -32,18 +18,37 @@ is_success Done = true
 is_success (Marked edges) = true
 is_success _ = false
 
+-- the inputs were read, and refused
+abbrev pub is_refusal : Outcome → Bool
+is_refusal (BadText fault) = true
+is_refusal _ = false
+
 -- the output may have been touched
 abbrev pub is_touching : Outcome → Bool
 is_touching WriteFault = true
 is_touching outcome = is_success outcome
 
+-- ---- what the files give the operation to do
+
 -- on what the files hold, the operation answers this success and writes this text
-abbrev pub Writes : Operation → State → Outcome → List ℕ → Type 0
-Writes (Validate from to) s Done text = Validates from s 0 text
-Writes (Validate from to) s (Marked edges) text = (1 ≤ edges) × Validates from s edges text
-Writes (Node from to) s Done text = Nodes from s text
-Writes (Regions from to) s Done text = ListsRegions from s text
-Writes operation s outcome text = ⊥
+pub record Writes (operation : Operation) (s : State) (outcome : Outcome) (text : List ℕ) : Type 0 where
+  pub inputs : List (List ℕ)
+  pub read : AreInputs s (inputs_of operation) inputs
+  pub makes : Makes operation inputs outcome text
+
+-- what the files hold is a cause for the operation to refuse it with this outcome
+pub record HoldsCause (operation : Operation) (s : State) (refusal : Outcome) : Type 0 where
+  pub inputs : List (List ℕ)
+  pub read : AreInputs s (inputs_of operation) inputs
+  pub refuses : Refuses operation inputs refusal
+
+-- the files can be read, and what they hold is a cause for no refusal
+pub record HoldsNoCause (operation : Operation) (s : State) : Type 0 where
+  pub inputs : List (List ℕ)
+  pub read : AreInputs s (inputs_of operation) inputs
+  pub none : (refusal : Outcome) → ¬ Refuses operation inputs refusal
+
+-- ---- what the files hold afterwards
 
 -- the output holds the operation's whole text, and every other file is as it was
 pub record HoldsText (operation : Operation) (old new : State) (outcome : Outcome) : Type 0 where
@@ -57,6 +62,8 @@ pub record HoldsPart (operation : Operation) (old new : State) : Type 0 where
   pub text : List ℕ
   pub writes : Writes operation old outcome text
   pub held : HoldsPrefix (output_of operation) text old.files new.files
+
+-- ---- answers
 
 -- the answer, unless a read fault or want of memory comes first
 abbrev pub IsUnlessEarlier : Outcome → Outcome → Type 0
@@ -82,14 +89,14 @@ pub record IsAnswer (operation : Operation) (old new : State) (answer : Outcome)
   pub write_fault : answer ≡ WriteFault → Rose old.write_faults new.write_faults
   pub no_write_fault : answer ≢ WriteFault → new.write_faults ≡ old.write_faults
   -- too long, exactly for an input of more bytes than it may hold
-  pub too_long : IsTrue old.tells_files → answer ≡ TooLong → HoldsTooMuch (input_of operation) old
-  pub long : IsTrue old.tells_files → HoldsTooMuch (input_of operation) old → IsUnlessEarlier TooLong answer
-  -- a fault of the text, exactly for an input with that fault
-  pub bad_text : (fault : TextFault) → IsTrue old.tells_files → answer ≡ BadText fault → HoldsFault (input_of operation) old fault
-  pub faulty : (fault : TextFault) → IsTrue old.tells_files → HoldsFault (input_of operation) old fault → IsUnlessEarlier (BadText fault) answer
-  -- an input that is read is answered, and where a room is told no fault comes
-  pub good : (members : List (List (List (List Coord)))) → IsTrue old.tells_files → HoldsCoverage (input_of operation) old members → IsSuccessUnlessFault answer
-  pub readable : IsPromised (input_of operation) old → answer ≢ ReadFault
+  pub too_long : IsTrue old.tells_files → answer ≡ TooLong → Any (HoldsTooMuch old) (inputs_of operation)
+  pub long : IsTrue old.tells_files → Any (HoldsTooMuch old) (inputs_of operation) → IsUnlessEarlier TooLong answer
+  -- a refusal of what was read, exactly for inputs that are a cause for it
+  pub refused : IsTrue old.tells_files → IsTrue (is_refusal answer) → HoldsCause operation old answer
+  pub faulty : (refusal : Outcome) → IsTrue old.tells_files → HoldsCause operation old refusal → IsUnlessEarlier refusal answer
+  -- inputs that are a cause for no refusal are answered, and where a room is told no fault comes
+  pub good : IsTrue old.tells_files → HoldsNoCause operation old → IsSuccessUnlessFault answer
+  pub readable : All (λ name. IsPromised name old) (inputs_of operation) → answer ≢ ReadFault
   pub writable : IsPromised (output_of operation) old → FitsRoom operation old → answer ≢ WriteFault
   -- every other answer leaves every file as it was, and after a write fault the output holds at most the first bytes of the text
   pub untouched : IsTrue old.tells_files → is_touching answer ≡ false → SameFiles old.files new.files

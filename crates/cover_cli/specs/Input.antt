@@ -1,32 +1,23 @@
--- How a file is read as a coverage, or why not.
+-- What the files hold that an operation reads.
 use Rattle.std.specs.Prelude.{◌≡◌, ℕ, ◌<◌, ◌≤◌, List, length, Some}
+use Rattle.std.specs.List.{AllZip}
 use Rattle.cov_io.specs.State.{State}
-use Rattle.cov_types.specs.declared.coord.Coord.{Coord}
-use Rattle.geo_text.specs.Fault.{IsFault, IsFaultless}
-use Rattle.geo_text.specs.Reading.{Reads}
-use Rattle.geo_text.specs.declared.error.TextFault.{TextFault}
 
 -- how many bytes an input may hold
 abbrev pub longest_input : ℕ
 longest_input = 67108864
 
--- the file of this name holds a text without a fault that is read as the coverage
-pub record HoldsCoverage (name : List ℕ) (s : State) (members : List (List (List (List Coord)))) : Type 0 where
-  pub bytes : List ℕ
+-- the file of this name holds these bytes, and no more than an input may
+pub record Holds (s : State) (name bytes : List ℕ) : Type 0 where
   pub file : s.files name ≡ Some bytes
   pub within : length bytes ≤ longest_input
-  pub reads : Reads bytes members
-  pub faultless : IsFaultless bytes
 
--- the file of this name holds a text with this fault
-pub record HoldsFault (name : List ℕ) (s : State) (fault : TextFault) : Type 0 where
-  pub bytes : List ℕ
-  pub file : s.files name ≡ Some bytes
-  pub within : length bytes ≤ longest_input
-  pub fault_is : IsFault bytes fault
-
--- the file of this name holds more bytes than it may
-pub record HoldsTooMuch (name : List ℕ) (s : State) : Type 0 where
+-- the file of this name holds more bytes than an input may
+pub record HoldsTooMuch (s : State) (name : List ℕ) : Type 0 where
   pub bytes : List ℕ
   pub file : s.files name ≡ Some bytes
   pub longer : longest_input < length bytes
+
+-- the inputs are what the files of these names hold, in their order
+abbrev pub AreInputs : State → List (List ℕ) → List (List ℕ) → Type 0
+AreInputs s names inputs = AllZip (Holds s) names inputs

@@ -3,11 +3,12 @@ pub mod Named
 pub mod Lines
 pub mod Outcome
 pub mod Input
-pub mod Refusal
+pub mod Text
 pub mod Validate
-pub mod Made
-pub mod Answers
-pub mod Written
-pub mod Noding
+pub mod Node
 pub mod Rows
 pub mod Regions
+pub mod Made
+pub mod Refusal
+pub mod Answers
+pub mod Written

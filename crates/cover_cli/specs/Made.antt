@@ -1,48 +1,26 @@
--- What validating a coverage makes, before it is written.
-use Rattle.std.specs.Prelude.{◌≡◌, ℕ, List, zero, suc}
-use Rattle.cov_io.specs.State.{State}
-use Rattle.cov_types.specs.declared.coord.Coord.{Coord}
-use Rattle.cover_cli.specs.Answers.{input_of, Writes}
-use Rattle.cover_cli.specs.Words.{Operation}
-use Rattle.cover_cli.specs.declared.outcome.Outcome.{Outcome}
-use Rattle.cover_cli.specs.declared.outcome.Outcome.TheVariants.{Done, Marked}
-use Rattle.cover_cli.specs.declared.validate.Made.{Made}
-use Rattle.cover_cli.specs.Input.{HoldsCoverage}
-use Rattle.cover_cli.specs.Noding.{IsNoding}
+-- What an operation makes of the inputs that it read.
+use Rattle.std.specs.Prelude.{ℕ, List, [], ◌∷◌}
+use Rattle.cover_cli.specs.Node.{IsNoding}
 use Rattle.cover_cli.specs.Regions.{IsRegionList}
+use Rattle.cover_cli.specs.Text.{IsReadAnd, RefusesText}
 use Rattle.cover_cli.specs.Validate.{IsValidation}
+use Rattle.cover_cli.specs.Words.{Operation, Validate, Node, Regions}
+use Rattle.cover_cli.specs.declared.outcome.Outcome.{Outcome}
 
--- the outcome where so many segments are marked
-abbrev pub marking : ℕ → Outcome
-marking zero = Done
-marking (suc edges) = Marked (suc edges)
+-- there is one input, and this holds of it
+abbrev pub IsOneAnd : List (List ℕ) → (List ℕ → Type 0) → Type 0
+IsOneAnd [] P = ⊥
+IsOneAnd (input ∷ []) P = P input
+IsOneAnd (input ∷ more ∷ rest) P = ⊥
 
--- it is the validation of the coverage
-pub record IsMadeOf (members : List (List (List (List Coord)))) (made : Made) : Type 0 where
-  pub edges : ℕ
-  pub outcome : made.outcome ≡ marking edges
-  pub validation : IsValidation members edges made.text.items
+-- of these inputs the operation makes this text, and answers this success once it is written
+abbrev pub Makes : Operation → List (List ℕ) → Outcome → List ℕ → Type 0
+Makes (Validate from to) inputs outcome text = IsOneAnd inputs (λ input. IsReadAnd input (λ members. IsValidation members outcome text))
+Makes (Node from to) inputs outcome text = IsOneAnd inputs (λ input. IsReadAnd input (λ members. IsNoding members outcome text))
+Makes (Regions from to) inputs outcome text = IsOneAnd inputs (λ input. IsReadAnd input (λ members. IsRegionList members outcome text))
 
--- it is the validation of the coverage that the file of this name holds
-pub record IsMadeFrom (from : List ℕ) (s : State) (made : Made) : Type 0 where
-  pub members : List (List (List (List Coord)))
-  pub input : HoldsCoverage from s members
-  pub made_of : IsMadeOf members made
-
--- it is what the operation writes, and its input is read
-pub record IsMadeBy (operation : Operation) (s : State) (made : Made) : Type 0 where
-  pub members : List (List (List (List Coord)))
-  pub input : HoldsCoverage (input_of operation) s members
-  pub writes : Writes operation s made.outcome made.text.items
-
--- it is the noding of the coverage that the file of this name holds
-pub record IsNodedFrom (from : List ℕ) (s : State) (made : Made) : Type 0 where
-  pub members : List (List (List (List Coord)))
-  pub input : HoldsCoverage from s members
-  pub noding : IsNoding members made.text.items
-
--- it lists the regions of the coverage that the file of this name holds
-pub record IsListedFrom (from : List ℕ) (s : State) (made : Made) : Type 0 where
-  pub members : List (List (List (List Coord)))
-  pub input : HoldsCoverage from s members
-  pub regions : IsRegionList members made.text.items
+-- these inputs are a cause for the operation to refuse them with this outcome
+abbrev pub Refuses : Operation → List (List ℕ) → Outcome → Type 0
+Refuses (Validate from to) inputs outcome = IsOneAnd inputs (λ input. RefusesText input outcome)
+Refuses (Node from to) inputs outcome = IsOneAnd inputs (λ input. RefusesText input outcome)
+Refuses (Regions from to) inputs outcome = IsOneAnd inputs (λ input. RefusesText input outcome)

@@ -1,14 +1,14 @@
--- What listing the regions of a file writes.
+-- What listing the regions of a coverage answers and writes.
 use Rattle.std.specs.Prelude.{◌≡◌, ◌⊎◌, ℕ, List, length}
 use Rattle.std.specs.List.{AllZip, concat}
-use Rattle.cov_io.specs.State.{State}
+use Rattle.arrangement.specs.Measure.{region_area2}
+use Rattle.arrangement.specs.Overlay.{Overlay, region_numbers, label_of, IsSnappedOverlay}
 use Rattle.cov_types.specs.declared.coord.Coord.{Coord}
 use Rattle.cov_types.specs.Uses.{uses_of}
-use Rattle.plane.specs.Region.{IsOuterRegion}
-use Rattle.arrangement.specs.Overlay.{Overlay, region_numbers, label_of, IsSnappedOverlay}
-use Rattle.arrangement.specs.Measure.{region_area2}
-use Rattle.cover_cli.specs.Input.{HoldsCoverage}
 use Rattle.cover_cli.specs.Rows.{outer_row, inner_row}
+use Rattle.cover_cli.specs.declared.outcome.Outcome.{Outcome}
+use Rattle.cover_cli.specs.declared.outcome.Outcome.TheVariants.{Done}
+use Rattle.plane.specs.Region.{IsOuterRegion}
 
 -- the line is the row of the region
 abbrev pub IsRow : Overlay → ℕ → List ℕ → Type 0
@@ -20,14 +20,9 @@ pub record AreRows (o : Overlay) (regions : List ℕ) (text : List ℕ) : Type 0
   pub each : AllZip (IsRow o) regions rows
   pub lines : text ≡ concat rows
 
--- the text lists the regions of the snapped members of the coverage
-pub record IsRegionList (members : List (List (List (List Coord)))) (text : List ℕ) : Type 0 where
+-- it is done, and the text lists the regions of the snapped members of the coverage
+pub record IsRegionList (members : List (List (List (List Coord)))) (outcome : Outcome) (text : List ℕ) : Type 0 where
+  pub done : outcome ≡ Done
   pub overlay : Overlay
   pub is_overlay : IsSnappedOverlay (uses_of members) (length members) overlay
   pub rows : AreRows overlay (region_numbers overlay) text
-
--- the file of this name is read as a coverage, and the text lists the regions of its snapped members
-pub record ListsRegions (from : List ℕ) (s : State) (text : List ℕ) : Type 0 where
-  pub members : List (List (List (List Coord)))
-  pub input : HoldsCoverage from s members
-  pub regions : IsRegionList members text

@@ -8,6 +8,18 @@ pub data Operation : Type 0 where
   Node : List ℕ → List ℕ → Operation
   Regions : List ℕ → List ℕ → Operation
 
+-- the names of the files that the operation reads, in the order in which it reads them
+abbrev pub inputs_of : Operation → List (List ℕ)
+inputs_of (Validate from to) = from ∷ []
+inputs_of (Node from to) = from ∷ []
+inputs_of (Regions from to) = from ∷ []
+
+-- the name of the file that the operation writes
+abbrev pub output_of : Operation → List ℕ
+output_of (Validate from to) = to
+output_of (Node from to) = to
+output_of (Regions from to) = to
+
 -- a name is a word that doesn't begin with `-`
 abbrev pub is_name : List ℕ → Bool
 is_name [] = true

@@ -7,7 +7,7 @@ use Rattle.cov_io.specs.Frame.{KeepsInput}
 use Rattle.cov_io.specs.State.{State}
 use Rattle.cover_cli.specs.declared.outcome.Outcome.{Outcome}
 use Rattle.cover_cli.specs.declared.outcome.Outcome.TheVariants.{WriteFault}
-use Rattle.cover_cli.specs.declared.validate.Made.{Made}
+use Rattle.cover_cli.specs.declared.making.Made.{Made}
 
 -- the file of this name holds the text, and there was no fault
 pub record IsWrittenWhole (to text : List ℕ) (old new : State) : Type 0 where

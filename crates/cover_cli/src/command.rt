@@ -1,15 +1,30 @@
 ghost use Rattle.std.specs.Prelude.{◌≡◌, ◌↔◌, map, None, IfSome};
 ghost use Rattle.std.specs.String.{string_bytes};
 ghost use Rattle.cover_cli.specs.Answers.{IsAnswer};
+ghost use Rattle.cover_cli.specs.Named.{named};
 ghost use Rattle.cover_cli.specs.Words.{operation_of};
 
-use crate::noding::node_file;
+use crate::input::read_inputs;
+use crate::making::make;
 use crate::outcome::Outcome;
-use crate::region_listing::regions_file;
-use crate::run::validate_file;
+use crate::output::written;
 use crate::words::{Operation, operation_named};
 use cov_io::Files;
 use std::alloc::Global;
+
+// Reads what the operation reads, makes its whole text in memory, and then writes it.
+fn run<F: Files>(alloc: Global, operation: &Operation, files: &mut F) -> Outcome
+    ensures { IsAnswer (named operation.now) (F.state files.old) (F.state files.new) result }
+{
+    let inputs = match read_inputs(alloc, files, operation.inputs()) {
+        Ok(inputs) => inputs,
+        Err(refusal) => return refusal,
+    };
+    match make(alloc, operation, &inputs) {
+        Ok(made) => written(files, operation.output(), made),
+        Err(refusal) => refusal,
+    }
+}
 
 /// Does all that the program does. `words` are the words after the program's name.
 ///
@@ -25,8 +40,6 @@ pub fn cover<F: Files>(alloc: Global, words: &[String], files: &mut F) -> Outcom
 {
     match operation_named(words) {
         None => Outcome::Usage,
-        Some(Operation::Validate { from, to }) => validate_file(alloc, files, from, to),
-        Some(Operation::Node { from, to }) => node_file(alloc, files, from, to),
-        Some(Operation::Regions { from, to }) => regions_file(alloc, files, from, to),
+        Some(operation) => run(alloc, &operation, files),
     }
 }

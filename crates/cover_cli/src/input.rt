@@ -1,66 +1,35 @@
-ghost use Rattle.std.specs.Prelude.{◌≡◌, ◌≢◌, List, IsTrue, IfOk, IfErr, OnOk, Err};
+ghost use Rattle.std.specs.Prelude.{◌≡◌, ◌≢◌, ◌≤◌, List, length, map, All, IsTrue, IfOk, IfErr, OnOk, Err};
 ghost use Rattle.cov_io.specs.Calls.{IsPromised};
-ghost use Rattle.cov_io.specs.Count.{Rose};
 ghost use Rattle.cov_io.specs.Frame.{KeepsOutput};
-ghost use Rattle.cov_types.specs.Coverage.{IsFormed};
-ghost use Rattle.cover_cli.specs.Input.{HoldsCoverage, HoldsFault, HoldsTooMuch};
-ghost use Rattle.cover_cli.specs.Refusal.{outcome_of_slurp, outcome_of_text, IsCause};
+ghost use Rattle.cover_cli.specs.Input.{AreInputs, longest_input};
+ghost use Rattle.cover_cli.specs.Refusal.{IsUnread};
 
 use crate::outcome::Outcome;
-use cov_io::{Files, SlurpError, slurp};
-use cov_types::{Coverage, NoMemory};
-use geo_text::{TextError, read_text};
+use cov_io::{Files, slurp};
 use std::alloc::Global;
 
 const LONGEST_INPUT: usize = 67_108_864;
 
-impl From<SlurpError> for Outcome {
-    ghost from_gives = { λ e o. o ≡ outcome_of_slurp e };
-
-    fn from(e: SlurpError) -> Outcome {
-        match e {
-            SlurpError::ReadFault => Outcome::ReadFault,
-            SlurpError::TooLong => Outcome::TooLong,
-            SlurpError::NoMemory => Outcome::NoMemory,
-        }
-    }
-}
-
-impl From<TextError> for Outcome {
-    ghost from_gives = { λ e o. o ≡ outcome_of_text e };
-
-    fn from(e: TextError) -> Outcome {
-        match e {
-            TextError::Fault(fault) => Outcome::BadText(fault),
-            TextError::NoMemory => Outcome::NoMemory,
-        }
-    }
-}
-
-impl From<NoMemory> for Outcome {
-    ghost use Rattle.cover_cli.specs.declared.outcome.Outcome.TheVariants as outcomes;
-
-    ghost from_gives = { λ _ o. o ≡ outcomes.NoMemory };
-
-    fn from(_e: NoMemory) -> Outcome {
-        Outcome::NoMemory
-    }
-}
-
-/// Reads the file of this name as a coverage. An error is the outcome that refuses the input.
-pub fn read_coverage<F: Files>(
+/// Reads the files of these names whole, in their order. An error is the outcome that refuses them.
+pub fn read_inputs<F: Files>(
     alloc: Global,
     files: &mut F,
-    name: &str,
-) -> Result<Coverage, Outcome>
-    ensures read { IfOk result (λ c. IsTrue (F.state files.old).tells_files
-        → HoldsCoverage name.now (F.state files.old) c) }
-    ensures formed { IfOk result IsFormed }
-    ensures cause { IfErr result (λ o. IsCause o name.now (F.state files.old) (F.state files.new)) }
+    names: &[&str],
+) -> Result<Vec<Vec<u8>>, Outcome>
+    ensures read { IfOk result (λ inputs. IsTrue (F.state files.old).tells_files
+        → AreInputs (F.state files.old) (map (λ n. n.now) names.now) (map (λ i. i.items) inputs.items)) }
+    ensures count { IfOk result (λ inputs. length inputs.items ≡ length names.now) }
+    ensures within { IfOk result (λ inputs. All (λ i. length i.items ≤ longest_input) inputs.items) }
+    ensures cause { IfErr result (λ o. IsUnread o (map (λ n. n.now) names.now) (F.state files.old) (F.state files.new)) }
     ensures counted { OnOk result ((F.state files.new).read_faults ≡ (F.state files.old).read_faults) }
     ensures kept { KeepsOutput (F.state files.old) (F.state files.new) }
-    ensures promised { IsPromised name.now (F.state files.old) → result ≢ Err Outcome.ReadFault }
+    ensures promised { All (λ name. IsPromised name (F.state files.old)) (map (λ n. n.now) names.now)
+        → result ≢ Err Outcome.ReadFault }
 {
-    let bytes = slurp(alloc, files, name, LONGEST_INPUT)?;
-    Ok(read_text(alloc, &bytes)?)
+    let mut inputs = Vec::new(alloc);
+    for name in names {
+        let input = slurp(alloc, files, name, LONGEST_INPUT)?;
+        inputs.push(input)?;
+    }
+    Ok(inputs)
 }

@@ -1,31 +1,22 @@
-ghost use Rattle.std.specs.Prelude.{◌≡◌, ◌≢◌, IsTrue, IfOk, IfErr, OnOk, Err};
-ghost use Rattle.cov_io.specs.Calls.{IsPromised};
-ghost use Rattle.cov_io.specs.Frame.{KeepsOutput};
+ghost use Rattle.std.specs.Prelude.{◌≡◌, ◌≤◌, length, IfOk, IfErr};
 ghost use Rattle.cov_types.specs.Coverage.{AllInRange};
-ghost use Rattle.cover_cli.specs.Answers.{is_success};
-ghost use Rattle.cover_cli.specs.Made.{marking, IsMadeOf, IsMadeFrom};
-ghost use Rattle.cover_cli.specs.Refusal.{IsCause};
+ghost use Rattle.cover_cli.specs.Input.{longest_input};
+ghost use Rattle.cover_cli.specs.Refusal.{IsRefusedFor};
+ghost use Rattle.cover_cli.specs.Text.{IsReadAnd, RefusesText};
+ghost use Rattle.cover_cli.specs.Validate.{marking, IsValidation};
 
-use crate::input::read_coverage;
 use crate::lines::{lists_by_member, uses_at_marks};
+use crate::making::Made;
 use crate::outcome::Outcome;
-use cov_io::Files;
 use cov_types::{Coverage, NoMemory, uses};
 use cov_valid::marks;
 use cov_write::lines_of;
+use geo_text::read_text;
 use std::alloc::Global;
-
-/// What an operation made: the outcome, should the text be written whole, and that text.
-#[derive(Drop)]
-pub struct Made {
-    pub outcome: Outcome,
-    pub text: Vec<u8>,
-}
 
 // The outcome where so many segments are marked.
 fn outcome_of(edges: u64) -> Outcome
-    ensures marking { result ≡ marking edges }
-    ensures success { IsTrue (is_success result) }
+    ensures { result ≡ marking edges }
 {
     if edges == 0 {
         Outcome::Done
@@ -34,11 +25,10 @@ fn outcome_of(edges: u64) -> Outcome
     }
 }
 
-/// The text of the marked segments of a coverage, and how many there are.
-pub fn validation(alloc: Global, c: &Coverage) -> Result<Made, NoMemory>
+// The text of the marked segments of a coverage, and how many there are.
+fn validation(alloc: Global, c: &Coverage) -> Result<Made, NoMemory>
     requires { AllInRange c.now }
-    ensures made { IfOk result (IsMadeOf c.now) }
-    ensures success { IfOk result (λ made. IsTrue (is_success made.outcome)) }
+    ensures { IfOk result (λ made. IsValidation c.now made.outcome made.text.items) }
 {
     let uses = uses(alloc, c)?;
     let marks = marks(alloc, c, 0)?;
@@ -49,16 +39,13 @@ pub fn validation(alloc: Global, c: &Coverage) -> Result<Made, NoMemory>
     Ok(Made { outcome, text })
 }
 
-/// Reads the file of this name and makes all that validating it writes. It only reads.
-pub fn validated<F: Files>(alloc: Global, files: &mut F, from: &str) -> Result<Made, Outcome>
-    ensures made { IfOk result (λ made. IsTrue (F.state files.old).tells_files
-        → IsMadeFrom from.now (F.state files.old) made) }
-    ensures success { IfOk result (λ made. IsTrue (is_success made.outcome)) }
-    ensures cause { IfErr result (λ o. IsCause o from.now (F.state files.old) (F.state files.new)) }
-    ensures counted { OnOk result ((F.state files.new).read_faults ≡ (F.state files.old).read_faults) }
-    ensures kept { KeepsOutput (F.state files.old) (F.state files.new) }
-    ensures promised { IsPromised from.now (F.state files.old) → result ≢ Err Outcome.ReadFault }
+/// Validates the coverage that the input is read as.
+pub fn make(alloc: Global, input: &[u8]) -> Result<Made, Outcome>
+    requires { length input.now ≤ longest_input }
+    ensures made { IfOk result (λ made.
+        IsReadAnd input.now (λ members. IsValidation members made.outcome made.text.items)) }
+    ensures refused { IfErr result (IsRefusedFor (RefusesText input.now)) }
 {
-    let coverage = read_coverage(alloc, files, from)?;
+    let coverage = read_text(alloc, input)?;
     Ok(validation(alloc, &coverage)?)
 }

@@ -33,8 +33,8 @@ module _ {X : Type 0} (beats : X → X → Bool) (order : IsStrictWeakOrder beat
 
 -- ---- numbers rank
 
--- whole numbers, the lesser first
-ints_rank : {X : Type 0} (key : X → ℤ) → IsStrictWeakOrder (λ x y. int_lt (key x) (key y))
+-- whole numbers rank by a key, the lesser first
+pub ints_rank : {X : Type 0} (key : X → ℤ) → IsStrictWeakOrder (λ x y. int_lt (key x) (key y))
 ints_rank key = record { one_way = λ x y h. one_way (key x) (key y) h; chain = λ x y z h k. chain (key x) (key y) (key z) h k }
   where
     one_way : (a b : ℤ) → int_lt a b ≡ true → int_lt b a ≡ false

@@ -15,8 +15,9 @@
 //! A crate above takes a lemma by `use Rattle.region_owners.proofs.FILE.{NAME}` in its `proofs/`. The files:
 //!
 //! - `Clearances`: one clearance (`clearance_unique`), and narrow by it (`narrow_is`).
-//! - `Picks`: the first best place (`first_best_is`). `Held`: the candidates ascend (`ordered`), the four rules are lawful
-//!   (`lawful`), and a region that is held has an owner (`held_owner`).
+//! - `Picks`: the first best place (`first_best_is`), whole numbers rank by a key (`ints_rank`), what the four rules pick (`picks`).
+//!   `Held`: the candidates ascend (`ordered`), the four rules are lawful (`lawful`), and a region that is held has an owner
+//!   (`held_owner`).
 //! - `Neighbours`: an edge has a length (`has_length`), a gap has a region that is held beside it (`held_beside`) and so a neighbour
 //!   (`gap_neighbour`). `Owners`: one owner, which is a member (`owner_below`), and owners exist (`owners_exist`, `no_width`).
 //! - `Boxes`: points of a box that no edge enters are joined (`box_joined`). `Computed`, `SquareClearance`, `SquareOwners`, `Frame`: the examples and instances.

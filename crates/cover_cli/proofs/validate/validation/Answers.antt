@@ -4,10 +4,11 @@ use Rattle.cov_types.specs.Uses.{uses_of}
 use Rattle.cov_write.specs.Written.{lines_text}
 use Rattle.cover_cli.proofs.Listing.{member_lists_are, lists_moved}
 use Rattle.cover_cli.specs.Lines.{marked_uses, AreMemberLists}
+use Rattle.cover_cli.specs.Validate.{marking}
 use Rattle.cover_cli.proofs.validate.validation.Goals as goal
 
-pub returns-clause-made : goal.returns-clause-made
-returns-clause-made c =
+pub returns : goal.returns
+returns c =
     let uses : c.deref.result.now ≡ uses_of c.args.c.now = c.deref.ensures.value ∙ c.in_ok-uses.ensures.exact in
     let marked : c.deref-3.result.now ≡ marked_uses (uses_of c.args.c.now) c.in_ok-marks.marks.items =
     c.deref-3.ensures.value ∙ c.in_ok-marked.ensures ∙ (λ i. marked_uses (uses i) (c.deref-2.ensures.value i)) in
@@ -15,12 +16,8 @@ returns-clause-made c =
     let lists : AreMemberLists (marked_uses (uses_of c.args.c.now) c.in_ok-marks.marks.items) (length c.args.c.now) c.deref-4.result.now =
     lists_moved _ _ _ _ _ _ marked count (sym c.deref-4.ensures.value) c.in_ok-lists.ensures in
     record {
-      edges = c.len-2.result;
-      outcome = c.outcome_of-outcome.ensures.marking;
-      validation = record {
-        marks = c.in_ok-marks.marks.items;
-        marked = c.in_ok-marks.ensures.exact;
-        counted = omega arith;
-        lines = c.in_ok-text.ensures ∙ ap lines_text (member_lists_are (marked_uses (uses_of c.args.c.now) c.in_ok-marks.marks.items) c.args.c.now c.deref-4.result.now lists);
-      };
+      marks = c.in_ok-marks.marks.items;
+      marked = c.in_ok-marks.ensures.exact;
+      counted = c.outcome_of-outcome.ensures ∙ ap marking (omega arith);
+      lines = c.in_ok-text.ensures ∙ ap lines_text (member_lists_are (marked_uses (uses_of c.args.c.now) c.in_ok-marks.marks.items) c.args.c.now c.deref-4.result.now lists);
     }

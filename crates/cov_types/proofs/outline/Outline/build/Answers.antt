@@ -4,6 +4,8 @@ use Rattle.std.proofs.lemmas.List.FromFn.{get_or-enumerate_from, length-enumerat
 use Rattle.std.specs.List.{enumerate_from}
 use Rattle.cov_types.proofs.Added.{used, adds-part, rings_used}
 use Rattle.cov_types.proofs.AllUses.{uses-in_range, uses-members}
+use Rattle.std.specs.Prelude.{AllPairs}
+use Rattle.cov_types.proofs.Ascending.{ascending}
 use Rattle.cov_types.proofs.Runs.{in_row, rounds, starts-length}
 use Rattle.cov_types.proofs.outline.Outline.build.Goals as goal
 use Rattle.cov_types.specs.Range.{IsSegInRange}
@@ -75,3 +77,7 @@ returns-clause-round c =
     (subst (λ (us : List EdgeUse). All (IsRing us c.loop-number.outline.starts.items) (runs_of c.args.c.now)) (sym uses)
     (subst (λ (ss : List Coord). All (IsRing (flat_map used (rings_of c.args.c.now)) ss) (runs_of c.args.c.now)) (sym (returns-clause-starts c))
     (rounds (rings_of c.args.c.now) [] [] refl)))
+
+pub returns-clause-ascending : goal.returns-clause-ascending
+returns-clause-ascending c =
+    subst (λ (runs : List RingRun). AllPairs (λ (r s : RingRun). r.member ≤ s.member) runs) (sym (returns-clause-rings c)) (ascending c.args.c.now)

@@ -1,0 +1,34 @@
+ghost use Rattle.std.specs.Prelude.{◌≡◌, ◌≤◌, length, map, All, IfOk, IfErr};
+ghost use Rattle.cover_cli.specs.Input.{longest_input};
+ghost use Rattle.cover_cli.specs.Made.{Makes, Refuses};
+ghost use Rattle.cover_cli.specs.Named.{named};
+ghost use Rattle.cover_cli.specs.Refusal.{IsRefusedFor};
+ghost use Rattle.cover_cli.specs.Words.{inputs_of};
+
+use crate::outcome::Outcome;
+use crate::words::Operation;
+use crate::{node, regions, validate};
+use std::alloc::Global;
+
+/// What an operation made: the outcome, should the text be written whole, and that text.
+#[derive(Drop)]
+pub struct Made {
+    pub outcome: Outcome,
+    pub text: Vec<u8>,
+}
+
+/// Makes all that the operation writes of the inputs that it read. An error is the outcome that refuses them.
+pub fn make(alloc: Global, operation: &Operation, inputs: &[Vec<u8>]) -> Result<Made, Outcome>
+    requires count { length inputs.now ≡ length (inputs_of (named operation.now)) }
+    requires within { All (λ i. length i.items ≤ longest_input) inputs.now }
+    ensures made { IfOk result (λ made.
+        Makes (named operation.now) (map (λ i. i.items) inputs.now) made.outcome made.text.items) }
+    ensures refused { IfErr result
+        (IsRefusedFor (Refuses (named operation.now) (map (λ i. i.items) inputs.now))) }
+{
+    match operation {
+        Operation::Validate { .. } => validate::make(alloc, &inputs[0]),
+        Operation::Node { .. } => node::make(alloc, &inputs[0]),
+        Operation::Regions { .. } => regions::make(alloc, &inputs[0]),
+    }
+}

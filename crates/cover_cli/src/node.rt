@@ -1,0 +1,43 @@
+ghost use Rattle.std.specs.Prelude.{◌≡◌, ◌≤◌, length, IfOk, IfErr};
+ghost use Rattle.cov_types.specs.Coverage.{AllInRange};
+ghost use Rattle.cover_cli.specs.Input.{longest_input};
+ghost use Rattle.cover_cli.specs.Node.{IsNoding};
+ghost use Rattle.cover_cli.specs.Refusal.{IsRefusedFor};
+ghost use Rattle.cover_cli.specs.Text.{IsReadAnd, RefusesText};
+
+use crate::lines::lists_by_member;
+use crate::making::Made;
+use crate::outcome::Outcome;
+use cov_types::{Coverage, NoMemory, uses};
+use cov_write::lines_of;
+use geo_text::read_text;
+use snap_noder::{node, uses_of_odd};
+use std::alloc::Global;
+
+// The text of the noded edges, and then for each member of its odd edges.
+fn noding(alloc: Global, c: &Coverage) -> Result<Made, NoMemory>
+    requires { AllInRange c.now }
+    ensures { IfOk result (λ made. IsNoding c.now made.outcome made.text.items) }
+{
+    let uses = uses(alloc, c)?;
+    let noded = node(alloc, &uses)?;
+    let odd = uses_of_odd(alloc, &noded)?;
+    let mut lists = lists_by_member(alloc, &odd, c.members.len())?;
+    lists.insert(0, noded.edges)?;
+    let text = lines_of(alloc, &lists)?;
+    Ok(Made {
+        outcome: Outcome::Done,
+        text,
+    })
+}
+
+/// Nodes the coverage that the input is read as.
+pub fn make(alloc: Global, input: &[u8]) -> Result<Made, Outcome>
+    requires { length input.now ≤ longest_input }
+    ensures made { IfOk result (λ made.
+        IsReadAnd input.now (λ members. IsNoding members made.outcome made.text.items)) }
+    ensures refused { IfErr result (IsRefusedFor (RefusesText input.now)) }
+{
+    let coverage = read_text(alloc, input)?;
+    Ok(noding(alloc, &coverage)?)
+}

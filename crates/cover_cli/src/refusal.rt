@@ -1,0 +1,51 @@
+ghost use Rattle.std.specs.Prelude.{◌≡◌};
+ghost use Rattle.cover_cli.specs.Refusal.{outcome_of_slurp, outcome_of_text};
+
+use crate::outcome::Outcome;
+use cov_io::SlurpError;
+use cov_types::NoMemory;
+use geo_text::TextError;
+use std::alloc::AllocFailed;
+
+impl From<SlurpError> for Outcome {
+    ghost from_gives = { λ e o. o ≡ outcome_of_slurp e };
+
+    fn from(e: SlurpError) -> Outcome {
+        match e {
+            SlurpError::ReadFault => Outcome::ReadFault,
+            SlurpError::TooLong => Outcome::TooLong,
+            SlurpError::NoMemory => Outcome::NoMemory,
+        }
+    }
+}
+
+impl From<TextError> for Outcome {
+    ghost from_gives = { λ e o. o ≡ outcome_of_text e };
+
+    fn from(e: TextError) -> Outcome {
+        match e {
+            TextError::Fault(fault) => Outcome::BadText(fault),
+            TextError::NoMemory => Outcome::NoMemory,
+        }
+    }
+}
+
+impl From<NoMemory> for Outcome {
+    ghost use Rattle.cover_cli.specs.declared.outcome.Outcome.TheVariants as outcomes;
+
+    ghost from_gives = { λ _ o. o ≡ outcomes.NoMemory };
+
+    fn from(_e: NoMemory) -> Outcome {
+        Outcome::NoMemory
+    }
+}
+
+impl<T: Drop> From<AllocFailed<T>> for Outcome {
+    ghost use Rattle.cover_cli.specs.declared.outcome.Outcome.TheVariants as outcomes;
+
+    ghost from_gives = { λ _ o. o ≡ outcomes.NoMemory };
+
+    fn from(_e: AllocFailed<T>) -> Outcome {
+        Outcome::NoMemory
+    }
+}

@@ -1,0 +1,2 @@
+pub mod RuleState
+pub mod InTurn

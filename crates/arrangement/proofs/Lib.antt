@@ -12,3 +12,5 @@ pub mod SquareRegions
 pub mod SquareOverlay
 pub mod LiveOverlays
 pub mod ValidLive
+pub mod PointOrders
+pub mod SnappedPlanar

@@ -70,6 +70,10 @@ OverlayLaw = (uses : List EdgeUse) (members : ℕ) (o q : Overlay) → IsOverlay
 abbrev pub SnappedOverlayLaw : Type 0
 SnappedOverlayLaw = (uses : List EdgeUse) → All (λ u. IsSegInRange u.seg) uses → (members : ℕ) (o q : Overlay) → IsSnappedOverlay uses members o → IsSnappedOverlay uses members q → o ≡ q
 
+-- whose edges are in range and meet in ends alone
+abbrev pub SnappedPlanarLaw : Type 0
+SnappedPlanarLaw = (uses : List EdgeUse) → All (λ u. IsSegInRange u.seg) uses → (members : ℕ) (o : Overlay) → IsSnappedOverlay uses members o → IsPlanar o.edges
+
 -- ---- valid coverages
 
 -- in a valid coverage each segment is live, so the distinct segments are the live edges

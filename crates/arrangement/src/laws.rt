@@ -1,4 +1,4 @@
-ghost use Rattle.arrangement.specs.Laws.{OddUsesLaw, LiveUsesLaw, LiveAgainLaw, NodingLaw, SidesDifferLaw, FarLaw, OverlayLaw, SnappedOverlayLaw, LiveOverlayLaw, LabelLaw, ValidLiveLaw, ValidOverlayLaw};
+ghost use Rattle.arrangement.specs.Laws.{OddUsesLaw, LiveUsesLaw, LiveAgainLaw, NodingLaw, SidesDifferLaw, FarLaw, OverlayLaw, SnappedOverlayLaw, SnappedPlanarLaw, LiveOverlayLaw, LabelLaw, ValidLiveLaw, ValidOverlayLaw};
 
 /// Members hold points by their odd edges alone. A call does nothing.
 pub fn odd_uses_law()
@@ -18,10 +18,11 @@ pub fn label_law()
     ensures far { FarLaw }
 {}
 
-/// Uses have one overlay. A call does nothing.
+/// Uses have one overlay, and that of the snapped members is planar. A call does nothing.
 pub fn overlay_law()
     ensures one { OverlayLaw }
     ensures snapped { SnappedOverlayLaw }
+    ensures planar { SnappedPlanarLaw }
 {}
 
 /// What an overlay of a coverage keeps, and the labels of its regions. A call does nothing.

@@ -23,7 +23,9 @@
 //! - `Numberings`: the sides of edge k (`upper_side`, `lower_side`).
 //! - `LiveOverlays`: an overlay of even uses is live (`live_overlay`), a region has the label of its points (`label_is`), and an edge
 //!   a holder on one side alone (`side_holder`). `Ascending`: labels ascend (`label_ascends`).
+//! - `SnappedPlanar`: the edges of a snapped overlay are in range and meet in ends alone (`snapped_planar`).
 //! - `ValidLive`: the distinct segments of a valid coverage are its live edges (`valid_live`, `valid_overlay`).
+//! - `PointOrders`: lists of points of which neither is past the other are one (`points_same`).
 //! - `Short`: facts of short lists, element by element or by a test. `Computed`, `HalfCrossing`, `Squares`, `SquareRegions`,
 //!   `SquareOverlay`: the examples and instances.
 #![tactic(auto)]
@@ -33,7 +35,5 @@ mod laws;
 mod odd_use;
 
 pub use examples::{instances, vectors};
-pub use laws::{
-    label_law, live_overlay_law, noding_law, odd_uses_law, overlay_law, valid_law,
-};
+pub use laws::{label_law, live_overlay_law, noding_law, odd_uses_law, overlay_law, valid_law};
 pub use odd_use::OddUse;

@@ -18,7 +18,7 @@ use Rattle.cov_types.proofs.Between.{seg_between-ordered, seg_between-reversed}
 use Rattle.plane.specs.Snapping.{chain_edges}
 use Rattle.greedy_run.specs.Laws.{AreCovering, IsOnePlace}
 use Rattle.greedy_run.specs.Lines.{steps, IsAlongEdge, IsPathAlong, IsNode, IsLine, AreLines}
-use Rattle.greedy_run.proofs.Orders.{points_same}
+use Rattle.arrangement.proofs.PointOrders.{points_same}
 use Rattle.greedy_run.proofs.Threads.{IsThread, AreOne, are_one, turned_thread, three_counted, two_edges, ends_at, seg_turned}
 
 some_is : {X : Type 0} (a b : X) → Some a ≡ Some b → a ≡ b

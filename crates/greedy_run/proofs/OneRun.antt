@@ -12,7 +12,8 @@ use Rattle.cov_types.specs.Uses.{uses_of}
 use Rattle.arrangement.proofs.OneNoding.{same_ordered, same_edges}
 use Rattle.greedy_run.specs.Lines.{AreLines}
 use Rattle.greedy_run.specs.Run.{Spot, point_at, Simplification, IsTriangleAt, current_points, current_edges, IsInner, IsRemovable, IsNextPoint, IsRunState, IsFinalState, coverage_without, IsSimplified}
-use Rattle.greedy_run.proofs.Orders.{points_both_ways, spots_same}
+use Rattle.arrangement.proofs.PointOrders.{points_both_ways}
+use Rattle.greedy_run.proofs.Orders.{spots_same}
 
 pub one_list : (edges : List Seg) (lines others : List (List Coord)) → AreLines edges lines → AreLines edges others → lines ≡ others
 one_list edges lines others h k =

@@ -12,7 +12,7 @@
 //!
 //! A crate above takes a lemma by `use Rattle.greedy_run.proofs.FILE.{NAME}` in its `proofs/`. The files:
 //!
-//! - `Orders`: lists of points and spots of which neither is past the other are one (`points_same`, `spots_same`).
+//! - `Orders`: spots of which neither is past the other are one (`spots_same`).
 //! - `Threads`: two paths from node to node that share an edge are one (`are_one`). `OneLine`: two lines with a common edge are one
 //!   (`common_edge`), lines that have each edge are all lines (`covering`), and a vertex that is no node stands at one place
 //!   (`one_place`).

@@ -7,3 +7,5 @@ pub mod Reached
 pub mod Polygons
 pub mod NextWays
 pub mod Rotated
+pub mod OnePolygon
+pub mod OneCleaned

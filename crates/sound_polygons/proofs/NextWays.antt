@@ -1,12 +1,11 @@
 -- Where the corners of two polygons with the same sides are free, the side that follows a side is one.
 use mathlib.Core.List.{[], ◌∷◌}
-use Rattle.std.proofs.Common.{◌≡◌, inl, inr, refl, sym, ◌∙◌, ap, subst, zero, suc, Bool, true, false, not, ◌&&◌, ◌||◌, cond, List, ◌++◌, IsTrue, get_or, arith}
-use Rattle.std.specs.Prelude.{All, Contains, Option, Some, None, flat_map, option_to_list, unwrap_or}
+use Rattle.std.proofs.Common.{◌≡◌, inl, inr, refl, sym, ◌∙◌, ap, subst, zero, suc, Bool, true, false, cond, List, ◌++◌, get_or, arith}
+use Rattle.std.specs.Prelude.{Contains, Option, Some, None, flat_map, option_to_list, unwrap_or}
 use Rattle.std.specs.List.{list_any}
 use Rattle.std.proofs.lemmas.Bool.{or_parts, not-true, false≢true}
 use Rattle.std.proofs.lemmas.List.{get_or_default}
 use Rattle.std.proofs.lemmas.List.Elements.{All-contains, Contains-append_left, Contains-append_right, Contains-append_cases}
-use Rattle.std.proofs.lemmas.Option.{none-some}
 use Rattle.cov_types.specs.declared.coord.Coord.{Coord}
 use Rattle.cov_types.specs.declared.seg.Seg.{Seg}
 use Rattle.cov_types.specs.Coord.{is_same_coord}
@@ -96,7 +95,7 @@ far_from v [] w t (k, inside, is) p q = absurd (omega arith)
 far_from v (u ∷ ways) w t (zero, inside, is) p q =
     Contains-append_left (cond (is_same_coord v u.0) (u.1 ∷ []) [] ++ cond (is_same_coord v u.1) (u.0 ∷ []) []) (far_ends v ways) t
     (Contains-append_left (cond (is_same_coord v u.0) (u.1 ∷ []) []) (cond (is_same_coord v u.1) (u.0 ∷ []) []) t
-      (subst (Contains (cond (is_same_coord v u.0) (u.1 ∷ []) [])) (ap (λ (x : Way). x.1) is ∙ q) (in_cond (is_same_coord v u.0) u.1 ((Decides-same_coords v u.0).1 (sym (ap (λ (x : Way). x.0) is ∙ p))))))
+    (subst (Contains (cond (is_same_coord v u.0) (u.1 ∷ []) [])) (ap (λ (x : Way). x.1) is ∙ q) (in_cond (is_same_coord v u.0) u.1 ((Decides-same_coords v u.0).1 (sym (ap (λ (x : Way). x.0) is ∙ p))))))
 far_from v (u ∷ ways) w t (suc k, inside, is) p q =
     Contains-append_right (cond (is_same_coord v u.0) (u.1 ∷ []) [] ++ cond (is_same_coord v u.1) (u.0 ∷ []) []) (far_ends v ways) t (far_from v ways w t (k, omega arith, is) p q)
 
@@ -105,7 +104,7 @@ far_to v [] w t (k, inside, is) p q = absurd (omega arith)
 far_to v (u ∷ ways) w t (zero, inside, is) p q =
     Contains-append_left (cond (is_same_coord v u.0) (u.1 ∷ []) [] ++ cond (is_same_coord v u.1) (u.0 ∷ []) []) (far_ends v ways) t
     (Contains-append_right (cond (is_same_coord v u.0) (u.1 ∷ []) []) (cond (is_same_coord v u.1) (u.0 ∷ []) []) t
-      (subst (Contains (cond (is_same_coord v u.1) (u.0 ∷ []) [])) (ap (λ (x : Way). x.0) is ∙ q) (in_cond (is_same_coord v u.1) u.0 ((Decides-same_coords v u.1).1 (sym (ap (λ (x : Way). x.1) is ∙ p))))))
+    (subst (Contains (cond (is_same_coord v u.1) (u.0 ∷ []) [])) (ap (λ (x : Way). x.0) is ∙ q) (in_cond (is_same_coord v u.1) u.0 ((Decides-same_coords v u.1).1 (sym (ap (λ (x : Way). x.1) is ∙ p))))))
 far_to v (u ∷ ways) w t (suc k, inside, is) p q =
     Contains-append_right (cond (is_same_coord v u.0) (u.1 ∷ []) [] ++ cond (is_same_coord v u.1) (u.0 ∷ []) []) (far_ends v ways) t (far_to v ways w t (k, omega arith, is) p q)
 

@@ -1,8 +1,10 @@
+pub mod About
 pub mod Boxes
 pub mod Grouping
 pub mod Holding
 pub mod MarksSoFar
 pub mod Meeting
+pub mod Numbers
 pub mod Repeats
 pub mod Searches
 pub mod Sorting

@@ -3,4 +3,5 @@ pub mod Entries
 pub mod Groups
 pub mod Holders
 pub mod Kinds
+pub mod Levels
 pub mod Marks

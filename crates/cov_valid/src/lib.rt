@@ -10,7 +10,9 @@ mod holders;
 mod hull;
 mod kinds;
 mod laws;
+mod level;
 mod mark;
+mod placed;
 #[cfg(test)]
 mod tests;
 mod validator;

@@ -1,8 +1,11 @@
+pub mod CommonPoint
 pub mod Corners
 pub mod Descent
 pub mod LevelsHold
 pub mod Narrowed
+pub mod PlaceLaws
 pub mod Places
+pub mod Reached
 pub mod Same
 pub mod Touching
 pub mod Upward

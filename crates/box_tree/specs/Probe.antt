@@ -44,15 +44,15 @@ is_near_line s b = has_corner (is_near_left s) b && has_corner (is_near_right s)
 abbrev pub is_near_pixels : Seg → Rect → Bool
 is_near_pixels s b = is_touching (box_of_segment s) b && is_near_line s b
 
--- the box has points with the x of the half point p
+-- p is twice a point: the box has points of its column
 abbrev pub is_in_column : Coord → Rect → Bool
 is_in_column p b = int_le (pos 2 *ℤ b.lo.x) p.x && int_le p.x (pos 2 *ℤ b.hi.x)
 
--- and a point strictly above p
+-- and a point strictly above it
 abbrev pub is_above_point : Coord → Rect → Bool
 is_above_point p b = is_in_column p b && int_lt p.y (pos 2 *ℤ b.hi.y)
 
--- and a point that is not above p
+-- and a point that is not above it
 abbrev pub is_below_point : Coord → Rect → Bool
 is_below_point p b = is_in_column p b && int_le (pos 2 *ℤ b.lo.y) p.y
 

@@ -7,7 +7,7 @@ use cov_types::NoMemory;
 
 /// The numbers of the boxes that `own` touches, ascending, written over `found`: they are among those of the boxes that a box
 /// `round` about it touches. So neighbours are asked of a tree with one query about their hull, and each still gets its exact answer.
-/// Linear in the length of `wide`.
+/// Linear in the length of `wide`. After an error `found` is of no use.
 pub fn narrow_into(
     boxes: &[Rect],
     round: Rect,

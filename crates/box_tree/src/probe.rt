@@ -14,9 +14,9 @@ pub enum Probe {
     Box(Rect),
     /// Boxes that may have a grid point whose pixel the segment meets. The segment has to be in range.
     Pixels(Seg),
-    /// Boxes over the vertical line through half this point, whose top is strictly above the point.
+    /// Twice a point: boxes that have a point of its column, and one strictly above it.
     Above(Coord),
-    /// Boxes over the vertical line through half this point, whose bottom is not above the point.
+    /// Twice a point: boxes that have a point of its column, and one that is not above it.
     Below(Coord),
 }
 

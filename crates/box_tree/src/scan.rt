@@ -17,6 +17,8 @@ pub(crate) fn add_places(
     requires fits { first + length boxes.now < 2 ^ 64 }
     ensures { OnOk result (found.new.items ≡ found.old.items ++ places (reaches probe.now) first boxes.now) }
 {
+    // A copy, since the loop writes through another reference: so its numbers stay where they are.
+    let probe = *probe;
     for (i, b) in boxes.iter().enumerate() {
         if probe.reaches(*b) {
             found.push(first + i)?;

@@ -54,7 +54,8 @@ impl BoxTree {
         self.levels[0].as_slice()
     }
 
-    /// The numbers of the boxes that the probe reaches, ascending.
+    /// The numbers of the boxes that the probe reaches, ascending. On each level it looks only at the boxes whose hulls are reached,
+    /// so the time is that of the answer times the number of levels, where hulls are small.
     pub fn meeting(&self, probe: &Probe) -> Result<Vec<usize>, NoMemory>
         requires { IsProbeInRange probe.now }
         ensures { IfOk result (λ found. found.items ≡ places (reaches probe.now) 0 self.now) }
@@ -66,7 +67,8 @@ impl BoxTree {
         Ok(found)
     }
 
-    /// The same, written over `found`; what is in `spare` afterwards is of no use. For many queries these two keep their memory.
+    /// The same, written over `found`; what is in `spare` afterwards is of no use, and after an error both are of none. For many
+    /// queries these two keep their memory.
     pub fn meeting_into(
         &self,
         probe: &Probe,

@@ -11,3 +11,4 @@ pub mod Touching
 pub mod Upward
 pub mod Wide
 pub mod Within
+pub mod Under

@@ -1,7 +1,7 @@
 ghost use Rattle.cov_types.specs.Range.{IsSegInRange};
 ghost use Rattle.box_tree.specs.Probe.{IsProbeInRange};
 
-use crate::{BoxTree, Probe, Rect, curve, narrow_into};
+use crate::{BoxTree, Probe, Rect, Search, curve, narrow_into};
 use cov_types::{Coord, NoMemory, Seg};
 use std::alloc::Global;
 use std::process::Abort;
@@ -71,6 +71,40 @@ fn a_segment_reaches_what_is_near_its_line(rt: HostRuntime) {
     assert!(rt; !rising.reaches(Rect::spanning(point(1, 5), point(3, 8))));
     assert!(rt; !rising.reaches(Rect::spanning(point(5, 1), point(8, 3))));
     assert!(rt; !rising.reaches(Rect::spanning(point(11, 0), point(12, 20))));
+}
+
+/// A search that counts the boxes with points at or past x.
+#[derive(Drop)]
+struct PastX {
+    x: i32,
+    count: usize,
+}
+
+impl Search for PastX {
+    ghost is_among = { λ s boxes. Unit {0} };
+
+    ghost is_settled = { λ s k. Unit {0} };
+
+    fn may_matter(&self, hull: Rect) -> bool {
+        self.x <= hull.hi.x
+    }
+
+    fn visit(&mut self, _k: usize) {
+        self.count = self.count.saturating_add(1);
+    }
+}
+
+#[test]
+fn a_search_is_shown_what_may_matter(rt: HostRuntime) -> Result<(), Fail> {
+    let alloc = rt.alloc();
+    let list = scattered(alloc, 100)?;
+    let tree = BoxTree::build(alloc, scattered(alloc, 100)?)?;
+    let mut search = PastX { x: 40, count: 0 };
+    tree.search(&mut search);
+    let count = list.iter().filter(|b| 40 <= b.hi.x).count();
+    assert!(rt; 0 < count && count < 100);
+    assert_eq!(rt; search.count, count);
+    Ok(())
 }
 
 #[test]

@@ -1,4 +1,4 @@
-ghost use Rattle.std.specs.Prelude.{◌≡◌, ◌<◌, ◌*◌, ◌++◌, All, IfOk, OnOk, List, drop, flat_map, length, take};
+ghost use Rattle.std.specs.Prelude.{◌≡◌, ℕ, ◌<◌, ◌*◌, ◌++◌, All, IfOk, OnOk, List, drop, flat_map, length, take};
 ghost use Rattle.box_tree.specs.Places.{places};
 ghost use Rattle.box_tree.specs.Probe.{IsProbeInRange, reaches};
 
@@ -6,6 +6,7 @@ use crate::hulls::{hulls_of, split_block};
 use crate::probe::Probe;
 use crate::rect::Rect;
 use crate::scan::add_places;
+use crate::search::{Search, search_under};
 use cov_types::NoMemory;
 use std::alloc::Global;
 use std::marker::Model;
@@ -93,6 +94,18 @@ impl BoxTree {
             swap(found, spare);
         }
         Ok(())
+    }
+
+    /// Settles all boxes: it shows a search those whose hulls may matter when their turn comes, level by level.
+    pub fn search<S: Search>(&self, search: &mut S)
+        requires { S.is_among search.old self.now }
+        ensures among { S.is_among search.new self.now }
+        ensures settled { (k : ℕ) → k < length self.now → S.is_settled search.new k }
+    {
+        let top = self.levels.len() - 1;
+        for place in 0..self.levels[top].len() {
+            search_under(self.levels.as_slice(), top, place, search);
+        }
     }
 }
 

@@ -24,7 +24,7 @@ module _ {X : Type 0} (same : X → X → Bool) (decides : (a b : X) → Decides
   same_flips : (a b : X) → same a b ≡ same b a
   same_flips a b = both_ways (same a b) (same b a) (λ h. (decides b a).1 (sym ((decides a b).0 h))) (λ h. (decides a b).1 (sym ((decides b a).0 h)))
 
-  same_equivalence : IsEquivalence same
+  pub same_equivalence : IsEquivalence same
   same_equivalence = record { refl = λ a. (decides a a).1 refl; symm = same_flips; congr = λ a b c h. ap (λ x. same x c) ((decides a b).0 h) }
 
   -- lists of which no two elements are equal, by a list of tests and by facts

@@ -1,24 +1,27 @@
--- Crossed pixels, and what is hot.
+-- Crossed pixels: which pairs are tried, and what the list of centres gains of them.
 use mathlib.Core.List.{[], ◌∷◌}
-use Rattle.std.proofs.Common.{◌≡◌, ◌⊎◌, inl, inr, refl, sym, ◌∙◌, ap, subst, ℕ, ◌+◌, ◌<◌, ◌≤◌, ◌↔◌, List, ◌++◌, length, get_or, take, IsTrue, false, Option, Some, None, is_some, unwrap_or, arith}
-use Rattle.std.specs.Prelude.{Contains, Any}
-use Rattle.std.proofs.lemmas.Bool.{cases_order, false≢true}
-use Rattle.std.proofs.lemmas.List.{take_more, take_all, take_at, take-append-le, get_or_append_left, get_or-take, get_or_default, length-take-le, length-append, length-take}
-use Rattle.std.proofs.Math.Seq.{get_or-append_seam}
+use Rattle.std.proofs.Common.{◌≡◌, ◌⊎◌, inl, inr, refl, sym, ◌∙◌, ap, subst, ℕ, ◌+◌, ◌*◌, ◌/◌, ◌%◌, ◌<◌, ◌≤◌, ◌↔◌, List, length, get_or, map, IsTrue, Bool, false, true, Option, Some, None, is_some, unwrap_or, slice_get, arith}
+use Rattle.std.specs.Prelude.{All, Contains, Any, min}
+use Rattle.std.proofs.lemmas.Grind.{div_ceil_times}
+use Rattle.std.specs.Option.{option_map}
+use Rattle.std.proofs.lemmas.Bool.{cases_lt, false≢true}
+use Rattle.std.proofs.lemmas.List.Elements.{Contains-get_or}
+use Rattle.std.proofs.lemmas.Option.{slice_get-get_or, slice_get_within, slice_get_read, get_or_from_slice_get, slice_get-map}
 use Rattle.cov_types.specs.declared.coord.Coord.{Coord}
 use Rattle.cov_types.specs.declared.seg.Seg.{Seg}
 use Rattle.plane.specs.declared.contact.Contact.TheVariants.{Bad}
 use Rattle.plane.specs.declared.contact.Badness.TheVariants.{Cross}
-use Rattle.plane.specs.Point.{Point, at_coord}
-use Rattle.plane.specs.Segment.{IsEnd}
+use Rattle.plane.specs.Point.{Point}
 use Rattle.plane.specs.Contact.{IsContact}
-use Rattle.plane.specs.Snapping.{IsInPixel, IsHot, IsCrossingOf}
-use Rattle.plane.proofs.Points.{same_point-refl}
-use Rattle.plane.proofs.Contacts.{two_with_itself, one_is_not_two}
+use Rattle.plane.specs.Snapping.{IsInPixel}
 use Rattle.grid_pred.specs.Crossing.{IsCrossing}
-use Rattle.rounding_laws.proofs.Near.{pixel_same, pixel_own, pixel_unique}
-use Rattle.hot_pixel.specs.Centres.{Gains, HasEnd, CrossIn, IsCrossed}
-use Rattle.hot_pixel.proofs.Gains.{contains_none, gains_then, gains_nothing}
+use Rattle.box_tree.specs.Rect.{is_touching, box_of_segment}
+use Rattle.box_tree.specs.declared.rect.Rect.{Rect}
+use Rattle.box_tree.proofs.CommonPoint.{touch-common_of_segments}
+use Rattle.rounding_laws.proofs.Near.{pixel_same}
+use Rattle.hot_pixel.specs.Centres.{Gains, CrossIn, CrossAt, HasCrossing}
+use Rattle.hot_pixel.specs.Near.{AreNear}
+use Rattle.hot_pixel.proofs.Gains.{gains_then, gains_nothing, gains_alike}
 
 -- ---- the pixel in which two segments cross
 
@@ -38,129 +41,105 @@ crossing_in_pixel s t p q cross alone r = (there, back)
     back : CrossIn s t r → Some q ≡ Some r
     back (o, (other, inside)) = ap Some (sym ((alone r).0 (pixel_same o p r (cross.only.only o other.only.common) inside)))
 
--- ---- pairs of segments, one more segment at a time
+-- segments that cross have boxes that touch
+pub crossing_touch : (s t : Seg) (r : Coord) → CrossIn s t r → is_touching (box_of_segment s) (box_of_segment t) ≡ true
+crossing_touch s t r (p, (cross, inside)) = touch-common_of_segments s t p cross.only.common.0 cross.only.common.1
 
--- s and t change places
-cross_exchanged : (s t : Seg) (p : Point) → IsCrossing s t p → IsCrossing t s p
-cross_exchanged s t p h = record {
-  only = record { common = (h.only.common.1, h.only.common.0); only = λ q c. h.only.only q (c.1, c.0) };
-  inside = h.inside_other;
-  inside_other = h.inside;
-}
+-- the box of the segment at a place
+pub box_at : (segs : List Seg) (boxes : List Rect) (j : ℕ) (s : Seg) → boxes ≡ map box_of_segment segs → slice_get segs j ≡ Some s → slice_get boxes j ≡ Some (box_of_segment s)
+box_at segs boxes j s are at = ap (λ (bs : List Rect). slice_get bs j) are ∙ slice_get-map box_of_segment segs j ∙ ap (option_map box_of_segment) at
 
--- one more segment at the end
-crossed_push : (segs : List Seg) (s : Seg) (r : Coord) → IsCrossed (segs ++ s ∷ []) r ↔ (IsCrossed segs r ⊎ Any (λ t. CrossIn s t r) segs)
-crossed_push segs s r = (there, back)
+-- ---- the segments at two places
+
+-- s is at i and t at k, which is before i
+module _ (segs : List Seg) (i k : ℕ) (s t : Seg) (earlier : k < i) (within : i < length segs) (is_s : s ≡ get_or segs i s) (is_t : t ≡ get_or segs k t) where
+  cross_at : (r : Coord) → CrossIn s t r ↔ CrossAt segs i k r
+  cross_at r = (there, back)
+    where
+      there : CrossIn s t r → CrossAt segs i k r
+      there cross = record { earlier = earlier; s = s; t = t; at_s = slice_get_read segs (length segs) i s refl within is_s; at_t = slice_get_read segs (length segs) k t refl (omega arith) is_t; cross = cross }
+
+      back : CrossAt segs i k r → CrossIn s t r
+      back h =
+          subst (λ (u : Seg). CrossIn u t r) (sym (is_s ∙ get_or_from_slice_get segs i h.s s h.at_s))
+          (subst (λ (u : Seg). CrossIn h.s u r) (sym (is_t ∙ get_or_from_slice_get segs k h.t t h.at_t)) h.cross)
+
+  pub found_at : (o : Option Coord) → ((r : Coord) → (o ≡ Some r) ↔ CrossIn s t r) → (r : Coord) → (o ≡ Some r) ↔ CrossAt segs i k r
+  found_at o found r = (λ h. (cross_at r).0 ((found r).0 h), λ h. (found r).1 ((cross_at r).1 h))
+
+nothing_found : {X : Type 0} (P : Type 0) (x : X) → ¬ P → (None ≡ Some x) ↔ P
+nothing_found P x never = (λ h. absurd (false≢true (ap is_some h)), λ p. absurd (never p))
+
+-- no crossing where the boxes do not touch
+pub none_apart : (segs : List Seg) (boxes : List Rect) (i k : ℕ) (a b : Rect) (touch : Bool) → boxes ≡ map box_of_segment segs → a ≡ get_or boxes i a → b ≡ get_or boxes k b → touch ≡ is_touching a b → touch ≡ false
+    → (r : Coord) → (None ≡ Some r) ↔ CrossAt segs i k r
+none_apart segs boxes i k a b touch are is_a is_b told apart r = nothing_found (CrossAt segs i k r) r never
   where
-    there : IsCrossed (segs ++ s ∷ []) r → IsCrossed segs r ⊎ Any (λ t. CrossIn s t r) segs
-    there (k, u, within, is, any) =
-        let longer = length-append segs (s ∷ []) in
-        elim (cases_order k (length segs)) [
-          | inl at_end ↦ inr (
-              let same : u ≡ s = sym is ∙ ap (λ n. get_or (segs ++ s ∷ []) n u) at_end ∙ get_or-append_seam segs s [] u in
-              let before : take k (segs ++ s ∷ []) ≡ segs = take_at segs (s ∷ []) k (sym at_end) in
-              subst (λ (v : Seg). Any (λ t. CrossIn v t r) segs) same (subst (λ (ts : List Seg). Any (λ t. CrossIn u t r) ts) before any))
-          | inr apart ↦ elim apart [
-            | inl below ↦ inl (
-              k,
-              u,
-              below,
-              sym (get_or_append_left segs (s ∷ []) u k below) ∙ is,
-              subst (λ (ts : List Seg). Any (λ t. CrossIn u t r) ts) (take-append-le k segs (s ∷ []) (omega arith)) any,
-            )
-            | inr above ↦ absurd (omega arith)
-          ]
+    read_at : (j : ℕ) (c : Rect) (s : Seg) → c ≡ get_or boxes j c → slice_get segs j ≡ Some s → c ≡ box_of_segment s
+    read_at j c s is at = is ∙ get_or_from_slice_get boxes j (box_of_segment s) c (box_at segs boxes j s are at)
+
+    never : ¬ CrossAt segs i k r
+    never h = false≢true (sym apart ∙ told ∙ (λ j. is_touching (read_at i a h.s is_a h.at_s j) (read_at k b h.t is_b h.at_t j)) ∙ crossing_touch h.s h.t r h.cross)
+
+-- and none with one that does not stand before
+pub none_before : (segs : List Seg) (i k : ℕ) → i ≤ k → (r : Coord) → (None ≡ Some r) ↔ CrossAt segs i k r
+none_before segs i k late r = nothing_found (CrossAt segs i k r) r (λ h. absurd (omega (arith, h.earlier)))
+
+-- ---- the crossings of one segment, among those near
+
+pub crossed_near : (segs : List Seg) (boxes : List Rect) (i : ℕ) (near : List ℕ) (start end : List Coord) → boxes ≡ map box_of_segment segs → AreNear boxes i (i + 1) near
+    → Gains start end (λ r. Any (λ k. CrossAt segs i k r) near) → Gains start end (HasCrossing segs i (i + 1))
+crossed_near segs boxes i near start end are all = gains_alike (λ r. Any (λ k. CrossAt segs i k r) near) (HasCrossing segs i (i + 1)) start end (λ r. (there r, back r))
+  where
+    there : (r : Coord) → Any (λ k. CrossAt segs i k r) near → HasCrossing segs i (i + 1) r
+    there r (j, k, within, is, cross) = record { i = i; k = k; from = omega arith; to = omega arith; cross = cross }
+
+    back : (r : Coord) → HasCrossing segs i (i + 1) r → Any (λ k. CrossAt segs i k r) near
+    back r h =
+        let place : h.i ≡ i = omega (arith, h.from, h.to) in
+        let cross : CrossAt segs i h.k r = subst (λ n. CrossAt segs n h.k r) place h.cross in
+        let has = all.has i h.k (box_of_segment cross.s) (box_of_segment cross.t) (omega arith) (omega arith) (box_at segs boxes i cross.s are cross.at_s) (box_at segs boxes h.k cross.t are cross.at_t) (crossing_touch cross.s cross.t r cross.cross) in
+        (has.0, h.k, has.1, has.2, cross)
+
+-- ---- one range of segments after another
+
+pub crossed_none : (segs : List Seg) (i : ℕ) (xs : List Coord) → Gains xs xs (HasCrossing segs i i)
+crossed_none segs i xs = gains_nothing (HasCrossing segs i i) xs (λ r h. absurd (omega (arith, h.from, h.to)))
+
+pub crossed_then : (segs : List Seg) (a b c : ℕ) (start middle end : List Coord) → a ≤ b → b ≤ c → Gains start middle (HasCrossing segs a b) → Gains middle end (HasCrossing segs b c) → Gains start end (HasCrossing segs a c)
+crossed_then segs a b c start middle end first second one two = gains_then (HasCrossing segs a b) (HasCrossing segs b c) (HasCrossing segs a c) start middle end one two (λ r. (there r, back r))
+  where
+    there : (r : Coord) → HasCrossing segs a c r → HasCrossing segs a b r ⊎ HasCrossing segs b c r
+    there r h =
+        elim (cases_lt h.i b) [
+          | inl earlier ↦ inl (record { i = h.i; k = h.k; from = h.from; to = earlier; cross = h.cross })
+          | inr later ↦ inr (record { i = h.i; k = h.k; from = later; to = h.to; cross = h.cross })
         ]
 
-    back : IsCrossed segs r ⊎ Any (λ t. CrossIn s t r) segs → IsCrossed (segs ++ s ∷ []) r
-    back (inl (k, u, within, is, any)) =
-        let longer = length-append segs (s ∷ []) in (
-          k,
-          u,
-          omega arith,
-          get_or_append_left segs (s ∷ []) u k within ∙ is,
-          subst (λ (ts : List Seg). Any (λ t. CrossIn u t r) ts) (sym (take-append-le k segs (s ∷ []) (omega arith))) any,
-        )
-    back (inr any) =
-        let longer = length-append segs (s ∷ []) in
-        (length segs, s, omega arith, get_or-append_seam segs s [] s, subst (λ (ts : List Seg). Any (λ t. CrossIn s t r) ts) (sym (take_at segs (s ∷ []) (length segs) refl)) any)
+    back : (r : Coord) → HasCrossing segs a b r ⊎ HasCrossing segs b c r → HasCrossing segs a c r
+    back r (inl h) = record { i = h.i; k = h.k; from = h.from; to = omega (arith, h.to); cross = h.cross }
+    back r (inr h) = record { i = h.i; k = h.k; from = omega (arith, h.from); to = h.to; cross = h.cross }
 
-pub crossed_start : (xs : List Coord) → Gains xs xs (IsCrossed [])
-crossed_start xs = gains_nothing (IsCrossed []) xs (λ r h. contains_none h.1 (h.0, h.2, h.3))
+-- up to one place or another that is the same
+pub crossed_past : (segs : List Seg) (first n m : ℕ) (start end : List Coord) → n ≡ m → Gains start end (HasCrossing segs first n) → Gains start end (HasCrossing segs first m)
+crossed_past segs first n m start end same h = subst (λ k. Gains start end (HasCrossing segs first k)) same h
 
--- s is the segment at i
-pub crossed_more : (start middle end : List Coord) (segs : List Seg) (i : ℕ) (s : Seg) → i < length segs → s ≡ get_or segs i s → Gains start middle (IsCrossed (take i segs))
-    → Gains middle end (λ r. Any (λ t. CrossIn s t r) (take i segs)) → Gains start end (IsCrossed (take (i + 1) segs))
-crossed_more start middle end segs i s within is before now =
-    let longer : take i segs ++ s ∷ [] ≡ take (i + 1) segs = ap (λ (u : Seg). take i segs ++ u ∷ []) is ∙ sym (take_more segs i s within) in
-    subst (λ (ts : List Seg). Gains start end (IsCrossed ts)) longer
-    (gains_then (IsCrossed (take i segs)) (λ r. Any (λ t. CrossIn s t r) (take i segs)) (IsCrossed (take i segs ++ s ∷ [])) start middle end before now (crossed_push (take i segs) s))
+-- ---- blocks of eight
 
-pub crossed_all : (start end : List Coord) (segs : List Seg) (i : ℕ) → length segs ≤ i → Gains start end (IsCrossed (take i segs)) → Gains start end (IsCrossed segs)
-crossed_all start end segs i past h = subst (λ (ts : List Seg). Gains start end (IsCrossed ts)) (take_all i segs past) h
+-- the next block ends where the next one begins, or at the end of the list
+next_block : (n block past : ℕ) → past ≡ min n (block * 8 + 8) → past ≡ min n ((block + 1) * 8)
+next_block n block past e = omega arith
 
--- ---- what is hot
+module _ (segs : List Seg) (block past : ℕ) (start middle end : List Coord) (ends : past ≡ min (length segs) (block * 8 + 8)) (inside : block * 8 < length segs) where
+  pub block_more : Gains start middle (HasCrossing segs 0 (min (length segs) (block * 8))) → Gains middle end (HasCrossing segs (block * 8) past) → Gains start end (HasCrossing segs 0 (min (length segs) ((block + 1) * 8)))
+  block_more before now =
+      crossed_past segs 0 past (min (length segs) ((block + 1) * 8)) start end (next_block (length segs) block past ends)
+      (crossed_then segs 0 (block * 8) past start middle end (omega arith) (omega arith) (crossed_past segs 0 (min (length segs) (block * 8)) (block * 8) start middle (omega arith) before) now)
 
--- an end of a segment is in the pixel of that end alone
-end_in : (s : Seg) (p : Point) (r : Coord) → IsEnd s p → IsInPixel p r → HasEnd s r
-end_in s p r (inl same) inside = inl (pixel_unique (at_coord s.lo) s.lo r (pixel_own s.lo) (pixel_same p (at_coord s.lo) r same inside))
-end_in s p r (inr same) inside = inr (pixel_unique (at_coord s.hi) s.hi r (pixel_own s.hi) (pixel_same p (at_coord s.hi) r same inside))
+-- all blocks are the list
+pub blocks_all : (segs : List Seg) (blocks done : ℕ) (start end : List Coord) → blocks ≡ length segs / 8 + min 1 (length segs % 8) → blocks ≤ done → Gains start end (HasCrossing segs 0 (min (length segs) (done * 8))) → Gains start end (HasCrossing segs 0 (length segs))
+blocks_all segs blocks done start end many past h = crossed_past segs 0 (min (length segs) (done * 8)) (length segs) start end (omega (arith, div_ceil_times (length segs) 8 (omega arith))) h
 
-end_hot : (segs : List Seg) (s : Seg) (c r : Coord) → Contains segs s → IsEnd s (at_coord c) → c ≡ r → IsHot segs r
-end_hot segs s c r has is_end same = subst (IsHot segs) same (at_coord c, (pixel_own c, inl (s, (has, is_end))))
-
-ends_hot : (segs : List Seg) (r : Coord) → Any (λ s. HasEnd s r) segs → IsHot segs r
-ends_hot segs r (k, s, within, is, inl lo) = end_hot segs s s.lo r (k, within, is) (inl (same_point-refl (at_coord s.lo))) lo
-ends_hot segs r (k, s, within, is, inr hi) = end_hot segs s s.hi r (k, within, is) (inr (same_point-refl (at_coord s.hi))) hi
-
--- an element of the first k stands before k
-taken : (segs : List Seg) (k j : ℕ) (t : Seg) → j < length (take k segs) → get_or (take k segs) j t ≡ t → (j < k) × (j < length segs) × (get_or segs j t ≡ t)
-taken segs k j t within is =
-    let short = length-take k segs in
-    let before : j < k = omega arith in
-    (before, omega arith, sym (get_or-take k segs j t before) ∙ is)
-
-crossed_hot : (segs : List Seg) (r : Coord) → IsCrossed segs r → IsHot segs r
-crossed_hot segs r (k, s, within, is, (j, t, j_within, j_is, (p, (cross, inside)))) =
-    let other = taken segs k j t j_within j_is in
-    (p, (inside, inr (s, (t, ((k, within, is), (j, other.1, other.2), cross.only, cross.inside, cross.inside_other)))))
-
--- two segments that cross do not stand in one place, and the later of them is tried with the earlier
-later_crossed : (segs : List Seg) (s t : Seg) (k j : ℕ) (p : Point) (r : Coord) → k < length segs → get_or segs k s ≡ s → j < k → get_or segs j t ≡ t → IsCrossing s t p → IsInPixel p r → IsCrossed segs r
-later_crossed segs s t k j p r within is before j_is cross inside =
-    (k, s, within, is, (j, t, (let short = length-take-le k segs (omega arith) in omega arith), get_or-take k segs j t before ∙ j_is, (p, (cross, inside))))
-
-crossing_in : (segs : List Seg) (p : Point) (r : Coord) → IsCrossingOf segs p → IsInPixel p r → IsCrossed segs r
-crossing_in segs p r (s, (t, ((k, k_within, k_is), (j, j_within, j_is), only, inside, inside_other))) in_pixel =
-    let cross : IsCrossing s t p = record { only = only; inside = inside; inside_other = inside_other } in
-    elim (cases_order j k) [
-      | inl same ↦ absurd (one_is_not_two s t p only (two_with_itself s t (sym k_is ∙ get_or_default segs k s t k_within ∙ ap (λ n. get_or segs n t) (sym same) ∙ j_is)))
-      | inr apart ↦ elim apart [
-        | inl below ↦ later_crossed segs s t k j p r k_within k_is below j_is cross in_pixel
-        | inr above ↦ later_crossed segs t s j k p r j_within j_is above k_is (cross_exchanged s t p cross) in_pixel
-      ]
-    ]
-
--- a pixel is hot where an end is in it, or a crossing
-pub hot-is : (segs : List Seg) (r : Coord) → IsHot segs r ↔ (Any (λ s. HasEnd s r) segs ⊎ IsCrossed segs r)
-hot-is segs r = (there, back)
-  where
-    there : IsHot segs r → Any (λ s. HasEnd s r) segs ⊎ IsCrossed segs r
-    there (p, (inside, inl (s, (has, is_end)))) = inl (has.0, s, has.1, has.2, end_in s p r is_end inside)
-    there (p, (inside, inr crossing)) = inr (crossing_in segs p r crossing inside)
-
-    back : Any (λ s. HasEnd s r) segs ⊎ IsCrossed segs r → IsHot segs r
-    back (inl ends) = ends_hot segs r ends
-    back (inr crossed) = crossed_hot segs r crossed
-
--- a list that gained the ends and then the crossings, in another order and without repeats
-pub hot_contains : (segs : List Seg) (start ends all centres : List Coord) → start ≡ [] → Gains start ends (λ r. Any (λ s. HasEnd s r) segs) → Gains ends all (IsCrossed segs)
-    → ((r : Coord) → Contains centres r ↔ Contains all r) → (r : Coord) → Contains centres r ↔ IsHot segs r
-hot_contains segs start ends all centres empty first second same r = (λ h. there ((both r).0 ((same r).0 h)), λ hot. (same r).1 ((both r).1 (inr hot)))
-  where
-    both : Gains start all (IsHot segs)
-    both = gains_then (λ r. Any (λ s. HasEnd s r) segs) (IsCrossed segs) (IsHot segs) start ends all first second (hot-is segs)
-
-    there : Contains start r ⊎ IsHot segs r → IsHot segs r
-    there (inl none) = absurd (contains_none r (subst (λ (xs : List Coord). Contains xs r) empty none))
-    there (inr hot) = hot
+-- and each block has a segment
+pub block_inside : (n blocks block : ℕ) → blocks ≡ n / 8 + min 1 (n % 8) → block < blocks → block * 8 < n
+block_inside n blocks block many less = omega (arith, div_ceil_times n 8 (omega arith))

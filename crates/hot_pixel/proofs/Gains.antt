@@ -86,18 +86,41 @@ gains_found P xs ys y e found =
 pub gains_not_found : (P : Coord → Type 0) (xs ys : List Coord) → ys ≡ xs → ((r : Coord) → ¬ P r) → Gains xs ys P
 gains_not_found P xs ys e none = subst (λ (zs : List Coord). Gains xs zs P) (sym e) (gains_nothing P xs none)
 
--- ---- a loop over segments, of which each adds the centres that are its own
+-- ---- a loop over a list, of which each element adds the centres that are its own
 
-module _ (P : Seg → Coord → Type 0) where
-  pub gains_start : (xs : List Coord) → Gains xs xs (λ r. Any (λ s. P s r) [])
-  gains_start xs = gains_nothing (λ r. Any (λ s. P s r) []) xs (λ r any. contains_none any.1 (any.0, any.2, any.3))
+module _ {X : Type 0} (P : X → Coord → Type 0) where
+  pub gains_start : (xs : List Coord) → Gains xs xs (λ r. Any (λ x. P x r) [])
+  gains_start xs = gains_nothing (λ r. Any (λ x. P x r) []) xs (λ r any. contains_none any.1 (any.0, any.2, any.3))
 
-  -- x is the segment at i
-  pub gains_more : (start middle end : List Coord) (segs : List Seg) (i : ℕ) (x : Seg) → i < length segs → x ≡ get_or segs i x
-      → Gains start middle (λ r. Any (λ s. P s r) (take i segs)) → Gains middle end (P x) → Gains start end (λ r. Any (λ s. P s r) (take (i + 1) segs))
-  gains_more start middle end segs i x within is before now =
-      gains_then (λ r. Any (λ s. P s r) (take i segs)) (P x) (λ r. Any (λ s. P s r) (take (i + 1) segs)) start middle end before now
-      (λ r. subst (λ (s : Seg). Any (λ u. P u r) (take (i + 1) segs) ↔ (Any (λ u. P u r) (take i segs) ⊎ P s r)) (sym is) (any_more (λ s. P s r) segs i x within))
+  -- x is the element at i
+  pub gains_more : (start middle end : List Coord) (xs : List X) (i : ℕ) (x : X) → i < length xs → x ≡ get_or xs i x
+      → Gains start middle (λ r. Any (λ y. P y r) (take i xs)) → Gains middle end (P x) → Gains start end (λ r. Any (λ y. P y r) (take (i + 1) xs))
+  gains_more start middle end xs i x within is before now =
+      gains_then (λ r. Any (λ y. P y r) (take i xs)) (P x) (λ r. Any (λ y. P y r) (take (i + 1) xs)) start middle end before now
+      (λ r. subst (λ z. Any (λ y. P y r) (take (i + 1) xs) ↔ (Any (λ y. P y r) (take i xs) ⊎ P z r)) (sym is) (any_more (λ y. P y r) xs i x within))
 
-  pub gains_all : (start end : List Coord) (segs : List Seg) (i : ℕ) → length segs ≤ i → Gains start end (λ r. Any (λ s. P s r) (take i segs)) → Gains start end (λ r. Any (λ s. P s r) segs)
-  gains_all start end segs i past h = subst (λ (ys : List Seg). Gains start end (λ r. Any (λ s. P s r) ys)) (take_all i segs past) h
+  pub gains_all : (start end : List Coord) (xs : List X) (i : ℕ) → length xs ≤ i → Gains start end (λ r. Any (λ x. P x r) (take i xs)) → Gains start end (λ r. Any (λ x. P x r) xs)
+  gains_all start end xs i past h = subst (λ ys. Gains start end (λ r. Any (λ x. P x r) ys)) (take_all i xs past) h
+
+-- what a list gains from the start is all that it has
+pub gains_from_none : (P : Coord → Type 0) (start end : List Coord) → start ≡ [] → Gains start end P → (r : Coord) → Contains end r ↔ P r
+gains_from_none P start end empty gains r = (there, λ p. (gains r).1 (inr p))
+  where
+    of_both : Contains start r ⊎ P r → P r
+    of_both (inl none) = absurd (contains_none r (subst (λ (xs : List Coord). Contains xs r) empty none))
+    of_both (inr p) = p
+
+    there : Contains end r → P r
+    there has = of_both ((gains r).0 has)
+
+-- the same of facts that hold of the same centres
+pub gains_alike : (P Q : Coord → Type 0) (start end : List Coord) → ((r : Coord) → P r ↔ Q r) → Gains start end P → Gains start end Q
+gains_alike P Q start end alike gains r = (λ has. there ((gains r).0 has), λ h. (gains r).1 (back h))
+  where
+    there : Contains start r ⊎ P r → Contains start r ⊎ Q r
+    there (inl s) = inl s
+    there (inr p) = inr ((alike r).0 p)
+
+    back : Contains start r ⊎ Q r → Contains start r ⊎ P r
+    back (inl s) = inl s
+    back (inr q) = inr ((alike r).1 q)

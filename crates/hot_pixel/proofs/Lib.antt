@@ -2,7 +2,10 @@ mod Beside
 mod Rounded
 mod Gains
 mod Crossed
+mod Hot
+mod Keyed
+mod NearBoxes
 pub mod Ascending
 mod Along
-mod MetCentres
-mod Chain
+mod MetPixels
+mod InColumns

@@ -1,16 +1,16 @@
 -- The centres of hot pixels, and where they come from.
-use Rattle.std.specs.Prelude.{◌≡◌, ℕ, ◌<◌, ◌⊎◌, ◌↔◌, List, length, take, slice_index_or, Contains, Any, AllPairs, IsTrue}
-use Rattle.cov_types.specs.Coord.{is_before}
+use Rattle.std.specs.Prelude.{◌≡◌, ℕ, ◌<◌, ◌≤◌, ◌⊎◌, ◌↔◌, List, length, slice_get, Some, All, Any, Contains}
+use Rattle.cov_types.specs.Range.{IsInRange}
 use Rattle.cov_types.specs.declared.coord.Coord.{Coord}
 use Rattle.cov_types.specs.declared.seg.Seg.{Seg}
 use Rattle.plane.specs.Point.{Point}
-use Rattle.plane.specs.Snapping.{IsInPixel, IsHot}
+use Rattle.plane.specs.Snapping.{IsInPixel, IsHot, MeetsPixel}
 use Rattle.grid_pred.specs.Crossing.{IsCrossing}
 
--- the centres are those of the hot pixels, each once, ascending
+-- the centres are those of the hot pixels
 pub record AreHotCentres (segs : List Seg) (centres : List Coord) : Type 0 where
   pub exact : (r : Coord) → Contains centres r ↔ IsHot segs r
-  pub ascending : AllPairs (λ a b. IsTrue (is_before a b)) centres
+  pub in_range : All IsInRange centres
 
 -- the later list has what the earlier has, and the centres of which P holds
 abbrev pub Gains : List Coord → List Coord → (Coord → Type 0) → Type 0
@@ -24,6 +24,28 @@ HasEnd s r = (s.lo ≡ r) ⊎ (s.hi ≡ r)
 abbrev pub CrossIn : Seg → Seg → Coord → Type 0
 CrossIn s t r = (p : Point) × (IsCrossing s t p × IsInPixel p r)
 
--- a segment of the list crosses one that stands before it, in the pixel of r
-abbrev pub IsCrossed : List Seg → Coord → Type 0
-IsCrossed segs r = (k : ℕ) × (s : Seg) × (k < length segs) × (slice_index_or segs k s ≡ s) × Any (λ t. CrossIn s t r) (take k segs)
+-- the segment at i crosses that at k, which stands before it, in the pixel of r
+pub record CrossAt (segs : List Seg) (i k : ℕ) (r : Coord) : Type 0 where
+  pub earlier : k < i
+  pub s : Seg
+  pub t : Seg
+  pub at_s : slice_get segs i ≡ Some s
+  pub at_t : slice_get segs k ≡ Some t
+  pub cross : CrossIn s t r
+
+-- a segment at a place from first to before past crosses one that stands before it, in the pixel of r
+pub record HasCrossing (segs : List Seg) (first past : ℕ) (r : Coord) : Type 0 where
+  pub i : ℕ
+  pub k : ℕ
+  pub from : first ≤ i
+  pub to : i < past
+  pub cross : CrossAt segs i k r
+
+-- the centre at k is r, and the segment meets its pixel
+pub record IsMetAt (s : Seg) (centres : List Coord) (r : Coord) (k : ℕ) : Type 0 where
+  pub at : slice_get centres k ≡ Some r
+  pub met : MeetsPixel s r
+
+-- of the centres with the numbers near, those whose pixels the segment meets
+abbrev pub AreMet : Seg → List Coord → List ℕ → List Coord → Type 0
+AreMet s centres near met = (r : Coord) → Contains met r ↔ Any (IsMetAt s centres r) near

@@ -1,12 +1,14 @@
-ghost use Rattle.std.specs.Prelude.{◌≡◌, All, AllPairs, Contains, IfOk, IsTrue, ◌↔◌};
-ghost use Rattle.cov_types.specs.Coord.{is_before};
-ghost use Rattle.cov_types.specs.Range.{IsSegInRange};
-ghost use Rattle.plane.specs.Snapping.{IsChain, MeetsPixel};
+ghost use Rattle.std.specs.Prelude.{◌≡◌, ◌<◌, All, AllPairs, Contains, IfOk, length, map, ◌↔◌};
+ghost use Rattle.box_tree.specs.Rect.{box_of_point};
+ghost use Rattle.cov_types.specs.Range.{IsInRange, IsSegInRange};
+ghost use Rattle.plane.specs.Snapping.{IsChain};
 ghost use Rattle.rounding_laws.specs.Formulas.{ComesFirst};
+ghost use Rattle.hot_pixel.specs.Centres.{AreMet};
 ghost use Rattle.hot_pixel.specs.HotSet.{segs_of};
 
 use crate::centres::hot_centres;
 use crate::passing::meets;
+use box_tree::{BoxTree, Probe, Rect};
 use cov_types::{Coord, EdgeUse, NoMemory, Seg};
 use std::alloc::Global;
 use std::cmp::Reverse;
@@ -16,12 +18,15 @@ use std::marker::Model;
 #[derive(Drop)]
 pub struct HotSet {
     segs: Vec<Seg>,
-    // The centres of the hot pixels, each once, ascending.
+    // The centres of the hot pixels, near ones near in the list.
     centres: Vec<Coord>,
+    // A tree over the centres.
+    tree: BoxTree,
 }
 
 impl Model for HotSet {
-    ghost use Rattle.std.specs.Prelude.{List};
+    ghost use Rattle.std.specs.Prelude.{◌≡◌, List, map};
+    ghost use Rattle.box_tree.specs.Rect.{box_of_point};
     ghost use Rattle.cov_types.specs.declared.seg.Seg.{Seg};
     ghost use Rattle.hot_pixel.specs.Centres.{AreHotCentres};
 
@@ -29,26 +34,39 @@ impl Model for HotSet {
 
     ghost view = { λ hot. hot.segs.items };
 
-    ghost invariant = { λ hot. AreHotCentres hot.segs.items hot.centres.items };
+    ghost invariant = { λ hot. AreHotCentres hot.segs.items hot.centres.items × (hot.tree ≡ map box_of_point hot.centres.items) };
 }
 
 impl HotSet {
-    /// The hot pixels of the segments of these uses.
+    /// The hot pixels of the segments of these uses. Takes n log n time in the number of uses and crossings, and besides the pairs of
+    /// distinct segments whose boxes touch; memory in proportion to the uses and crossings.
     pub fn build(alloc: Global, list: &[EdgeUse]) -> Result<HotSet, NoMemory>
         requires { All (λ u. IsSegInRange u.seg) list.now }
         ensures { IfOk result (λ hot. hot ≡ segs_of list.now) }
     {
         let segs = segments(alloc, list)?;
         let centres = hot_centres(alloc, segs.as_slice())?;
-        Ok(HotSet { segs, centres })
+        let tree = BoxTree::build(alloc, boxes_of(alloc, centres.as_slice())?)?;
+        Ok(HotSet {
+            segs,
+            centres,
+            tree,
+        })
     }
 
-    /// The chain of a segment, listed or not: the centres of the hot pixels that it meets, in the order from lo to hi.
+    /// The chain of a segment, listed or not: the centres of the hot pixels that it meets, in the order from lo to hi. Takes time in
+    /// proportion to the centres near the segment, and to the logarithm of all.
     pub fn chain(&self, s: Seg) -> Result<Vec<Coord>, NoMemory>
         requires { IsSegInRange s }
         ensures { IfOk result (λ chain. IsChain self.now s chain.items) }
     {
-        let mut chain = met_centres(*self.centres.allocator(), s, self.centres.as_slice())?;
+        let near = self.tree.meeting(&Probe::Pixels(s))?;
+        let mut chain = met_centres(
+            *self.centres.allocator(),
+            s,
+            self.centres.as_slice(),
+            near.as_slice(),
+        )?;
         sort_along(s, &mut chain);
         Ok(chain)
     }
@@ -61,28 +79,42 @@ fn segments(alloc: Global, list: &[EdgeUse]) -> Result<Vec<Seg>, NoMemory>
     Ok(segs)
 }
 
-// Those of ascending centres whose pixels the segment meets.
-fn met_centres(alloc: Global, s: Seg, centres: &[Coord]) -> Result<Vec<Coord>, NoMemory>
-    requires { AllPairs (λ a b. IsTrue (is_before a b)) centres.now }
-    ensures exact { IfOk result (λ met. (r : Coord) → Contains met.items r ↔ (Contains centres.now r × MeetsPixel s r)) }
-    ensures ascending { IfOk result (λ met. AllPairs (λ a b. IsTrue (is_before a b)) met.items) }
+fn boxes_of(alloc: Global, centres: &[Coord]) -> Result<Vec<Rect>, NoMemory>
+    ensures { IfOk result (λ boxes. boxes.items ≡ map box_of_point centres.now) }
+{
+    let boxes = centres.iter().map(|r| Rect::of_point(*r)).collect(alloc)?;
+    Ok(boxes)
+}
+
+// Of the centres with these numbers, those whose pixels the segment meets.
+fn met_centres(
+    alloc: Global,
+    s: Seg,
+    centres: &[Coord],
+    near: &[usize],
+) -> Result<Vec<Coord>, NoMemory>
+    requires { All (λ k. k < length centres.now) near.now }
+    ensures { IfOk result (λ met. AreMet s centres.now near.now met.items) }
 {
     let mut met = Vec::new(alloc);
-    for r in centres {
-        if meets(s, *r) {
-            met.push(*r)?;
+    for k in near {
+        let r = centres[*k];
+        if meets(s, r) {
+            met.push(r)?;
         }
     }
     Ok(met)
 }
 
-// Puts ascending centres in the order in which the segment passes their pixels.
+// Puts centres in the order in which the segment passes their pixels, each once.
 fn sort_along(s: Seg, centres: &mut Vec<Coord>)
-    requires { AllPairs (λ a b. IsTrue (is_before a b)) centres.old.items }
     ensures same { (r : Coord) → Contains centres.new.items r ↔ Contains centres.old.items r }
     ensures order { AllPairs (ComesFirst s) centres.new.items }
 {
     if s.hi.y < s.lo.y {
         centres.sort_unstable_by_key(|r| (r.x, Reverse(r.y)));
+    } else {
+        centres.sort_unstable();
     }
+    centres.dedup();
 }

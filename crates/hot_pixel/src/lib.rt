@@ -4,11 +4,15 @@
 //! passes them, whatever segments in range the set was built of.
 #![tactic(auto)]
 
+mod along_curve;
 mod centres;
+mod columns;
+mod crossings;
 mod hot_set;
 mod passing;
 mod pixel;
 
+pub use columns::Columns;
 pub use hot_set::HotSet;
 pub use passing::{before, meets};
 pub use pixel::pixel_of;

@@ -1,20 +1,15 @@
-use Rattle.std.proofs.Common.{int_eq, ◌&&◌}
-use Rattle.std.proofs.lemmas.List.Filters.{dedup_is}
-use Rattle.cov_types.specs.Coord.{coord_cmp, is_before}
-use Rattle.cov_types.specs.declared.coord.Coord.{Coord}
-use Rattle.cov_types.proofs.Equal.{Decides-same_coords}
-use Rattle.cov_types.proofs.Order.{same_from_neither}
-use Rattle.cov_types.proofs.SegOrder.{coord_cmp_total, is_lt-coord_cmp}
-use Rattle.hot_pixel.proofs.Ascending.{set_ascending, set_contains}
-use Rattle.hot_pixel.proofs.Crossed.{hot_contains}
+use Rattle.std.proofs.Common.{List, subst, sym}
+use Rattle.std.specs.Prelude.{All}
+use Rattle.std.proofs.lemmas.Result.{IfOk-weaker}
+use Rattle.cov_types.specs.Range.{IsSegInRange}
+use Rattle.hot_pixel.proofs.Hot.{hot_centres_are, in_range_too}
 use Rattle.hot_pixel.proofs.centres.hot_centres.Goals as goal
 
+pub add_crossings-requires : goal.add_crossings-requires
+add_crossings-requires c = subst (All IsSegInRange) (sym c.as_slice-along.ensures.value) (in_range_too c.args.segs.now c.in_ok-distinct.distinct.items c.requires c.in_ok-distinct.ensures)
+
 pub returns : goal.returns
-returns c = record {
-  exact = λ r. hot_contains c.args.segs.now c.new-centres.result.items _ _ c.dedup.new.self.items c.new-centres.ensures.items c.in_ok-add_ends.ensures c.in_ok-add_crossings.ensures
-      (set_contains (λ (a b : Coord). int_eq a.x b.x && int_eq a.y b.y) Decides-same_coords coord_cmp coord_cmp_total is_before is_lt-coord_cmp same_from_neither _ _ _
-      c.sort_unstable.ensures.permutation c.sort_unstable.ensures.sorted (dedup_is _ _ _ c.dedup.ensures.filtered)) r;
-  ascending =
-      set_ascending (λ (a b : Coord). int_eq a.x b.x && int_eq a.y b.y) Decides-same_coords coord_cmp coord_cmp_total is_before is_lt-coord_cmp same_from_neither _ _ _
-      c.sort_unstable.ensures.permutation c.sort_unstable.ensures.sorted (dedup_is _ _ _ c.dedup.ensures.filtered);
-}
+returns c =
+    IfOk-weaker c.points_along_curve.result _ _
+    (λ centres moved. hot_centres_are c.args.segs.now c.in_ok-distinct.distinct.items c.as_slice-along.result.now c.new-centres.result.items c.add_ends.new.centres.items c.add_crossings.new.centres.items c.as_slice.result.now
+    centres.items c.requires c.in_ok-distinct.ensures c.as_slice-along.ensures.value c.new-centres.ensures.items c.in_ok-add_ends.ensures c.in_ok-add_crossings.ensures c.as_slice.ensures.value moved) c.points_along_curve.ensures

@@ -1,6 +1,8 @@
-use Rattle.std.specs.Prelude.{take}
-use Rattle.hot_pixel.proofs.MetCentres.{AreMet}
+use Rattle.std.proofs.Common.{take}
+use mathlib.Core.List.{[]}
+use Rattle.std.specs.Prelude.{Any}
+use Rattle.hot_pixel.specs.Centres.{Gains, IsMetAt}
 use Rattle.hot_pixel.proofs.hot_set.met_centres.Given as goal
 
-abbrev pub invariant-loop-r : goal.invariant-loop-r
-invariant-loop-r l = AreMet l.s (take l.r-index l.centres) l.met.items
+abbrev pub invariant-loop-k : goal.invariant-loop-k
+invariant-loop-k l = Gains [] l.met.items (λ r. Any (IsMetAt l.s l.centres r) (take l.k-index l.near))

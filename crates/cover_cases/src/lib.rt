@@ -5,6 +5,8 @@
 //! refusal that touches it shows.
 #![tactic(auto)]
 
+#[cfg(test)]
+mod borders;
 mod files;
 #[cfg(test)]
 mod tests;

@@ -87,10 +87,10 @@ y_below : (m : ℤ) (r : Point) → form (pos 0) (neg_ℤ (pos 1)) m r ≡ (m *�
 unfolding form
 y_below m r = omega (arith, lin, one_mul r.y, neg_mul (pos 1) r.y, zero_mul r.x)
 
-lesser : (a b : ℤ) → (int_min a b ≤ℤ a) × (int_min a b ≤ℤ b)
+pub lesser : (a b : ℤ) → (int_min a b ≤ℤ a) × (int_min a b ≤ℤ b)
 lesser a b = (omega (arith, ints, clamps), omega (arith, ints, clamps))
 
-greater : (a b : ℤ) → (a ≤ℤ int_max a b) × (b ≤ℤ int_max a b)
+pub greater : (a b : ℤ) → (a ≤ℤ int_max a b) × (b ≤ℤ int_max a b)
 greater a b = (omega (arith, ints, clamps), omega (arith, ints, clamps))
 
 -- each point of a segment is in its box

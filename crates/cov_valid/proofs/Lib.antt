@@ -8,4 +8,5 @@ pub mod Numbers
 pub mod Repeats
 pub mod Searches
 pub mod Sorting
+pub mod Stabs
 pub mod Unique

@@ -5,3 +5,4 @@ pub mod Holders
 pub mod Kinds
 pub mod Levels
 pub mod Marks
+pub mod Parts

@@ -13,6 +13,7 @@ mod laws;
 mod level;
 mod mark;
 mod placed;
+mod run;
 #[cfg(test)]
 mod tests;
 mod validator;

@@ -1,8 +1,10 @@
 //! Files and their faults: a trait for what a program does with files, reading a whole file and writing a
 //! whole file over it, and two objects that have it, one on disk and one in memory.
 //!
-//! Its promise: `slurp` answers all that a file holds or a refusal that has its cause, and `spill` leaves
-//! the file with all of the bytes, or at a fault with the first of them; both leave every other file alone.
+//! Its promise: `slurp` and `spill` answer a fault only where its count rose. Over a files object that tells its
+//! contents, `slurp` answers all that the file holds, or that it is too long, and `spill` leaves the file with all of
+//! the bytes, or at a fault as it was or with the first of them; both leave every other file alone. A `Shelf` tells its
+//! contents. `Disk` tells none, so what it does with the files of the system is tested and not proved.
 #![tactic(auto)]
 
 mod disk;

@@ -32,6 +32,7 @@ fn run(rt: &HostRuntime) -> Outcome {
 
 fn main(rt: HostRuntime) -> ExitCode {
     let outcome = run(&rt);
+    // A print that fails changes no status.
     let _ = match message(rt.alloc(), &outcome) {
         Ok(text) => println!(rt; "{text}"),
         Err(_) => println!(rt; "no memory"),

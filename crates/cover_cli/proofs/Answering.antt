@@ -34,7 +34,7 @@ no_cause operation old inputs o p text read makes cause =
 
 -- ---- refusals
 
--- there was no memory, before the output was created
+-- memory ran out, before the output was created
 without_memory : (operation : Operation) (old new : State) → new.read_faults ≡ old.read_faults → KeepsOutput old new → IsAnswer operation old new NoMemory
 without_memory operation old new reads kept = record {
   usage = λ h. cc;

@@ -65,11 +65,11 @@ pub record HoldsPart (operation : Operation) (old new : State) : Type 0 where
 
 -- ---- answers
 
--- the answer, unless a read fault or want of memory comes first
+-- the answer, unless a read fault comes first or memory runs out
 abbrev pub IsUnlessEarlier : Outcome → Outcome → Type 0
 IsUnlessEarlier expected answer = (answer ≡ expected) ⊎ ((answer ≡ ReadFault) ⊎ (answer ≡ NoMemory))
 
--- a success, unless a fault of reading or writing or want of memory comes
+-- a success, unless a read or a write fault comes or memory runs out
 abbrev pub IsSuccessUnlessFault : Outcome → Type 0
 IsSuccessUnlessFault answer = IsTrue (is_success answer) ⊎ ((answer ≡ ReadFault) ⊎ ((answer ≡ WriteFault) ⊎ (answer ≡ NoMemory)))
 

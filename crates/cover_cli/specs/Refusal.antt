@@ -21,7 +21,7 @@ abbrev pub outcome_of_text : TextError → Outcome
 outcome_of_text (texts.Fault fault) = BadText fault
 outcome_of_text texts.NoMemory = NoMemory
 
--- there was no memory, or the refusal has this cause
+-- memory ran out, or the refusal has this cause
 abbrev pub IsRefusedFor : (Outcome → Type 0) → Outcome → Type 0
 IsRefusedFor Cause outcome = (outcome ≡ NoMemory) ⊎ Cause outcome
 

@@ -20,7 +20,7 @@ fn run<F: Files>(alloc: Global, operation: &Operation, files: &mut F) -> Outcome
         Ok(inputs) => inputs,
         Err(refusal) => return refusal,
     };
-    match make(alloc, operation, &inputs) {
+    match make(alloc, operation, inputs) {
         Ok(made) => written(files, operation.output(), made),
         Err(refusal) => refusal,
     }
@@ -28,8 +28,8 @@ fn run<F: Files>(alloc: Global, operation: &Operation, files: &mut F) -> Outcome
 
 /// Does all that the program does. `words` are the words after the program's name.
 ///
-/// What is said of contents holds over a files object that tells them. Want of memory may come at any
-/// point before the output is created.
+/// What is said of contents holds over a files object that tells them. Memory may run out at any point before the
+/// output is created, and at none after it.
 pub fn cover<F: Files>(alloc: Global, words: &[String], files: &mut F) -> Outcome
     ensures usage { (result ≡ Outcome.Usage) ↔ (operation_of (map string_bytes words.now) ≡ None) }
     ensures unaccepted { operation_of (map string_bytes words.now) ≡ None

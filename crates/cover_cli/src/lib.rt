@@ -1,11 +1,12 @@
 //! The program `cover` as one call: words and files in, an outcome out.
 //!
-//! Its promise: every answer of `cover` comes only for its cause, and the output file then holds exactly
-//! what the definitions say of the input file.
+//! Its promise: every answer of `cover` comes only for its cause. Over a files object that tells its contents, a
+//! success means that the output holds what the definitions say of the inputs, which is one text by `written_law`.
 //!
-//! There is one way through the program. The words name an operation (`words`); its inputs are read (`input`);
-//! of them it makes its whole text, or refuses them (`making`, and a file for each operation); the text is
-//! written (`output`). Only the reading and the writing know of files.
+//! Each operation takes the same steps. The words name it (`words`); its inputs are read (`input`); of them it makes
+//! its whole text, or refuses them (`making`, and a file for each operation); the text is written (`output`). Only
+//! the reading and the writing know of files, so a new operation is a variant with its words, its relation between
+//! inputs and text in `specs`, and its `make`.
 #![tactic(auto)]
 
 mod command;
@@ -18,6 +19,7 @@ mod outcome;
 mod output;
 mod refusal;
 mod regions;
+mod text;
 mod validate;
 mod words;
 

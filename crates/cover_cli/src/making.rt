@@ -18,17 +18,17 @@ pub struct Made {
 }
 
 /// Makes all that the operation writes of the inputs that it read. An error is the outcome that refuses them.
-pub fn make(alloc: Global, operation: &Operation, inputs: &[Vec<u8>]) -> Result<Made, Outcome>
-    requires count { length inputs.now ≡ length (inputs_of (named operation.now)) }
-    requires within { All (λ i. length i.items ≤ longest_input) inputs.now }
+pub fn make(alloc: Global, operation: &Operation, mut inputs: Vec<Vec<u8>>) -> Result<Made, Outcome>
+    requires count { length inputs.items ≡ length (inputs_of (named operation.now)) }
+    requires within { All (λ i. length i.items ≤ longest_input) inputs.items }
     ensures made { IfOk result (λ made.
-        Makes (named operation.now) (map (λ i. i.items) inputs.now) made.outcome made.text.items) }
+        Makes (named operation.now) (map (λ i. i.items) inputs.items) made.outcome made.text.items) }
     ensures refused { IfErr result
-        (IsRefusedFor (Refuses (named operation.now) (map (λ i. i.items) inputs.now))) }
+        (IsRefusedFor (Refuses (named operation.now) (map (λ i. i.items) inputs.items))) }
 {
     match operation {
-        Operation::Validate { .. } => validate::make(alloc, &inputs[0]),
-        Operation::Node { .. } => node::make(alloc, &inputs[0]),
-        Operation::Regions { .. } => regions::make(alloc, &inputs[0]),
+        Operation::Validate { .. } => validate::make(alloc, inputs.remove(0)),
+        Operation::Node { .. } => node::make(alloc, inputs.remove(0)),
+        Operation::Regions { .. } => regions::make(alloc, inputs.remove(0)),
     }
 }

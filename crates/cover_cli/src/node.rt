@@ -8,9 +8,9 @@ ghost use Rattle.cover_cli.specs.Text.{IsReadAnd, RefusesText};
 use crate::lines::lists_by_member;
 use crate::making::Made;
 use crate::outcome::Outcome;
+use crate::text::coverage_of;
 use cov_types::{Coverage, NoMemory, uses};
 use cov_write::lines_of;
-use geo_text::read_text;
 use snap_noder::{node, uses_of_odd};
 use std::alloc::Global;
 
@@ -32,12 +32,12 @@ fn noding(alloc: Global, c: &Coverage) -> Result<Made, NoMemory>
 }
 
 /// Nodes the coverage that the input is read as.
-pub fn make(alloc: Global, input: &[u8]) -> Result<Made, Outcome>
-    requires { length input.now ≤ longest_input }
+pub fn make(alloc: Global, input: Vec<u8>) -> Result<Made, Outcome>
+    requires { length input.items ≤ longest_input }
     ensures made { IfOk result (λ made.
-        IsReadAnd input.now (λ members. IsNoding members made.outcome made.text.items)) }
-    ensures refused { IfErr result (IsRefusedFor (RefusesText input.now)) }
+        IsReadAnd input.items (λ members. IsNoding members made.outcome made.text.items)) }
+    ensures refused { IfErr result (IsRefusedFor (RefusesText input.items)) }
 {
-    let coverage = read_text(alloc, input)?;
+    let coverage = coverage_of(alloc, input)?;
     Ok(noding(alloc, &coverage)?)
 }

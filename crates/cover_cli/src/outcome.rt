@@ -23,7 +23,7 @@ pub enum Outcome {
     TooLong,
     /// The input is no text that can be read.
     BadText(TextFault),
-    /// There was no memory.
+    /// Memory ran out before the output was created.
     NoMemory,
 }
 

@@ -9,10 +9,10 @@ ghost use Rattle.owner_label.specs.Labelled.{IsOverlay};
 
 use crate::making::Made;
 use crate::outcome::Outcome;
+use crate::text::coverage_of;
 use cov_types::{Coverage, NoMemory, uses};
 use cov_write::{append_inner_row, append_outer_row};
 use face_walk::Regions;
-use geo_text::read_text;
 use half_edge::Arena;
 use owner_label::Labels;
 use snap_noder::{live, node};
@@ -81,12 +81,12 @@ fn region_list(alloc: Global, c: &Coverage) -> Result<Made, NoMemory>
 }
 
 /// Lists the regions of the coverage that the input is read as.
-pub fn make(alloc: Global, input: &[u8]) -> Result<Made, Outcome>
-    requires { length input.now ≤ longest_input }
+pub fn make(alloc: Global, input: Vec<u8>) -> Result<Made, Outcome>
+    requires { length input.items ≤ longest_input }
     ensures made { IfOk result (λ made.
-        IsReadAnd input.now (λ members. IsRegionList members made.outcome made.text.items)) }
-    ensures refused { IfErr result (IsRefusedFor (RefusesText input.now)) }
+        IsReadAnd input.items (λ members. IsRegionList members made.outcome made.text.items)) }
+    ensures refused { IfErr result (IsRefusedFor (RefusesText input.items)) }
 {
-    let coverage = read_text(alloc, input)?;
+    let coverage = coverage_of(alloc, input)?;
     Ok(region_list(alloc, &coverage)?)
 }

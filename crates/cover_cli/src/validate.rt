@@ -8,10 +8,10 @@ ghost use Rattle.cover_cli.specs.Validate.{marking, IsValidation};
 use crate::lines::{lists_by_member, uses_at_marks};
 use crate::making::Made;
 use crate::outcome::Outcome;
+use crate::text::coverage_of;
 use cov_types::{Coverage, NoMemory, uses};
 use cov_valid::marks;
 use cov_write::lines_of;
-use geo_text::read_text;
 use std::alloc::Global;
 
 // The outcome where so many segments are marked.
@@ -40,12 +40,12 @@ fn validation(alloc: Global, c: &Coverage) -> Result<Made, NoMemory>
 }
 
 /// Validates the coverage that the input is read as.
-pub fn make(alloc: Global, input: &[u8]) -> Result<Made, Outcome>
-    requires { length input.now ≤ longest_input }
+pub fn make(alloc: Global, input: Vec<u8>) -> Result<Made, Outcome>
+    requires { length input.items ≤ longest_input }
     ensures made { IfOk result (λ made.
-        IsReadAnd input.now (λ members. IsValidation members made.outcome made.text.items)) }
-    ensures refused { IfErr result (IsRefusedFor (RefusesText input.now)) }
+        IsReadAnd input.items (λ members. IsValidation members made.outcome made.text.items)) }
+    ensures refused { IfErr result (IsRefusedFor (RefusesText input.items)) }
 {
-    let coverage = read_text(alloc, input)?;
+    let coverage = coverage_of(alloc, input)?;
     Ok(validation(alloc, &coverage)?)
 }

@@ -83,7 +83,7 @@ extra_places geometries = flat_map geometry_extras geometries
 abbrev pub IsWhole : Numeral → Type 0
 IsWhole n = All (λ digit. digit ≡ 48) n.fraction
 
--- a value from -16,777,216 to 16,777,216
+-- a value from -268,435,456 to 268,435,456
 abbrev pub IsValueInRange : Numeral → Type 0
 IsValueInRange n = ((neg_ℤ LIMIT) ≤ℤ value n) × (value n ≤ℤ LIMIT)
 

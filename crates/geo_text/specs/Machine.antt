@@ -25,7 +25,7 @@ use Rattle.geo_text.specs.declared.place.Place.TheVariants as places
 
 -- ---- faults other than of syntax: the first of each kind
 
--- a value from -16,777,216 to 16,777,216
+-- a value from -268,435,456 to 268,435,456
 abbrev pub is_in_range : ℤ → Bool
 is_in_range n = int_le (neg_ℤ LIMIT) n && int_le n LIMIT
 

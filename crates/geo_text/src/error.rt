@@ -1,19 +1,19 @@
 use std::alloc::{AllocError, AllocFailed};
 use thiserror::Error;
 
-/// Why a text is not read. Places are numbers of bytes; rings are numbered from 0 through the whole file.
+/// Why a text is not read. Bytes and rings are numbered from 0 through the whole file.
 #[derive(Clone, Copy, Debug, PartialEq, Eq, Error)]
 pub enum TextFault {
     /// The text is no file. The first `at` bytes begin some file, and no more of them do.
     #[error("syntax at {at}")]
     Syntax { at: u64 },
-    /// A dimension word or a third number comes behind `at` bytes.
+    /// A dimension word or a third number starts at byte `at`.
     #[error("not planar at {at}")]
     NotPlanar { at: u64 },
-    /// A number with a fraction comes behind `at` bytes.
+    /// A number with a fraction starts at byte `at`.
     #[error("not whole at {at}")]
     NotWhole { at: u64 },
-    /// A number out of range comes behind `at` bytes.
+    /// A number out of range starts at byte `at`.
     #[error("out of range at {at}")]
     OutOfRange { at: u64 },
     /// A ring has fewer than four positions.

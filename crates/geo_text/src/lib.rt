@@ -1,7 +1,8 @@
 //! Reads polygons from well-known text.
 //!
-//! Its promise: `read_text` answers a coverage exactly where the bytes are a file that is read as it and has no
-//! fault, and otherwise the one fault that the text has.
+//! Its promise: `read_text` answers a coverage only where the bytes are a file that is read as it and has no fault,
+//! and a fault only where the text has it. By `one_answer` a text has one reading or one fault, and not both: so
+//! each of the two answers comes exactly there, unless memory runs out.
 #![tactic(auto)]
 
 mod error;

@@ -246,6 +246,7 @@ impl Parser {
     {
         let mut points = mem::replace(&mut self.points, Vec::new(self.alloc));
         self.faults = self.faults.with_ring(points.as_slice());
+        // The last position is the first again.
         let _ = points.pop();
         self.rings.push(Ring { points })?;
         self.place = Place::RingEnd;

@@ -4,9 +4,8 @@ use Rattle.std.specs.Prelude.{All}
 use Rattle.cov_io.specs.Calls.{IsPromised}
 use Rattle.cover_cli.proofs.Answering.{unread, unmade, answered}
 use Rattle.cover_cli.specs.Input.{AreInputs}
-use Rattle.cover_cli.specs.Made.{Makes, Refuses}
 use Rattle.cover_cli.specs.Named.{named}
-use Rattle.cover_cli.specs.Refusal.{IsUnread, IsRefusedFor}
+use Rattle.cover_cli.specs.Refusal.{IsUnread}
 use Rattle.cover_cli.specs.Written.{IsWritten}
 use Rattle.cover_cli.specs.declared.outcome.Outcome.TheVariants.{ReadFault}
 use Rattle.cover_cli.proofs.command.run.Goals as goal
@@ -26,15 +25,15 @@ returns-in-Ok-make g c =
     answered (named c.args.operation.now) before (g.F.Files.state c.read_inputs.new.files) _ (items c.in-Ok.inputs.items) c.in-Ok-make.made c.written.result
     (λ told. subst (λ (names : List (List ℕ)). AreInputs before names (items c.in-Ok.inputs.items)) c.inputs.ensures (c.in-Ok.ensures.read told))
     c.in-Ok.ensures.counted c.in-Ok.ensures.kept
-    (subst (λ (is : List (Vec ℕ Global)). Makes (named c.args.operation.now) (items is) c.in-Ok-make.made.outcome c.in-Ok-make.made.text.items) c.deref.ensures.value c.in-Ok-make.ensures.made)
+    c.in-Ok-make.ensures.made
     (g.met.F.Files.telling c.args.files.now)
     (subst (λ (to : List ℕ). IsWritten to c.in-Ok-make.made (g.F.Files.state c.read_inputs.new.files) (g.F.Files.state c.written.new.files) c.written.result) c.output.ensures c.written.ensures)
 
-pub returns : goal.returns
-returns g c =
+pub returns-in-Err-make : goal.returns-in-Err-make
+returns-in-Err-make g c =
     let before = g.F.Files.state c.args.files.now in
     let items : List (Vec ℕ Global) → List (List ℕ) = map (λ i. i.items) in
     unmade (named c.args.operation.now) before _ (items c.in-Ok.inputs.items) c.in-Err-make.refusal
     (λ told. subst (λ (names : List (List ℕ)). AreInputs before names (items c.in-Ok.inputs.items)) c.inputs.ensures (c.in-Ok.ensures.read told))
     c.in-Ok.ensures.counted c.in-Ok.ensures.kept
-    (subst (λ (is : List (Vec ℕ Global)). IsRefusedFor (Refuses (named c.args.operation.now) (items is)) c.in-Err-make.refusal) c.deref.ensures.value c.in-Err-make.ensures.refused)
+    c.in-Err-make.ensures.refused

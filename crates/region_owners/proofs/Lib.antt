@@ -7,4 +7,8 @@ pub mod SquareOwners
 pub mod Held
 pub mod Neighbours
 pub mod Boxes
+pub mod OwnEdges
+pub mod RegionBox
+pub mod Searched
+pub mod SquareBox
 pub mod Frame

@@ -15,6 +15,7 @@ use Rattle.region_owners.specs.Gap.{IsGap}
 use Rattle.region_owners.specs.Owner.{IsOwner, AreOwners}
 use Rattle.region_owners.specs.Square.{unheld, lone_owners, by_index, SquareExamples}
 use Rattle.region_owners.proofs.Clearances.{narrow_is}
+use Rattle.region_owners.proofs.SquareBox.{left_edge, middle_in_box, beside_not_in_box}
 use Rattle.region_owners.proofs.SquareClearance.{square_clearance}
 
 -- ---- owners
@@ -66,6 +67,9 @@ square_owners w r region =
 
 pub square_examples : SquareExamples
 square_examples = record {
+  edge = left_edge;
+  in_box = middle_in_box;
+  not_in_box = beside_not_in_box;
   clearance = square_clearance;
   narrow = (narrow_is square_edges 1 10 11 square_clearance).1 (omega arith);
   not_narrow = λ h. (let less = (narrow_is square_edges 1 10 10 square_clearance).0 h in omega arith);

@@ -1,12 +1,19 @@
 -- The laws that make the definitions of gaps and owners believable.
 use Rattle.std.specs.Prelude.{◌≡◌, ℕ, ◌<◌, ◌↔◌, nat_lt, int_lt, Bool, IsTrue, List, length, All, AllPairs, Contains, Option, Some}
 use Rattle.std.specs.List.{IsFirstBest}
+use Rattle.cov_types.specs.declared.coord.Coord.{Coord}
 use Rattle.cov_types.specs.declared.seg.Seg.{Seg}
+use Rattle.plane.specs.Point.{Point, at_coord}
+use Rattle.plane.specs.Ray.{is_over}
+use Rattle.plane.specs.Region.{IsOuterRegion, IsRegionOf}
+use Rattle.sector_laws.specs.Sector.{AreDistinct, IsPlanar}
+use Rattle.region_laws.specs.Below.{is_under}
 use Rattle.arrangement.specs.Live.{IsLiveOverlay}
 use Rattle.arrangement.specs.Measure.{owned_border}
 use Rattle.arrangement.specs.Overlay.{Overlay, IsRegion, label_of}
 use Rattle.region_owners.specs.declared.candidate.Candidate.{Candidate}
-use Rattle.region_owners.specs.Gap.{IsGap, IsClearance, IsNarrow}
+use Rattle.region_owners.specs.Box.{IsEdgeOf, IsInBoxOf}
+use Rattle.region_owners.specs.Gap.{IsGap, HasRoom, IsClearance, IsNarrow}
 use Rattle.region_owners.specs.Owner.{Rule, rule_by, IsLawful, least_index, greatest_area, least_area, longest_border, label_owner, neighbour_of, IsNarrowGap, IsOwner, AreOwners}
 use Rattle.region_owners.specs.Candidates.{candidates_of}
 
@@ -19,6 +26,32 @@ ClearanceLaw = (edges : List Seg) (r v w : ℕ) → IsClearance edges r v → Is
 -- and is narrow at w where w is past its clearance
 abbrev pub NarrowLaw : Type 0
 NarrowLaw = (edges : List Seg) (r c w : ℕ) → IsClearance edges r c → IsNarrow edges r w ↔ (c < w)
+
+-- ---- the edges of a region
+
+-- a region that is not outer has an edge of its own under each of its points
+abbrev pub EdgeUnderLaw : Type 0
+EdgeUnderLaw = (edges : List Seg) → IsPlanar edges → AreDistinct edges → (r : ℕ) → ¬ IsOuterRegion edges r
+    → (p : Point) → IsRegionOf edges p r → (e : Seg) × (IsEdgeOf edges r e × IsTrue (is_under e p))
+
+-- and one over it
+abbrev pub EdgeOverLaw : Type 0
+EdgeOverLaw = (edges : List Seg) → IsPlanar edges → AreDistinct edges → (r : ℕ) → ¬ IsOuterRegion edges r
+    → (p : Point) → IsRegionOf edges p r → (e : Seg) × (IsEdgeOf edges r e × IsTrue (is_over e p))
+
+-- so its points are strictly inside the box of its edges
+abbrev pub BoxLaw : Type 0
+BoxLaw = (edges : List Seg) → IsPlanar edges → AreDistinct edges → (r : ℕ) → ¬ IsOuterRegion edges r → (p : Point) → IsRegionOf edges p r → IsInBoxOf edges r p
+
+-- the grid point is in the region and has room w from every edge
+pub record IsWithRoom (edges : List Seg) (r w : ℕ) (q : Coord) : Type 0 where
+  pub within : IsRegionOf edges (at_coord q) r
+  pub room : (e : Seg) → Contains edges e → HasRoom q w e
+
+-- and a region that is not outer has a clearance, where a test tells the grid points with room
+abbrev pub ClearanceExistsLaw : Type 0
+ClearanceExistsLaw = (edges : List Seg) → IsPlanar edges → AreDistinct edges → (r : ℕ) → ¬ IsOuterRegion edges r
+    → (has_room : Coord → ℕ → Bool) → ((q : Coord) (w : ℕ) → IsTrue (has_room q w) ↔ IsWithRoom edges r w q) → (w : ℕ) × IsClearance edges r w
 
 -- ---- owners
 

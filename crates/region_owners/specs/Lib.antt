@@ -1,6 +1,7 @@
 pub mod Candidates
 pub mod Facts
 pub mod Gap
+pub mod Box
 pub mod Owner
 pub mod Laws
 pub mod Examples

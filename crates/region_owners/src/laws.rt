@@ -1,9 +1,17 @@
-ghost use Rattle.region_owners.specs.Laws.{ClearanceLaw, NarrowLaw, PickLaw, AreLawful, CandidateLaw, LabelOwnerLaw, NeighbourLaw, OwnerLaw, OwnerBelowLaw, OwnersLaw, NoWidthLaw};
+ghost use Rattle.region_owners.specs.Laws.{ClearanceLaw, NarrowLaw, EdgeUnderLaw, EdgeOverLaw, BoxLaw, ClearanceExistsLaw, PickLaw, AreLawful, CandidateLaw, LabelOwnerLaw, NeighbourLaw, OwnerLaw, OwnerBelowLaw, OwnersLaw, NoWidthLaw};
 
 /// A region has one clearance at most, and is narrow where that is passed. A call does nothing.
 pub fn clearance_law()
     ensures one { ClearanceLaw }
     ensures narrow { NarrowLaw }
+{}
+
+/// A region that is not outer has edges of its own under and over its points, which are in the box of these; so it has a clearance. A call does nothing.
+pub fn box_law()
+    ensures under { EdgeUnderLaw }
+    ensures over { EdgeOverLaw }
+    ensures inside { BoxLaw }
+    ensures clearance { ClearanceExistsLaw }
 {}
 
 /// What the four rules pick. A call does nothing.

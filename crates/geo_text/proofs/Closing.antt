@@ -4,7 +4,7 @@ use Rattle.std.proofs.lemmas.Option.{cond_some}
 use Rattle.std.specs.Char.{to_ascii_uppercase}
 use Rattle.std.proofs.lemmas.Bool.{false≢true}
 use Rattle.geo_text.specs.Token.{Polygon, Empty, Numeral, Token, Word, Number, Open, Close, IsSpelled, signed, Spells}
-use Rattle.geo_text.specs.Machine.{Kept, State, Numbered, at, step, step_at, letters, symbol_of, is_complete, keyword_at, takes_number, capped, with_digit, ending, element_end, body_end, member_kept, polygon_kept, ring_kept, first_number, second_number, with_extra}
+use Rattle.geo_text.specs.Machine.{Kept, ParserState, Numbered, at, step, step_at, letters, symbol_of, is_complete, keyword_at, takes_number, capped, with_digit, ending, element_end, body_end, member_kept, polygon_kept, ring_kept, first_number, second_number, with_extra}
 use Rattle.geo_text.specs.declared.keyword.Keyword.{Keyword}
 use Rattle.geo_text.specs.declared.keyword.Keyword.TheVariants as keywords
 use Rattle.geo_text.specs.declared.lexeme.Lexeme.{Lexeme}
@@ -26,7 +26,7 @@ module _ (cap : ℕ) where
   abbrev Closes : Place → Bool → Bool → Type 0
   Closes place c m =
       (k : Kept) (a : ℕ) (previous : Option Token)
-      → (bytes : List ℕ) × (tokens : List Token) × (f : State) × Spells a previous tokens bytes × (run cap (at place c m k) tokens ≡ Some f) × (f.place ≡ Outside)
+      → (bytes : List ℕ) × (tokens : List Token) × (f : ParserState) × Spells a previous tokens bytes × (run cap (at place c m k) tokens ≡ Some f) × (f.place ≡ Outside)
 
   -- a token behind a space, and what ends the file from there
   closes_by : (token : ℕ → Token) (spelling : List ℕ) (place next : Place) (c m d n : Bool) (after : Kept → ℕ → Kept)
@@ -108,13 +108,13 @@ module _ (cap : ℕ) where
   -- ---- what is being typed can be completed where it stands
 
   -- the word, or a number, may stand at the place
-  abbrev pub Fits : Lexeme → State → Type 0
+  abbrev pub Fits : Lexeme → ParserState → Type 0
   Fits lexemes.Blank s = Unit {0}
   Fits (lexemes.Word i k n) s = (letter : ℕ) × (keyword_at s.place letter ≡ Some k) × (n ≤ length (letters k))
   Fits (lexemes.Number n) s = takes_number s.place ≡ true
 
   abbrev Takes : Place → ℕ → Bool → Bool → Kept → Keyword → Type 0
-  Takes place i c m h k = (last : State) × (step_at place (symbol_of k i) c m h ≡ Some last)
+  Takes place i c m h k = (last : ParserState) × (step_at place (symbol_of k i) c m h ≡ Some last)
 
   takes_empty : (kind : Body) (came : Bool) (i : ℕ) (c m : Bool) (h : Kept) → Takes (Head kind came) i c m h keywords.Empty
   takes_empty kinds.Polygon came i c m h = (body_end c m h, refl)
@@ -141,11 +141,11 @@ module _ (cap : ℕ) where
   takes_word BodyStart letter i k c m h e = subst (Takes BodyStart i c m h) (cond_some (eqb letter 69) keywords.Empty k e).1 (at BodyEnd c m h, refl)
   takes_word place letter i k c m h e = absurd (none_some k e)
 
-  takes_if : (b : Bool) (s : State) → b ≡ true → (last : State) × (cond b (Some s) None ≡ Some last)
+  takes_if : (b : Bool) (s : ParserState) → b ≡ true → (last : ParserState) × (cond b (Some s) None ≡ Some last)
   takes_if true s e = (s, refl)
   takes_if false s e = absurd (false≢true e)
 
-  takes_a_number : (place : Place) (i : ℕ) (v : ℤ) (w : Bool) (c m : Bool) (h : Kept) → takes_number place ≡ true → (last : State) × (step_at place (Numbered i v w) c m h ≡ Some last)
+  takes_a_number : (place : Place) (i : ℕ) (v : ℤ) (w : Bool) (c m : Bool) (h : Kept) → takes_number place ≡ true → (last : ParserState) × (step_at place (Numbered i v w) c m h ≡ Some last)
   takes_a_number PositionStart i v w c m h e = (_, refl)
   takes_a_number (SecondNumber x) i v w c m h e = (_, refl)
   takes_a_number (PositionEnd n) i v w c m h e = takes_if (ltb n 2) _ e
@@ -173,20 +173,20 @@ module _ (cap : ℕ) where
   map-drop g (suc n) (x ∷ xs) = map-drop g n xs
 
   -- some bytes lead from here to the end of a file
-  abbrev pub Lives : ℕ → Lexeme → State → Type 0
-  Lives a l s = (more : List ℕ) × (f : State) × (read_bytes cap a l s more ≡ Some f) × (f.place ≡ Outside)
+  abbrev pub Lives : ℕ → Lexeme → ParserState → Type 0
+  Lives a l s = (more : List ℕ) × (f : ParserState) × (read_bytes cap a l s more ≡ Some f) × (f.place ≡ Outside)
 
   -- from a lexeme that may end here
-  lives_behind : (a : ℕ) (l : Lexeme) (s last : State) (previous : Option Token) → Pending cap l previous → ending l s ≡ Some last → Lives a l s
+  lives_behind : (a : ℕ) (l : Lexeme) (s last : ParserState) (previous : Option Token) → Pending cap l previous → ending l s ≡ Some last → Lives a l s
   lives_behind a l s last previous p e =
       let w = closes last.place last.in_collection last.in_multi last.kept a previous in
       (w.0, w.2, read_bytes-spelled cap w.1 a l s last w.2 previous w.0 p e w.3 w.4, w.5)
 
   -- from a lexeme by further bytes
-  lives_by : (a : ℕ) (l m : Lexeme) (s : State) (bytes : List ℕ) → ((rest : List ℕ) → read_bytes cap a l s (bytes ++ rest) ≡ read_bytes cap (a + length bytes) m s rest) → Lives (a + length bytes) m s → Lives a l s
+  lives_by : (a : ℕ) (l m : Lexeme) (s : ParserState) (bytes : List ℕ) → ((rest : List ℕ) → read_bytes cap a l s (bytes ++ rest) ≡ read_bytes cap (a + length bytes) m s rest) → Lives (a + length bytes) m s → Lives a l s
   lives_by a l m s bytes h (more, f, e, out) = (bytes ++ more, f, h more ∙ e, out)
 
-  lives_word : (a i : ℕ) (k : Keyword) (n letter : ℕ) (s : State) → keyword_at s.place letter ≡ Some k → n ≤ length (letters k) → Lives a (lexemes.Word i k n) s
+  lives_word : (a i : ℕ) (k : Keyword) (n letter : ℕ) (s : ParserState) → keyword_at s.place letter ≡ Some k → n ≤ length (letters k) → Lives a (lexemes.Word i k n) s
   lives_word a i k n letter s e h =
       let typed = drop n (letters k) in
       let size : length typed ≡ length (letters k) - n = length-drop n (letters k) in
@@ -204,14 +204,14 @@ module _ (cap : ℕ) where
   zero_digit : (n : NumberRead) → (with_digit cap n 48).some_digit ≡ true
   zero_digit n = digit_of_two n.point (record n { some_digit = true; whole = n.whole && true }) _ refl refl
 
-  lives_number : (a : ℕ) (n : NumberRead) (s : State) → takes_number s.place ≡ true → Lives a (lexemes.Number n) s
+  lives_number : (a : ℕ) (n : NumberRead) (s : ParserState) → takes_number s.place ≡ true → Lives a (lexemes.Number n) s
   lives_number a n s e =
       let m = with_digit cap n 48 in
       let taken = takes_a_number s.place m.at (signed m.negative m.size) m.whole s.in_collection s.in_multi s.kept e in
       lives_by a (lexemes.Number n) (lexemes.Number m) s (48 ∷ []) (λ rest. refl)
       (lives_behind (a + 1) (lexemes.Number m) s taken.0 (Some (Number (zero_at 0))) (Number (zero_at 0), refl, refl) (rw (zero_digit n) taken.1))
 
-  pub lives : (a : ℕ) (l : Lexeme) (s : State) → Fits l s → Lives a l s
+  pub lives : (a : ℕ) (l : Lexeme) (s : ParserState) → Fits l s → Lives a l s
   lives a lexemes.Blank s h = lives_behind a lexemes.Blank s s None tt refl
   lives a (lexemes.Word i k n) s (letter, e, h) = lives_word a i k n letter s e h
   lives a (lexemes.Number n) s h = lives_number a n s h

@@ -1,16 +1,16 @@
 -- What is read of a text without a fault is formed.
-use Rattle.std.proofs.Common.{◌≡◌, ⊎_elim, refl, ℕ, ◌+◌, ◌-◌, ◌≤◌, List, [], ◌∷◌, ◌++◌, length, map, filter, flat_map, Option, Some, None, sym, ap, Result, Ok, Err, IfOk, subst, arith, length-append, length-take}
+use Rattle.std.proofs.Common.{⊎_elim, refl, ℕ, ◌+◌, ◌-◌, ◌≤◌, List, [], ◌∷◌, ◌++◌, length, map, filter, flat_map, Option, Some, None, sym, ap, Result, Ok, Err, IfOk, subst, arith, length-append, length-take}
 use Rattle.std.proofs.lemmas.List.{length-map}
 use Rattle.std.specs.List.{AllByRecursion}
 use Rattle.std.proofs.lemmas.List.Elements.{All-from_recursion, recursion_from_All, All-take}
-use Rattle.cov_types.specs.Coverage.{IsFormed, IsRingFormed, IsPolyFormed, IsMemberFormed, IsRingInRange, IsPolyInRange, IsMemberInRange}
+use Rattle.cov_types.specs.Coverage.{Members, IsFormed, IsRingFormed, IsPolyFormed, IsMemberFormed, IsRingInRange, IsPolyInRange, IsMemberInRange}
 use Rattle.cov_types.specs.Range.{IsInRange}
 use Rattle.cov_types.specs.declared.coord.Coord.{Coord}
 use Rattle.geo_text.specs.Token.{Token, Close, Comma, Spells}
 use Rattle.geo_text.specs.Grammar.{Position, Two, Three, Four, Ring, Element, OnePolygon, ManyPolygons, Geometry, Single, Collection, body, dimension, element, geometry, file}
 use Rattle.geo_text.specs.Reading.{coordinate, positions, points, elements, bodies, has_ring, member, coverage, Reads}
-use Rattle.geo_text.specs.Fault.{position_numbers, ring_numbers, rings_of, rings, numbers, IsNumberFine, IsRingFine, IsFaultless}
-use Rattle.geo_text.specs.Machine.{Members, Gives}
+use Rattle.geo_text.specs.Fault.{position_numbers, ring_numbers, rings_of, rings, numbers, IsNumberFine, IsRingFine, HasNoFault}
+use Rattle.geo_text.specs.Machine.{Gives}
 use Rattle.geo_text.specs.declared.error.TextError.{TextError}
 use Rattle.geo_text.proofs.Options.{split_append}
 use Rattle.geo_text.proofs.Spelled.{begins}
@@ -129,6 +129,6 @@ result_formed bytes (Ok c) h g = let read = ok_reads bytes c g in subst IsFormed
 result_formed bytes (Err e) h g = tt
 
 -- what a text without a fault is read as is formed
-pub read_formed : (bytes : List ℕ) (c : Members) → length bytes ≤ 67108864 → Reads bytes c → IsFaultless bytes → IsFormed c
+pub read_formed : (bytes : List ℕ) (c : Members) → length bytes ≤ 67108864 → Reads bytes c → HasNoFault bytes → IsFormed c
 read_formed bytes c within reads faultless =
     ⊎_elim (λ w. subst IsFormed (one_reading bytes (coverage w.0) c (w.0, w.1.is_numeric.is_planar.is_file, refl) reads) (formed bytes w.0 within w.1)) (λ f. absurd (faultless f.0 f.1)) (clean_or_fault bytes)

@@ -6,7 +6,7 @@ use Rattle.std.specs.Char.{to_ascii_uppercase}
 use Rattle.std.proofs.lemmas.Bool.{and_parts, or_cases, cond_both, false≢true}
 use Rattle.std.proofs.lemmas.List.{take_more}
 use Rattle.geo_text.specs.Token.{Polygon, MultiPolygon, GeometryCollection, Empty, Z, M, ZM, Numeral, Token, Word, Dimensions, Number, Open, Close, Comma, is_white, is_digit, IsNumeral, IsSign, IsPoint, AreDigits, IsSpelled, letters_of, axes_letters, is_word, is_number, is_alike, signed, number_from, Spells}
-use Rattle.geo_text.specs.Machine.{State, Numbered, step, letters, letter_on, symbol_of, is_complete, keyword_at, takes_number, is_number_byte, is_letter, capped, no_number, number_on, number_begun, with_digit, goes_on, typed_on, ending, beginning}
+use Rattle.geo_text.specs.Machine.{ParserState, Numbered, step, letters, letter_on, symbol_of, is_complete, keyword_at, takes_number, is_number_byte, is_letter, capped, no_number, number_on, number_begun, with_digit, goes_on, typed_on, ending, beginning}
 use Rattle.geo_text.specs.declared.keyword.Keyword.{Keyword}
 use Rattle.geo_text.specs.declared.keyword.Keyword.TheVariants as keywords
 use Rattle.geo_text.specs.declared.lexeme.Lexeme.{Lexeme}
@@ -121,7 +121,7 @@ module _ (cap : ℕ) where
     seen_as : seen cap token ≡ symbol_of k at
 
   -- the bytes behind `a` bytes complete the lexeme, and spell tokens behind it that the parser takes from s to f
-  abbrev Lexed : ℕ → Lexeme → State → State → List ℕ → Type 0
+  abbrev Lexed : ℕ → Lexeme → ParserState → ParserState → List ℕ → Type 0
   Lexed a lexemes.Blank s f bytes = (tokens : List Token) × Spells a None tokens bytes × (run cap s tokens ≡ Some f)
   Lexed a (lexemes.Word at k n) s f bytes =
       (token : Token) × (typed : List ℕ) × (rest : List ℕ) × (tokens : List Token) × IsTokenOf k at token × (token_letters token ≡ take n (letters k) ++ map to_ascii_uppercase typed)
@@ -215,8 +215,8 @@ module _ (cap : ℕ) where
       (λ two. (Dimensions (record { at = at; axes = ZM }), record { is_word = refl; is_at = refl; seen_as = refl }, ap (λ i. take i (codes "ZM")) (sym (eqb-true n 2 two))))
       (or_cases (eqb n 1) (eqb n 2) h)
 
-  behind : (a : ℕ) (l : Lexeme) (s last f : State) (b : ℕ) (bytes : List ℕ) → goes_on l b ≡ false → ending l s ≡ Some last → Lexed a lexemes.Blank last f (b ∷ bytes) → Lexed a l s f (b ∷ bytes)
-  behind a lexemes.Blank s last f b bytes g e w = let same : s ≡ last = some_equal s last e in subst (λ (x : State). Lexed a lexemes.Blank x f (b ∷ bytes)) (sym same) w
+  behind : (a : ℕ) (l : Lexeme) (s last f : ParserState) (b : ℕ) (bytes : List ℕ) → goes_on l b ≡ false → ending l s ≡ Some last → Lexed a lexemes.Blank last f (b ∷ bytes) → Lexed a l s f (b ∷ bytes)
+  behind a lexemes.Blank s last f b bytes g e w = let same : s ≡ last = some_equal s last e in subst (λ (x : ParserState). Lexed a lexemes.Blank x f (b ∷ bytes)) (sym same) w
   behind a (lexemes.Word at k n) s last f b bytes g e (tokens, spelled, r) =
       let whole = when_so (is_complete k n) (step s (symbol_of k at)) last e in
       let token = complete_token k n at whole.0 in (
@@ -244,7 +244,7 @@ module _ (cap : ℕ) where
       )
 
   -- the same at the end of the bytes
-  at_end : (a : ℕ) (l : Lexeme) (s f : State) → ending l s ≡ Some f → Lexed a l s f []
+  at_end : (a : ℕ) (l : Lexeme) (s f : ParserState) → ending l s ≡ Some f → Lexed a l s f []
   at_end a lexemes.Blank s f e = ([], tt, e)
   at_end a (lexemes.Word at k n) s f e =
       let whole = when_so (is_complete k n) (step s (symbol_of k at)) f e in
@@ -266,9 +266,9 @@ module _ (cap : ℕ) where
   -- ---- a byte that goes on with a lexeme
 
   abbrev Known : List ℕ → Type 0
-  Known bytes = (a : ℕ) (l : Lexeme) (s f : State) → read_bytes cap a l s bytes ≡ Some f → Lexed a l s f bytes
+  Known bytes = (a : ℕ) (l : Lexeme) (s f : ParserState) → read_bytes cap a l s bytes ≡ Some f → Lexed a l s f bytes
 
-  word_goes : (at a : ℕ) (k : Keyword) (n : ℕ) (s f : State) (b : ℕ) (bytes : List ℕ) → n < length (letters k) → to_ascii_uppercase b ≡ get_or (letters k) n 0 → Lexed (a + 1) (lexemes.Word at k (n + 1)) s f bytes → Lexed a (lexemes.Word at k n) s f (b ∷ bytes)
+  word_goes : (at a : ℕ) (k : Keyword) (n : ℕ) (s f : ParserState) (b : ℕ) (bytes : List ℕ) → n < length (letters k) → to_ascii_uppercase b ≡ get_or (letters k) n 0 → Lexed (a + 1) (lexemes.Word at k (n + 1)) s f bytes → Lexed a (lexemes.Word at k n) s f (b ∷ bytes)
   word_goes at a k n s f b bytes h u (token, typed, rest, tokens, is_token, same_letters, same, spelled, r) =
       let place : a + 1 + length typed ≡ a + suc (length typed) = omega arith in (
         token,
@@ -282,12 +282,12 @@ module _ (cap : ℕ) where
         r,
       )
 
-  number_goes : (a : ℕ) (n x : NumberRead) (s f : State) (b : ℕ) (bytes : List ℕ) → number_on cap n b ≡ Some x → Lexed (a + 1) (lexemes.Number x) s f bytes → Lexed a (lexemes.Number n) s f (b ∷ bytes)
+  number_goes : (a : ℕ) (n x : NumberRead) (s f : ParserState) (b : ℕ) (bytes : List ℕ) → number_on cap n b ≡ Some x → Lexed (a + 1) (lexemes.Number x) s f bytes → Lexed a (lexemes.Number n) s f (b ∷ bytes)
   number_goes a n x s f b bytes e (m, tail, rest, tokens, t, digit, same, spelled, r) =
       let place : a + 1 + length tail ≡ a + suc (length tail) = omega arith in
       (m, b ∷ tail, rest, tokens, ap (option_and_then (λ y. through cap y tail)) e ∙ t, digit, ap (λ xs. b ∷ xs) same, (λ z. subst (λ (i : ℕ). Spells i (Some (Number z)) tokens rest) place (spelled z)), r)
 
-  goes : (a : ℕ) (l : Lexeme) (s f : State) (b : ℕ) (bytes : List ℕ) (more : Lexeme) → goes_on l b ≡ true → typed_on cap l b ≡ Some more → Lexed (a + 1) more s f bytes → Lexed a l s f (b ∷ bytes)
+  goes : (a : ℕ) (l : Lexeme) (s f : ParserState) (b : ℕ) (bytes : List ℕ) (more : Lexeme) → goes_on l b ≡ true → typed_on cap l b ≡ Some more → Lexed (a + 1) more s f bytes → Lexed a l s f (b ∷ bytes)
   goes a lexemes.Blank s f b bytes more g e w = absurd (false≢true g)
   goes a (lexemes.Word at k n) s f b bytes more g e w =
       let typed = mapped (letter_on k n b) (λ i. lexemes.Word at k i) more e in
@@ -349,7 +349,7 @@ module _ (cap : ℕ) where
         subst (λ (i : ℕ). Spells i (Some token) tokens rest) place more,
       )
 
-  begins_word : (a : ℕ) (s f : State) (b : ℕ) (bytes : List ℕ) (k : Keyword) → take 1 (letters k) ≡ to_ascii_uppercase b ∷ [] → Lexed (a + 1) (lexemes.Word a k 1) s f bytes → Lexed a lexemes.Blank s f (b ∷ bytes)
+  begins_word : (a : ℕ) (s f : ParserState) (b : ℕ) (bytes : List ℕ) (k : Keyword) → take 1 (letters k) ≡ to_ascii_uppercase b ∷ [] → Lexed (a + 1) (lexemes.Word a k 1) s f bytes → Lexed a lexemes.Blank s f (b ∷ bytes)
   begins_word a s f b bytes k first (token, typed, rest, tokens, is_token, same_letters, same, spelled, r) =
       (token ∷ tokens, token_first token a b typed rest bytes tokens (word_spelled token a (b ∷ typed) is_token.is_word is_token.is_at (same_letters ∙ ap (λ xs. xs ++ map to_ascii_uppercase typed) first)) same spelled, r)
 
@@ -393,7 +393,7 @@ module _ (cap : ℕ) where
       (λ _ h. numeral_from [] (b ∷ tail) a false m (inr refl) digit (digits_of (b ∷ tail) a false false 0 m (omega arith) (ap (option_and_then (λ x. through cap x tail)) h ∙ t))))
       e
 
-  begins_number : (a : ℕ) (s f : State) (b : ℕ) (bytes : List ℕ) (n : NumberRead) → number_begun cap a b ≡ Some n → Lexed (a + 1) (lexemes.Number n) s f bytes → Lexed a lexemes.Blank s f (b ∷ bytes)
+  begins_number : (a : ℕ) (s f : ParserState) (b : ℕ) (bytes : List ℕ) (n : NumberRead) → number_begun cap a b ≡ Some n → Lexed (a + 1) (lexemes.Number n) s f bytes → Lexed a lexemes.Blank s f (b ∷ bytes)
   begins_number a s f b bytes n e (m, tail, rest, tokens, t, digit, same, spelled, r) =
       let read = numeral_begun b tail a n m e t digit in (
         Number read.numeral ∷ tokens,
@@ -401,7 +401,7 @@ module _ (cap : ℕ) where
         ap (λ symbol. option_and_then (λ after. run cap after tokens) (step s symbol)) read.seen_as ∙ r,
       )
 
-  begins_mark : (token : Token) (mark a : ℕ) (s last f : State) (b : ℕ) (bytes : List ℕ) → ((next : Token) → is_alike (Some token) next ≡ false) → IsSpelled a token (mark ∷ []) → b ≡ mark → step s (seen cap token) ≡ Some last → Lexed (a + 1) lexemes.Blank last f bytes → Lexed a lexemes.Blank s f (b ∷ bytes)
+  begins_mark : (token : Token) (mark a : ℕ) (s last f : ParserState) (b : ℕ) (bytes : List ℕ) → ((next : Token) → is_alike (Some token) next ≡ false) → IsSpelled a token (mark ∷ []) → b ≡ mark → step s (seen cap token) ≡ Some last → Lexed (a + 1) lexemes.Blank last f bytes → Lexed a lexemes.Blank s f (b ∷ bytes)
   begins_mark token mark a s last f b bytes apart spelled here e (tokens, more, r) = (
     token ∷ tokens,
     token_first token a b [] bytes bytes tokens (subst (λ (c : ℕ). IsSpelled a token (c ∷ [])) (sym here) spelled) refl
@@ -409,25 +409,25 @@ module _ (cap : ℕ) where
     ap (option_and_then (λ after. run cap after tokens)) e ∙ r,
   )
 
-  begins_some : (a : ℕ) (s f : State) (b : ℕ) (bytes : List ℕ) → Known bytes → (p : Lexeme × State) → beginning cap a s b ≡ Some p → read_bytes cap (a + 1) p.0 p.1 bytes ≡ Some f → Lexed a lexemes.Blank s f (b ∷ bytes)
+  begins_some : (a : ℕ) (s f : ParserState) (b : ℕ) (bytes : List ℕ) → Known bytes → (p : Lexeme × ParserState) → beginning cap a s b ≡ Some p → read_bytes cap (a + 1) p.0 p.1 bytes ≡ Some f → Lexed a lexemes.Blank s f (b ∷ bytes)
   begins_some a s f b bytes known =
-      let Q : (Lexeme × State) → Type 0 = λ p. read_bytes cap (a + 1) p.0 p.1 bytes ≡ Some f → Lexed a lexemes.Blank s f (b ∷ bytes) in
-      let P : Option (Lexeme × State) → Type 0 = λ o. (p : Lexeme × State) → o ≡ Some p → Q p in
+      let Q : (Lexeme × ParserState) → Type 0 = λ p. read_bytes cap (a + 1) p.0 p.1 bytes ≡ Some f → Lexed a lexemes.Blank s f (b ∷ bytes) in
+      let P : Option (Lexeme × ParserState) → Type 0 = λ o. (p : Lexeme × ParserState) → o ≡ Some p → Q p in
       let mark : (token : Token) (c : ℕ) → ((next : Token) → is_alike (Some token) next ≡ false) → IsSpelled a token (c ∷ []) → eqb b c ≡ true → P (option_map (λ after. (lexemes.Blank, after)) (step s (seen cap token)))
       = λ token c apart spelled w p e r.
       let stepped = mapped (step s (seen cap token)) (λ after. (lexemes.Blank, after)) p e in
-      begins_mark token c a s stepped.0 f b bytes apart spelled (eqb-true b c w) stepped.1 (known (a + 1) lexemes.Blank stepped.0 f (ap (λ (q : Lexeme × State). read_bytes cap (a + 1) q.0 q.1 bytes) stepped.2 ∙ r)) in
+      begins_mark token c a s stepped.0 f b bytes apart spelled (eqb-true b c w) stepped.1 (known (a + 1) lexemes.Blank stepped.0 f (ap (λ (q : Lexeme × ParserState). read_bytes cap (a + 1) q.0 q.1 bytes) stepped.2 ∙ r)) in
       cond_both (is_white b) _ _ P (λ w p e r.
-      let h = known (a + 1) lexemes.Blank s f (ap (λ (q : Lexeme × State). read_bytes cap (a + 1) q.0 q.1 bytes) (some_equal (lexemes.Blank, s) p e) ∙ r) in
+      let h = known (a + 1) lexemes.Blank s f (ap (λ (q : Lexeme × ParserState). read_bytes cap (a + 1) q.0 q.1 bytes) (some_equal (lexemes.Blank, s) p e) ∙ r) in
       (h.0, white_before b w h.0 a bytes h.1, h.2)) (λ _.
       cond_both (is_letter b) _ _ P (λ w p e r.
       let begun = mapped (keyword_at s.place (to_ascii_uppercase b)) (λ k. (lexemes.Word a k 1, s)) p e in
       begins_word a s f b bytes begun.0 (keyword_first s.place (to_ascii_uppercase b) begun.0 begun.1)
-      (known (a + 1) (lexemes.Word a begun.0 1) s f (ap (λ (q : Lexeme × State). read_bytes cap (a + 1) q.0 q.1 bytes) begun.2 ∙ r))) (λ _.
+      (known (a + 1) (lexemes.Word a begun.0 1) s f (ap (λ (q : Lexeme × ParserState). read_bytes cap (a + 1) q.0 q.1 bytes) begun.2 ∙ r))) (λ _.
       cond_both (is_number_byte b) _ _ P (λ w p e r.
       let taken = when_so (takes_number s.place) (option_map (λ n. (lexemes.Number n, s)) (number_begun cap a b)) p e in
       let begun = mapped (number_begun cap a b) (λ n. (lexemes.Number n, s)) p taken.1 in
-      begins_number a s f b bytes begun.0 begun.1 (known (a + 1) (lexemes.Number begun.0) s f (ap (λ (q : Lexeme × State). read_bytes cap (a + 1) q.0 q.1 bytes) begun.2 ∙ r))) (λ _.
+      begins_number a s f b bytes begun.0 begun.1 (known (a + 1) (lexemes.Number begun.0) s f (ap (λ (q : Lexeme × ParserState). read_bytes cap (a + 1) q.0 q.1 bytes) begun.2 ∙ r))) (λ _.
       cond_both (eqb b 40) _ _ P (mark Open 40 (λ _. refl) refl) (λ _.
       cond_both (eqb b 41) _ _ P (mark Close 41 (λ _. refl) refl) (λ _.
       cond_both (eqb b 44) _ _ P (mark Comma 44 (λ _. refl) refl) (λ _.
@@ -435,16 +435,16 @@ module _ (cap : ℕ) where
 
   -- ---- all bytes
 
-  by_byte : (a : ℕ) (l : Lexeme) (s f : State) (b : ℕ) (bytes : List ℕ) → Known bytes → (g : Bool) → goes_on l b ≡ g
-      → option_and_then (λ (p : Lexeme × State). read_bytes cap (a + 1) p.0 p.1 bytes)
+  by_byte : (a : ℕ) (l : Lexeme) (s f : ParserState) (b : ℕ) (bytes : List ℕ) → Known bytes → (g : Bool) → goes_on l b ≡ g
+      → option_and_then (λ (p : Lexeme × ParserState). read_bytes cap (a + 1) p.0 p.1 bytes)
       (cond g (option_map (λ more. (more, s)) (typed_on cap l b)) (option_and_then (λ after. beginning cap a after b) (ending l s))) ≡ Some f
       → Lexed a l s f (b ∷ bytes)
   by_byte a l s f b bytes known true g e =
-      let next = opened (option_map (λ (more : Lexeme). (more, s)) (typed_on cap l b)) (λ (p : Lexeme × State). read_bytes cap (a + 1) p.0 p.1 bytes) f e in
+      let next = opened (option_map (λ (more : Lexeme). (more, s)) (typed_on cap l b)) (λ (p : Lexeme × ParserState). read_bytes cap (a + 1) p.0 p.1 bytes) f e in
       let typed = mapped (typed_on cap l b) (λ (more : Lexeme). (more, s)) next.0 next.1 in
-      goes a l s f b bytes typed.0 g typed.1 (known (a + 1) typed.0 s f (ap (λ (q : Lexeme × State). read_bytes cap (a + 1) q.0 q.1 bytes) typed.2 ∙ next.2))
+      goes a l s f b bytes typed.0 g typed.1 (known (a + 1) typed.0 s f (ap (λ (q : Lexeme × ParserState). read_bytes cap (a + 1) q.0 q.1 bytes) typed.2 ∙ next.2))
   by_byte a l s f b bytes known false g e =
-      let next = opened (option_and_then (λ after. beginning cap a after b) (ending l s)) (λ (p : Lexeme × State). read_bytes cap (a + 1) p.0 p.1 bytes) f e in
+      let next = opened (option_and_then (λ after. beginning cap a after b) (ending l s)) (λ (p : Lexeme × ParserState). read_bytes cap (a + 1) p.0 p.1 bytes) f e in
       let last = opened (ending l s) (λ after. beginning cap a after b) next.0 next.1 in
       behind a l s last.0 f b bytes g last.1 (begins_some a last.0 f b bytes known next.0 last.2 next.2)
 
@@ -453,5 +453,5 @@ module _ (cap : ℕ) where
   lexed (b ∷ bytes) a l s f e = by_byte a l s f b bytes (lexed bytes) (goes_on l b) refl e
 
   -- bytes that are taken from the start spell tokens that the parser takes
-  pub spelled-read_bytes : (bytes : List ℕ) (s f : State) → read_bytes cap 0 lexemes.Blank s bytes ≡ Some f → (tokens : List Token) × Spells 0 None tokens bytes × (run cap s tokens ≡ Some f)
+  pub spelled-read_bytes : (bytes : List ℕ) (s f : ParserState) → read_bytes cap 0 lexemes.Blank s bytes ≡ Some f → (tokens : List Token) × Spells 0 None tokens bytes × (run cap s tokens ≡ Some f)
   spelled-read_bytes bytes s f e = lexed bytes 0 lexemes.Blank s f e

@@ -1,11 +1,12 @@
 -- A file has at most one reading: whatever the cap of sizes, the machine reads the same of it.
 use Rattle.std.proofs.Common.{◌≡◌, ℕ, ◌+◌, ◌≤◌, List, [], ◌∷◌, flat_map, sym, ap, ◌∙◌, arith}
 use Rattle.std.specs.List.{AllByRecursion}
+use Rattle.cov_types.specs.Coverage.{Members}
 use Rattle.geo_text.specs.Token.{Numeral, value, signed, number_from}
 use Rattle.geo_text.specs.Grammar.{Geometry}
 use Rattle.geo_text.specs.Reading.{elements, coverage, Reads}
 use Rattle.geo_text.specs.Fault.{numbers}
-use Rattle.geo_text.specs.Machine.{State, Members}
+use Rattle.geo_text.specs.Machine.{ParserState}
 use Rattle.geo_text.proofs.Options.{some_equal}
 use Rattle.geo_text.proofs.Limits.{limit-signed, capped-small}
 use Rattle.geo_text.proofs.Keeping.{read_value}
@@ -30,4 +31,4 @@ pub one_reading : (bytes : List ℕ) (c d : Members) → Reads bytes c → Reads
 one_reading bytes c d (gs, is_file, c_is) (hs, is_file_too, d_is) =
     let cap = sizes (numbers gs) + sizes (numbers hs) in
     let same : end_of cap gs ≡ end_of cap hs = some_equal (end_of cap gs) (end_of cap hs) (sym (read_bytes-file cap bytes gs is_file) ∙ read_bytes-file cap bytes hs is_file_too) in
-    c_is ∙ sym (members_read cap gs (omega arith)) ∙ ap (λ (s : State). s.kept.members) same ∙ members_read cap hs (omega arith) ∙ sym d_is
+    c_is ∙ sym (members_read cap gs (omega arith)) ∙ ap (λ (s : ParserState). s.kept.members) same ∙ members_read cap hs (omega arith) ∙ sym d_is

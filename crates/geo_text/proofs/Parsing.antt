@@ -2,12 +2,13 @@
 use Rattle.std.proofs.Common.{◌≡◌, is_some, ℕ, ◌-◌, Bool, true, false, List, [], ◌∷◌, ◌++◌, length, map, take, flat_map, filter, Option, Some, None, option_and_then, sym, refl, ap, ap₂, ◌∙◌, append_assoc, append-nil}
 use Rattle.std.proofs.lemmas.Grind.{flat_map-append}
 use Rattle.std.proofs.lemmas.List.{length-map, map-append}
+use Rattle.cov_types.specs.Coverage.{Members}
 use Rattle.cov_types.specs.declared.coord.Coord.{Coord}
 use Rattle.geo_text.specs.Token.{Polygon, MultiPolygon, Dimension, Numeral, Token, Word, Dimensions, Number, Open, Close, Comma}
 use Rattle.geo_text.specs.Grammar.{Position, Two, Three, Four, Ring, Element, OnePolygon, ManyPolygons, Geometry, Single, Collection, body, dimension, position, ring, polygon_body, multi_body, element, geometry, file}
 use Rattle.geo_text.specs.Reading.{positions, elements, bodies, has_ring}
 use Rattle.geo_text.specs.Fault.{rings_of, rings, position_numbers, dimension_places, third_places, ring_extras, element_extras, geometry_extras, extra_places}
-use Rattle.geo_text.specs.Machine.{Kept, State, Symbol, Named, Axes, Numbered, Opening, Closing, Separator, at, start, step, no_faults, ring_kept, member_kept, element_end, body_end, with_extra, with_number, with_ring}
+use Rattle.geo_text.specs.Machine.{Kept, ParserState, Symbol, Named, Axes, Numbered, Opening, Closing, Separator, at, start, step, no_faults, ring_kept, member_kept, element_end, body_end, with_extra, with_number, with_ring}
 use Rattle.geo_text.specs.declared.faults.Faults.{Faults}
 use Rattle.geo_text.specs.declared.place.Body.{Body}
 use Rattle.geo_text.specs.declared.place.Body.TheVariants as kinds
@@ -26,12 +27,9 @@ module _ (cap : ℕ) where
   seen Comma = Separator
 
   -- the state behind tokens
-  abbrev pub run : State → List Token → Option State
+  abbrev pub run : ParserState → List Token → Option ParserState
   run s [] = Some s
   run s (token ∷ tokens) = option_and_then (λ after. run after tokens) (step s (seen token))
-
-  abbrev pub Members : Type 0
-  Members = List (List (List (List Coord)))
 
   abbrev pub kept : Members → List (List (List Coord)) → List (List Coord) → List Coord → Faults → Kept
   kept ms ps rs qs f = record { members = ms; polys = ps; rings = rs; points = qs; faults = f }
@@ -301,7 +299,7 @@ module _ (cap : ℕ) where
       ∙ ap (grown cap f (extra_places (g ∷ gs))) (sym (flat_map-append rings_of (elements g) (flat_map elements gs))))
 
   -- the state behind a file
-  abbrev pub end_of : List Geometry → State
+  abbrev pub end_of : List Geometry → ParserState
   end_of gs = at Outside false false (with_file gs [] no_faults)
 
   -- the machine takes each file

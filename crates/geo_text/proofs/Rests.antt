@@ -3,7 +3,7 @@ use Rattle.std.proofs.Common.{◌≡◌, ℕ, suc, ◌+◌, ◌<◌, ◌≤◌, 
 use Rattle.std.proofs.lemmas.Bool.{false≢true}
 use Rattle.geo_text.specs.Token.{Polygon, MultiPolygon, GeometryCollection, Empty, Dimension, Numeral, Token, Word, Dimensions, Number, Open, Close, Comma}
 use Rattle.geo_text.specs.Grammar.{Position, Two, Three, Four, Ring, Element, OnePolygon, ManyPolygons, Geometry, Single, Collection, bracketed, body, dimension, position, ring, polygon_body, multi_body, element, file}
-use Rattle.geo_text.specs.Machine.{Kept, State, at, start, body_end, element_end, member_kept}
+use Rattle.geo_text.specs.Machine.{Kept, ParserState, at, start, body_end, element_end, member_kept}
 use Rattle.geo_text.specs.declared.place.Body.TheVariants as kinds
 use Rattle.geo_text.specs.declared.place.Place.{Place}
 use Rattle.geo_text.specs.declared.place.Place.TheVariants.{Outside, Head, ElementStart, ElementEnd, BodyStart, BodyEnd, RingStart, PositionStart, SecondNumber, PositionEnd, RingEnd}
@@ -143,18 +143,18 @@ module _ (cap : ℕ) where
   -- ---- each step
 
   abbrev Sound : List Token → Type 0
-  Sound ts = (place : Place) (c m : Bool) (k : Kept) (f : State) → run cap (at place c m k) ts ≡ Some f → f.place ≡ Outside → Rest place c m ts
+  Sound ts = (place : Place) (c m : Bool) (k : Kept) (f : ParserState) → run cap (at place c m k) ts ≡ Some f → f.place ≡ Outside → Rest place c m ts
 
-  behind_element : (ts : List Token) → Sound ts → (c : Bool) (k : Kept) (f : State) → run cap (element_end c k) ts ≡ Some f → f.place ≡ Outside → ElementEndRest c ts
+  behind_element : (ts : List Token) → Sound ts → (c : Bool) (k : Kept) (f : ParserState) → run cap (element_end c k) ts ≡ Some f → f.place ≡ Outside → ElementEndRest c ts
   behind_element ts sound true k f e h = sound ElementEnd true false (member_kept k) f e h refl refl
   behind_element ts sound false k f e h = sound Outside false false (member_kept k) f e h refl refl
 
-  behind_body : (ts : List Token) → Sound ts → (c m : Bool) (k : Kept) (f : State) → run cap (body_end c m k) ts ≡ Some f → f.place ≡ Outside → BodyEndRest c m ts
+  behind_body : (ts : List Token) → Sound ts → (c m : Bool) (k : Kept) (f : ParserState) → run cap (body_end c m k) ts ≡ Some f → f.place ≡ Outside → BodyEndRest c m ts
   behind_body ts sound c true k f e h = sound BodyEnd c true k f e h refl
   behind_body ts sound c false k f e h = behind_element ts sound c k f e h
 
   -- a token that is taken only where a test holds
-  taken : {A : Type 0} (b : Bool) (s : State) (f : State → Option A) (r : A) → option_and_then f (cond b (Some s) None) ≡ Some r → (b ≡ true) × (f s ≡ Some r)
+  taken : {A : Type 0} (b : Bool) (s : ParserState) (f : ParserState → Option A) (r : A) → option_and_then f (cond b (Some s) None) ≡ Some r → (b ≡ true) × (f s ≡ Some r)
   taken true s f r e = (refl, e)
   taken false s f r e = absurd (none_some r e)
 
@@ -238,8 +238,8 @@ module _ (cap : ℕ) where
   sound_step t ts sound (Head kinds.GeometryCollection came) c m k f e h = absurd (none_some f e)
   sound_step t ts sound place c m k f e h = absurd (none_some f e)
 
-  ends : (s f : State) → Some s ≡ Some f → f.place ≡ Outside → s.place ≡ Outside
-  ends s f e h = let same : s ≡ f = cc in ap (λ (t : State). t.place) same ∙ h
+  ends : (s f : ParserState) → Some s ≡ Some f → f.place ≡ Outside → s.place ≡ Outside
+  ends s f e h = let same : s ≡ f = cc in ap (λ (t : ParserState). t.place) same ∙ h
 
   outside_only : (place : Place) (c m : Bool) → place ≡ Outside → Rest place c m []
   outside_only Outside c m e = λ ec em. ([], refl)
@@ -253,5 +253,5 @@ module _ (cap : ℕ) where
   sound (t ∷ ts) place c m k f e h = sound_step t ts (sound ts) place c m k f e h
 
   -- what the machine takes is a file
-  pub file-run : (ts : List Token) (f : State) → run cap start ts ≡ Some f → f.place ≡ Outside → (gs : List Geometry) × (ts ≡ file gs)
+  pub file-run : (ts : List Token) (f : ParserState) → run cap start ts ≡ Some f → f.place ≡ Outside → (gs : List Geometry) × (ts ≡ file gs)
   file-run ts f e h = sound ts Outside false false start.kept f e h refl refl

@@ -9,11 +9,12 @@ use Rattle.std.proofs.lemmas.Bool.{and_parts, and_from, false≢true, cases_lt}
 use Rattle.std.proofs.lemmas.Bool.Decides.{Decides-int_eq}
 use Rattle.std.proofs.lemmas.List.Elements.{All-nil, All-cons, All-head, All-tail}
 use Rattle.cov_types.specs.declared.coord.Coord.{Coord}
+use Rattle.cov_types.specs.Coord.{is_same_coord}
 use Rattle.geo_text.specs.Token.{Numeral, value}
 use Rattle.geo_text.specs.Grammar.{Position, Two, Three, Four, Ring, Element}
 use Rattle.geo_text.specs.Reading.{coordinate, positions, bodies, has_ring}
 use Rattle.geo_text.specs.Fault.{position_numbers, ring_numbers, rings_of, IsRingLong, IsRingClosed, IsRingFine, IsBehindFine}
-use Rattle.geo_text.specs.Machine.{same_coord, origin, is_closed, ring_fault}
+use Rattle.geo_text.specs.Machine.{origin, is_closed, ring_fault}
 use Rattle.geo_text.specs.declared.error.TextFault.{TextFault}
 use Rattle.geo_text.specs.declared.error.TextFault.TheVariants.{RingShort, RingOpen}
 use Rattle.geo_text.proofs.Options.{some_equal, split_append}
@@ -90,13 +91,13 @@ slice_get_at [] i d h = absurd (omega arith)
 slice_get_at (x ∷ xs) zero d h = refl
 slice_get_at (x ∷ xs) (suc i) d h = slice_get_at xs i d (le_of_suc-le-suc h)
 
-same_coord-true : (a b : Coord) → same_coord a b ≡ true → a ≡ b
-same_coord-true a b e =
+is_same_coord-true : (a b : Coord) → is_same_coord a b ≡ true → a ≡ b
+is_same_coord-true a b e =
     let h = and_parts (int_eq a.x b.x) (int_eq a.y b.y) e in
     ap (λ (t : ℤ). record { x = t; y = a.y }) ((Decides-int_eq a.x b.x).0 h.0) ∙ ap (λ (t : ℤ). record { x = b.x; y = t }) ((Decides-int_eq a.y b.y).0 h.1)
 
-same_coord-refl : (a b : Coord) → a ≡ b → same_coord a b ≡ true
-same_coord-refl a b e =
+is_same_coord-refl : (a b : Coord) → a ≡ b → is_same_coord a b ≡ true
+is_same_coord-refl a b e =
     and_from (int_eq a.x b.x) (int_eq a.y b.y) ((Decides-int_eq a.x b.x).1 (ap (λ (c : Coord). c.x) e)) ((Decides-int_eq a.y b.y).1 (ap (λ (c : Coord). c.y) e))
 
 -- the last point, as a value
@@ -105,10 +106,10 @@ last_is r =
     ap (λ n. slice_get (coordinates r) (n - 1)) (sym (length-coordinates r)) ∙ slice_get_at (coordinates r) (length (coordinates r) - 1) origin (omega arith)
 
 is_closed-true : (r : Ring) → IsRingClosed r → is_closed (coordinates r) ≡ true
-is_closed-true r h = same_coord-refl _ _ (some_equal _ _ (sym (last_is r) ∙ h))
+is_closed-true r h = is_same_coord-refl _ _ (some_equal _ _ (sym (last_is r) ∙ h))
 
 true-is_closed : (r : Ring) → is_closed (coordinates r) ≡ true → IsRingClosed r
-true-is_closed r e = last_is r ∙ ap Some (same_coord-true _ _ e)
+true-is_closed r e = last_is r ∙ ap Some (is_same_coord-true _ _ e)
 
 is_short : (r : Ring) → (IsRingLong r → ⊥) → ltb (length (coordinates r)) 4 ≡ true
 is_short r h = lt-ltb (length (coordinates r)) 4 (⊎_elim (λ k. k) (λ k. absurd (h (omega (arith, k, length-coordinates r)))) (cases_lt (length (coordinates r)) 4))

@@ -4,7 +4,7 @@ use Rattle.std.proofs.lemmas.List.{length-map}
 use Rattle.std.proofs.Math.Bool.{or-true}
 use Rattle.std.specs.Char.{to_ascii_uppercase}
 use Rattle.geo_text.specs.Token.{Name, Polygon, MultiPolygon, GeometryCollection, Empty, Axes, Z, M, ZM, Numeral, Token, Word, Dimensions, Number, Open, Close, Comma, IsWhite, IsNumeral, IsSign, IsPoint, AreDigits, IsSpelled, IsWord, letters_of, axes_letters, is_word, is_number, is_alike, number_from, value, Spells}
-use Rattle.geo_text.specs.Machine.{Kept, State, Named, Axes as AxesAt, Numbered, step, step_at, letters, symbol_of, is_complete, keyword_at, takes_number, is_number_byte, is_letter, capped, goes_on, ending}
+use Rattle.geo_text.specs.Machine.{Kept, ParserState, Named, Axes as AxesAt, Numbered, step, step_at, letters, symbol_of, is_complete, keyword_at, takes_number, is_number_byte, is_letter, capped, goes_on, ending}
 use Rattle.geo_text.specs.declared.keyword.Keyword.{Keyword}
 use Rattle.geo_text.specs.declared.keyword.Keyword.TheVariants as keywords
 use Rattle.geo_text.specs.declared.lexeme.Lexeme.{Lexeme}
@@ -44,7 +44,7 @@ module _ (cap : ℕ) where
   axes_letter ZM = 90
 
   -- where the parser takes a word, its first letter begins that word
-  expected_name : (name : Name) (place : Place) (c m : Bool) (k : Kept) (s : State) → step_at place (Named name) c m k ≡ Some s → keyword_at place (first_letter name) ≡ Some (keyword_of name)
+  expected_name : (name : Name) (place : Place) (c m : Bool) (k : Kept) (s : ParserState) → step_at place (Named name) c m k ≡ Some s → keyword_at place (first_letter name) ≡ Some (keyword_of name)
   expected_name Polygon Outside c m k s e = refl
   expected_name MultiPolygon Outside c m k s e = refl
   expected_name GeometryCollection Outside c m k s e = refl
@@ -58,17 +58,17 @@ module _ (cap : ℕ) where
   expected_name name (Head kinds.GeometryCollection d) c m k s e = absurd (none_some s e)
   expected_name name place c m k s e = absurd (none_some s e)
 
-  expected_axes : (axes : Axes) (a : ℕ) (place : Place) (c m : Bool) (k : Kept) (s : State) → step_at place (AxesAt a) c m k ≡ Some s → keyword_at place (axes_letter axes) ≡ Some (axes_keyword axes)
+  expected_axes : (axes : Axes) (a : ℕ) (place : Place) (c m : Bool) (k : Kept) (s : ParserState) → step_at place (AxesAt a) c m k ≡ Some s → keyword_at place (axes_letter axes) ≡ Some (axes_keyword axes)
   expected_axes Z a (Head kind false) c m k s e = refl
   expected_axes M a (Head kind false) c m k s e = refl
   expected_axes ZM a (Head kind false) c m k s e = refl
   expected_axes axes a place c m k s e = absurd (none_some s e)
 
-  when_taken : (b : Bool) (x y : State) → cond b (Some x) None ≡ Some y → b ≡ true
+  when_taken : (b : Bool) (x y : ParserState) → cond b (Some x) None ≡ Some y → b ≡ true
   when_taken true x y e = refl
   when_taken false x y e = absurd (none_some y e)
 
-  expected_number : (a : ℕ) (v : ℤ) (w : Bool) (place : Place) (c m : Bool) (k : Kept) (s : State) → step_at place (Numbered a v w) c m k ≡ Some s → takes_number place ≡ true
+  expected_number : (a : ℕ) (v : ℤ) (w : Bool) (place : Place) (c m : Bool) (k : Kept) (s : ParserState) → step_at place (Numbered a v w) c m k ≡ Some s → takes_number place ≡ true
   expected_number a v w PositionStart c m k s e = refl
   expected_number a v w (SecondNumber x) c m k s e = refl
   expected_number a v w (PositionEnd n) c m k s e = when_taken (ltb n 2) _ s e
@@ -86,14 +86,14 @@ module _ (cap : ℕ) where
   Pending (lexemes.Number n) previous = (t : Token) × (previous ≡ Some t) × (is_number t ≡ true)
 
   -- behind `a` bytes and the state s, the bytes of the token lead to a lexeme that ends with the state `last`
-  record Leaves (a : ℕ) (s last : State) (token : Token) (spelling : List ℕ) : Type 0 where
+  record Leaves (a : ℕ) (s last : ParserState) (token : Token) (spelling : List ℕ) : Type 0 where
     lexeme : Lexeme
-    state : State
+    state : ParserState
     ended_is : ending lexeme state ≡ Some last
     pending : Pending lexeme (Some token)
     steps : (rest : List ℕ) → read_bytes cap a lexemes.Blank s (spelling ++ rest) ≡ read_bytes cap (a + length spelling) lexeme state rest
 
-  leaves_word : (k : Keyword) (letter : ℕ) (others : List ℕ) (token : Token) (a : ℕ) (s last : State) (spelling : List ℕ)
+  leaves_word : (k : Keyword) (letter : ℕ) (others : List ℕ) (token : Token) (a : ℕ) (s last : ParserState) (spelling : List ℕ)
       → is_word token ≡ true → is_capital cap letter ≡ true → others ≡ take (length others) (drop 1 (letters k)) → is_complete k (1 + length others) ≡ true
       → keyword_at s.place letter ≡ Some k → step s (symbol_of k a) ≡ Some last → IsWord (letter ∷ others) spelling → Leaves a s last token spelling
   leaves_word k letter others token a s last [] w capital prefix complete expected e h = absurd (cc)
@@ -112,21 +112,21 @@ module _ (cap : ℕ) where
             ∙ ap (λ i. read_bytes cap i (lexemes.Word a k (1 + length typed)) s rest) (omega arith);
       }
 
-  leaves_mark : (mark : ℕ) (token : Token) (a : ℕ) (s last : State) → ((bytes : List ℕ) → read_bytes cap a lexemes.Blank s (mark ∷ bytes) ≡ read_bytes cap (a + 1) lexemes.Blank last bytes) → Leaves a s last token (mark ∷ [])
+  leaves_mark : (mark : ℕ) (token : Token) (a : ℕ) (s last : ParserState) → ((bytes : List ℕ) → read_bytes cap a lexemes.Blank s (mark ∷ bytes) ≡ read_bytes cap (a + 1) lexemes.Blank last bytes) → Leaves a s last token (mark ∷ [])
   leaves_mark mark token a s last h = record { lexeme = lexemes.Blank; state = last; ended_is = refl; pending = tt; steps = h }
 
-  leaves_name : (name : Name) (a : ℕ) (s last : State) (spelling : List ℕ) → step s (Named name) ≡ Some last → IsWord (letters_of name) spelling → Leaves a s last (Word name) spelling
+  leaves_name : (name : Name) (a : ℕ) (s last : ParserState) (spelling : List ℕ) → step s (Named name) ≡ Some last → IsWord (letters_of name) spelling → Leaves a s last (Word name) spelling
   leaves_name Polygon a s last spelling e h = leaves_word keywords.Polygon 80 (codes "OLYGON") (Word Polygon) a s last spelling refl refl refl refl (expected_name Polygon s.place s.in_collection s.in_multi s.kept last e) e h
   leaves_name MultiPolygon a s last spelling e h = leaves_word keywords.MultiPolygon 77 (codes "ULTIPOLYGON") (Word MultiPolygon) a s last spelling refl refl refl refl (expected_name MultiPolygon s.place s.in_collection s.in_multi s.kept last e) e h
   leaves_name GeometryCollection a s last spelling e h = leaves_word keywords.GeometryCollection 71 (codes "EOMETRYCOLLECTION") (Word GeometryCollection) a s last spelling refl refl refl refl (expected_name GeometryCollection s.place s.in_collection s.in_multi s.kept last e) e h
   leaves_name Empty a s last spelling e h = leaves_word keywords.Empty 69 (codes "MPTY") (Word Empty) a s last spelling refl refl refl refl (expected_name Empty s.place s.in_collection s.in_multi s.kept last e) e h
 
-  leaves_axes : (axes : Axes) (token : Token) (a : ℕ) (s last : State) (spelling : List ℕ) → is_word token ≡ true → step s (AxesAt a) ≡ Some last → IsWord (axes_letters axes) spelling → Leaves a s last token spelling
+  leaves_axes : (axes : Axes) (token : Token) (a : ℕ) (s last : ParserState) (spelling : List ℕ) → is_word token ≡ true → step s (AxesAt a) ≡ Some last → IsWord (axes_letters axes) spelling → Leaves a s last token spelling
   leaves_axes Z token a s last spelling w e h = leaves_word keywords.Zm 90 [] token a s last spelling w refl refl refl (expected_axes Z a s.place s.in_collection s.in_multi s.kept last e) e h
   leaves_axes M token a s last spelling w e h = leaves_word keywords.M 77 [] token a s last spelling w refl refl refl (expected_axes M a s.place s.in_collection s.in_multi s.kept last e) e h
   leaves_axes ZM token a s last spelling w e h = leaves_word keywords.Zm 90 (codes "M") token a s last spelling w refl refl refl (expected_axes ZM a s.place s.in_collection s.in_multi s.kept last e) e h
 
-  leaves_number : (n : Numeral) (a : ℕ) (s last : State) (spelling : List ℕ) → step s (seen cap (Number n)) ≡ Some last → n.at ≡ a → IsNumeral spelling n → Leaves a s last (Number n) spelling
+  leaves_number : (n : Numeral) (a : ℕ) (s last : ParserState) (spelling : List ℕ) → step s (seen cap (Number n)) ≡ Some last → n.at ≡ a → IsNumeral spelling n → Leaves a s last (Number n) spelling
   leaves_number n a s last spelling e here h =
       let read = numeral_is_read cap spelling n a h in
       let size = capped cap (number_from 0 n.whole) in
@@ -139,7 +139,7 @@ module _ (cap : ℕ) where
         steps = λ rest. read.1 rest s (expected_number n.at (limit cap (value n)) whole s.place s.in_collection s.in_multi s.kept last e);
       }
 
-  leaves : (token : Token) (a : ℕ) (s last : State) (spelling : List ℕ) → step s (seen cap token) ≡ Some last → IsSpelled a token spelling → Leaves a s last token spelling
+  leaves : (token : Token) (a : ℕ) (s last : ParserState) (spelling : List ℕ) → step s (seen cap token) ≡ Some last → IsSpelled a token spelling → Leaves a s last token spelling
   leaves (Word name) a s last spelling e h = leaves_name name a s last spelling e h
   leaves (Dimensions d) a s last spelling e h = leaves_axes d.axes (Dimensions d) a s last spelling refl (ap (λ i. step s (AxesAt i)) (sym h.0) ∙ e) h.1
   leaves (Number n) a s last spelling e h = leaves_number n a s last spelling e h.0 h.1
@@ -225,7 +225,7 @@ module _ (cap : ℕ) where
   -- ---- all tokens
 
   -- a lexeme ends before the next token
-  ends_before : (a : ℕ) (l : Lexeme) (s last : State) (previous : Option Token) (token : Token) (white spelling rest : List ℕ) → Pending l previous → ending l s ≡ Some last → IsWhite white → (is_alike previous token ≡ true → 0 < length white) → Begins token spelling
+  ends_before : (a : ℕ) (l : Lexeme) (s last : ParserState) (previous : Option Token) (token : Token) (white spelling rest : List ℕ) → Pending l previous → ending l s ≡ Some last → IsWhite white → (is_alike previous token ≡ true → 0 < length white) → Begins token spelling
       → read_bytes cap a l s (white ++ (spelling ++ rest)) ≡ read_bytes cap (a + length white) lexemes.Blank last (spelling ++ rest)
   ends_before a l s last previous token (w ∷ white) spelling rest p e h apart first =
       stops cap a l s last w (white ++ (spelling ++ rest)) (white_stops cap l w h.0) e ∙ white_first cap (w ∷ white) (spelling ++ rest) a last h
@@ -234,7 +234,7 @@ module _ (cap : ℕ) where
       (stops cap a l s last b (more ++ rest) (keeps_apart l previous token b p (λ t. let n : 0 < 0 = apart t in omega arith) byte) e
       ∙ ap (λ i. read_bytes cap i lexemes.Blank last (b ∷ (more ++ rest))) (omega arith))
 
-  ends_white : (bytes : List ℕ) (a : ℕ) (l : Lexeme) (s last : State) → ending l s ≡ Some last → IsWhite bytes → read_bytes cap a l s bytes ≡ Some last
+  ends_white : (bytes : List ℕ) (a : ℕ) (l : Lexeme) (s last : ParserState) → ending l s ≡ Some last → IsWhite bytes → read_bytes cap a l s bytes ≡ Some last
   ends_white [] a l s last e h = e
   ends_white (b ∷ bytes) a l s last e h =
       stops cap a l s last b bytes (white_stops cap l b h.0) e
@@ -242,7 +242,7 @@ module _ (cap : ℕ) where
       ∙ white_first cap (b ∷ bytes) [] a last h
 
   -- bytes that spell tokens which the parser takes lead to the parser's state
-  pub read_bytes-spelled : (tokens : List Token) (a : ℕ) (l : Lexeme) (s last f : State) (previous : Option Token) (bytes : List ℕ) → Pending l previous → ending l s ≡ Some last → Spells a previous tokens bytes → run cap last tokens ≡ Some f → read_bytes cap a l s bytes ≡ Some f
+  pub read_bytes-spelled : (tokens : List Token) (a : ℕ) (l : Lexeme) (s last f : ParserState) (previous : Option Token) (bytes : List ℕ) → Pending l previous → ending l s ≡ Some last → Spells a previous tokens bytes → run cap last tokens ≡ Some f → read_bytes cap a l s bytes ≡ Some f
   read_bytes-spelled [] a l s last f previous bytes p e h r = ends_white bytes a l s last e h ∙ r
   read_bytes-spelled (token ∷ tokens) a l s last f previous bytes p e (white, spelling, rest, each_white, is_apart, spelled, same, more) r =
       let stepped = opened (step last (seen cap token)) (λ after. run cap after tokens) f r in

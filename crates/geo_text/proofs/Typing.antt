@@ -7,7 +7,7 @@ use Rattle.std.specs.List.{list_all}
 use Rattle.std.proofs.lemmas.Bool.{and_parts}
 use Rattle.std.proofs.lemmas.Bool.Decides.{nat_tests}
 use Rattle.geo_text.specs.Token.{Numeral, is_white, is_digit, IsWhite, AreDigits, IsPoint, IsSign, IsNumeral, number_from}
-use Rattle.geo_text.specs.Machine.{State, letters, letter_on, is_number_byte, capped, no_number, with_digit, number_on, number_begun, is_letter, goes_on, ending, read_byte, keyword_at, takes_number}
+use Rattle.geo_text.specs.Machine.{ParserState, letters, letter_on, is_number_byte, capped, no_number, with_digit, number_on, number_begun, is_letter, goes_on, ending, read_byte, keyword_at, takes_number}
 use Rattle.geo_text.specs.declared.keyword.Keyword.{Keyword}
 use Rattle.geo_text.specs.declared.keyword.Keyword.TheVariants as keywords
 use Rattle.geo_text.specs.declared.lexeme.Lexeme.{Lexeme}
@@ -19,9 +19,9 @@ use Rattle.geo_text.proofs.Keeping.{whole_from}
 
 module _ (cap : ℕ) where
   -- the state at the end of the bytes
-  abbrev pub read_bytes : ℕ → Lexeme → State → List ℕ → Option State
+  abbrev pub read_bytes : ℕ → Lexeme → ParserState → List ℕ → Option ParserState
   read_bytes a lexeme s [] = ending lexeme s
-  read_bytes a lexeme s (b ∷ bytes) = option_and_then (λ (p : Lexeme × State). read_bytes (a + 1) p.0 p.1 bytes) (read_byte cap a lexeme s b)
+  read_bytes a lexeme s (b ∷ bytes) = option_and_then (λ (p : Lexeme × ParserState). read_bytes (a + 1) p.0 p.1 bytes) (read_byte cap a lexeme s b)
 
   -- ---- bytes of each kind
 
@@ -57,11 +57,11 @@ module _ (cap : ℕ) where
   white_stops (lexemes.Number n) b e = white_no_number b e
 
   -- where a byte does not go on with a lexeme, the lexeme ends
-  pub stops : (a : ℕ) (l : Lexeme) (s last : State) (b : ℕ) (bytes : List ℕ) → goes_on l b ≡ false → ending l s ≡ Some last → read_bytes a l s (b ∷ bytes) ≡ read_bytes a lexemes.Blank last (b ∷ bytes)
+  pub stops : (a : ℕ) (l : Lexeme) (s last : ParserState) (b : ℕ) (bytes : List ℕ) → goes_on l b ≡ false → ending l s ≡ Some last → read_bytes a l s (b ∷ bytes) ≡ read_bytes a lexemes.Blank last (b ∷ bytes)
   stops a l s last b bytes g e = rw (g, e) refl
 
   -- white space changes the place alone
-  pub white_first : (white bytes : List ℕ) (a : ℕ) (s : State) → IsWhite white → read_bytes a lexemes.Blank s (white ++ bytes) ≡ read_bytes (a + length white) lexemes.Blank s bytes
+  pub white_first : (white bytes : List ℕ) (a : ℕ) (s : ParserState) → IsWhite white → read_bytes a lexemes.Blank s (white ++ bytes) ≡ read_bytes (a + length white) lexemes.Blank s bytes
   white_first [] bytes a s h = ap (λ n. read_bytes n lexemes.Blank s bytes) (omega arith)
   white_first (b ∷ white) bytes a s h =
       let place : a + 1 + length white ≡ a + suc (length white) = omega arith in
@@ -101,7 +101,7 @@ module _ (cap : ℕ) where
       (h, cc, rw add-one (cc))
 
   -- further letters of a word
-  pub typing : (typed rest : List ℕ) (k : Keyword) (n at a : ℕ) (s : State) → map to_ascii_uppercase typed ≡ take (length typed) (drop n (letters k))
+  pub typing : (typed rest : List ℕ) (k : Keyword) (n at a : ℕ) (s : ParserState) → map to_ascii_uppercase typed ≡ take (length typed) (drop n (letters k))
       → read_bytes a (lexemes.Word at k n) s (typed ++ rest) ≡ read_bytes (a + length typed) (lexemes.Word at k (n + length typed)) s rest
   typing [] rest k n at a s e = ap₂ (λ i j. read_bytes i (lexemes.Word at k j) s rest) (omega arith) (omega arith)
   typing (b ∷ typed) rest k n at a s e =
@@ -115,7 +115,7 @@ module _ (cap : ℕ) where
       ∙ ap₂ (λ i j. read_bytes i (lexemes.Word at k j) s rest) (omega arith) (omega arith))
 
   -- the first letter of a word
-  pub word_begins : (k : Keyword) (b : ℕ) (bytes : List ℕ) (a : ℕ) (s : State) → is_letter b ≡ true → keyword_at s.place (to_ascii_uppercase b) ≡ Some k → read_bytes a lexemes.Blank s (b ∷ bytes) ≡ read_bytes (a + 1) (lexemes.Word a k 1) s bytes
+  pub word_begins : (k : Keyword) (b : ℕ) (bytes : List ℕ) (a : ℕ) (s : ParserState) → is_letter b ≡ true → keyword_at s.place (to_ascii_uppercase b) ≡ Some k → read_bytes a lexemes.Blank s (b ∷ bytes) ≡ read_bytes (a + 1) (lexemes.Word a k 1) s bytes
   word_begins k b bytes a s e h = rw (letter_no_white b e, e, h) refl
 
   -- ---- numbers
@@ -136,13 +136,13 @@ module _ (cap : ℕ) where
       (λ p. let dot : b ≡ 46 = eqb-true b 46 (and_parts (eqb b 46) (not n.point) p).0 in ap is_number_byte dot)
       (one_of_two (is_digit b) (eqb b 46 && not n.point) (with_digit cap n b) (record n { point = true }) m e)
 
-  pub read_number : (bytes rest : List ℕ) (n m : Number) (a : ℕ) (s : State) → through n bytes ≡ Some m → read_bytes a (lexemes.Number n) s (bytes ++ rest) ≡ read_bytes (a + length bytes) (lexemes.Number m) s rest
+  pub read_number : (bytes rest : List ℕ) (n m : Number) (a : ℕ) (s : ParserState) → through n bytes ≡ Some m → read_bytes a (lexemes.Number n) s (bytes ++ rest) ≡ read_bytes (a + length bytes) (lexemes.Number m) s rest
   read_number [] rest n m a s e = let same : n ≡ m = cc in ap₂ (λ i j. read_bytes i (lexemes.Number j) s rest) (omega arith) same
   read_number (b ∷ bytes) rest n m a s e =
       let first = opened (number_on cap n b) (λ x. through x bytes) m e in
       rw (number_on-byte n first.0 b first.1, first.1) (read_number bytes rest first.0 m (a + 1) s first.2 ∙ ap (λ i. read_bytes i (lexemes.Number m) s rest) (omega arith))
 
-  number_begins : (n : Number) (b : ℕ) (bytes : List ℕ) (a : ℕ) (s : State) → is_number_byte b ≡ true → takes_number s.place ≡ true → number_begun cap a b ≡ Some n → read_bytes a lexemes.Blank s (b ∷ bytes) ≡ read_bytes (a + 1) (lexemes.Number n) s bytes
+  number_begins : (n : Number) (b : ℕ) (bytes : List ℕ) (a : ℕ) (s : ParserState) → is_number_byte b ≡ true → takes_number s.place ≡ true → number_begun cap a b ≡ Some n → read_bytes a lexemes.Blank s (b ∷ bytes) ≡ read_bytes (a + 1) (lexemes.Number n) s bytes
   number_begins n b bytes a s e t h = rw (number_no_white b e, number_no_letter b e, e, t, h) refl
 
   abbrev pub num : ℕ → Bool → Bool → Bool → Bool → ℕ → Number
@@ -208,7 +208,7 @@ module _ (cap : ℕ) where
 
   -- the bytes are read as the number
   abbrev pub ReadsNumber : ℕ → List ℕ → Number → Type 0
-  ReadsNumber a spelling n = (rest : List ℕ) (s : State) → takes_number s.place ≡ true → read_bytes a lexemes.Blank s (spelling ++ rest) ≡ read_bytes (a + length spelling) (lexemes.Number n) s rest
+  ReadsNumber a spelling n = (rest : List ℕ) (s : ParserState) → takes_number s.place ≡ true → read_bytes a lexemes.Blank s (spelling ++ rest) ≡ read_bytes (a + length spelling) (lexemes.Number n) s rest
 
   unsigned_first : (n m : Number) (b : ℕ) → number_on cap n b ≡ Some m → (eqb b 45 ≡ false) × (eqb b 43 ≡ false)
   unsigned_first n m b e =

@@ -4,11 +4,12 @@ use Rattle.std.specs.List.{AllByRecursion}
 use Rattle.std.specs.Option.{option_or}
 use Rattle.std.proofs.lemmas.Bool.{cases_order}
 use Rattle.std.proofs.lemmas.List.Elements.{All-weaker, recursion_from_All}
+use Rattle.cov_types.specs.Coverage.{Members}
 use Rattle.geo_text.specs.Token.{Numeral, value}
 use Rattle.geo_text.specs.Grammar.{Ring, Geometry, IsFile}
 use Rattle.geo_text.specs.Reading.{elements, coverage, Reads}
-use Rattle.geo_text.specs.Fault.{IsSyntaxFault, rings, numbers, extra_places, IsNumberFine, IsRingFine, IsPlanarFile, IsNumericFile, IsFirstNumber, IsFirstRing, IsFault, IsFaultless}
-use Rattle.geo_text.specs.Machine.{State, Kept, Members, start, ending, read_byte, answer, answer_at, answer_by, unless_fault, Gives}
+use Rattle.geo_text.specs.Fault.{IsSyntaxFault, rings, numbers, extra_places, IsNumberFine, IsRingFine, IsPlanarFile, IsNumericFile, IsFirstNumber, IsFirstRing, IsFault, HasNoFault}
+use Rattle.geo_text.specs.Machine.{ParserState, Kept, start, ending, read_byte, answer, answer_at, answer_by, unless_fault, Gives}
 use Rattle.geo_text.specs.declared.error.TextError.{TextError}
 use Rattle.geo_text.specs.declared.error.TextError.TheVariants as errors
 use Rattle.geo_text.specs.declared.error.TextFault.{TextFault}
@@ -33,11 +34,11 @@ abbrev pub answer_to : List ℕ → Result Members TextFault
 answer_to bytes = answer CAP 0 Blank start bytes
 
 -- where the bytes are taken to their end, that end decides
-answer-read : (bytes : List ℕ) (a : ℕ) (l : Lexeme) (s f : State) → read_bytes CAP a l s bytes ≡ Some f → answer CAP a l s bytes ≡ answer_at (a + length bytes) f.place f.kept
-answer-read [] a l s f e = ap (answer_by a (λ (last : State). answer_at a last.place last.kept)) e ∙ ap (λ i. answer_at i f.place f.kept) (omega arith)
+answer-read : (bytes : List ℕ) (a : ℕ) (l : Lexeme) (s f : ParserState) → read_bytes CAP a l s bytes ≡ Some f → answer CAP a l s bytes ≡ answer_at (a + length bytes) f.place f.kept
+answer-read [] a l s f e = ap (answer_by a (λ (last : ParserState). answer_at a last.place last.kept)) e ∙ ap (λ i. answer_at i f.place f.kept) (omega arith)
 answer-read (b ∷ bytes) a l s f e =
-    let next = opened (read_byte CAP a l s b) (λ (p : Lexeme × State). read_bytes CAP (a + 1) p.0 p.1 bytes) f e in
-    ap (answer_by a (λ (p : Lexeme × State). answer CAP (a + 1) p.0 p.1 bytes)) next.1
+    let next = opened (read_byte CAP a l s b) (λ (p : Lexeme × ParserState). read_bytes CAP (a + 1) p.0 p.1 bytes) f e in
+    ap (answer_by a (λ (p : Lexeme × ParserState). answer CAP (a + 1) p.0 p.1 bytes)) next.1
     ∙ answer-read bytes (a + 1) next.0.0 next.0.1 f next.2
     ∙ ap (λ i. answer_at i f.place f.kept) (omega arith)
 
@@ -54,23 +55,23 @@ answer-file bytes gs h = answer-read bytes 0 Blank start (end_of CAP gs) (read_b
 -- ---- the syntax
 
 -- the bytes up to k are taken, and not one more
-record Stops (a : ℕ) (l : Lexeme) (s : State) (bytes : List ℕ) : Type 0 where
+record Stops (a : ℕ) (l : Lexeme) (s : ParserState) (bytes : List ℕ) : Type 0 where
   count : ℕ
   within : count ≤ length bytes
-  state : Lexeme × State
+  state : Lexeme × ParserState
   taken : alive CAP a l s (take count bytes) ≡ Some state
   refused : count < length bytes → alive CAP a l s (take (suc count) bytes) ≡ None
-  no_end : (f : State) → read_bytes CAP a l s bytes ≡ Some f → f.place ≡ Outside → ⊥
+  no_end : (f : ParserState) → read_bytes CAP a l s bytes ≡ Some f → f.place ≡ Outside → ⊥
   answered : answer CAP a l s bytes ≡ Err (Syntax (a + count))
 
-abbrev Ends : ℕ → Lexeme → State → List ℕ → Type 0
-Ends a l s bytes = (f : State) × (read_bytes CAP a l s bytes ≡ Some f) × (f.place ≡ Outside)
+abbrev Ends : ℕ → Lexeme → ParserState → List ℕ → Type 0
+Ends a l s bytes = (f : ParserState) × (read_bytes CAP a l s bytes ≡ Some f) × (f.place ≡ Outside)
 
 is_outside : (place : Place) → (place ≡ Outside) ⊎ ((place ≡ Outside → ⊥) × ((a : ℕ) (k : Kept) → answer_at a place k ≡ Err (Syntax a)))
 is_outside Outside = inl refl
 is_outside place = inr ((λ e. cc), λ a k. refl)
 
-at_end : (a : ℕ) (l : Lexeme) (s : State) (o : Option State) → ending l s ≡ o → Ends a l s [] ⊎ Stops a l s []
+at_end : (a : ℕ) (l : Lexeme) (s : ParserState) (o : Option ParserState) → ending l s ≡ o → Ends a l s [] ⊎ Stops a l s []
 at_end a l s None e = inr (record {
   count = 0;
   within = omega arith;
@@ -78,7 +79,7 @@ at_end a l s None e = inr (record {
   taken = refl;
   refused = λ h. absurd (omega arith);
   no_end = λ f r out. none_some f (sym e ∙ r);
-  answered = ap (answer_by a (λ (last : State). answer_at a last.place last.kept)) e ∙ ap (λ i. Err (Syntax i)) (sym (add-zero a));
+  answered = ap (answer_by a (λ (last : ParserState). answer_at a last.place last.kept)) e ∙ ap (λ i. Err (Syntax i)) (sym (add-zero a));
 })
 at_end a l s (Some f) e =
     ⊎_elim (λ out. inl (f, e, out))
@@ -88,36 +89,36 @@ at_end a l s (Some f) e =
       state = (l, s);
       taken = refl;
       refused = λ h. absurd (omega arith);
-      no_end = λ g r out. inside.0 (ap (λ (t : State). t.place) (some_equal f g (sym e ∙ r)) ∙ out);
-      answered = ap (answer_by a (λ (last : State). answer_at a last.place last.kept)) e ∙ inside.1 a f.kept ∙ ap (λ i. Err (Syntax i)) (sym (add-zero a));
+      no_end = λ g r out. inside.0 (ap (λ (t : ParserState). t.place) (some_equal f g (sym e ∙ r)) ∙ out);
+      answered = ap (answer_by a (λ (last : ParserState). answer_at a last.place last.kept)) e ∙ inside.1 a f.kept ∙ ap (λ i. Err (Syntax i)) (sym (add-zero a));
     }))
     (is_outside f.place)
 
-on_byte : (a : ℕ) (l : Lexeme) (s : State) (b : ℕ) (bytes : List ℕ) → ((i : ℕ) (m : Lexeme) (t : State) → Ends i m t bytes ⊎ Stops i m t bytes)
-    → (o : Option (Lexeme × State)) → read_byte CAP a l s b ≡ o → Ends a l s (b ∷ bytes) ⊎ Stops a l s (b ∷ bytes)
+on_byte : (a : ℕ) (l : Lexeme) (s : ParserState) (b : ℕ) (bytes : List ℕ) → ((i : ℕ) (m : Lexeme) (t : ParserState) → Ends i m t bytes ⊎ Stops i m t bytes)
+    → (o : Option (Lexeme × ParserState)) → read_byte CAP a l s b ≡ o → Ends a l s (b ∷ bytes) ⊎ Stops a l s (b ∷ bytes)
 on_byte a l s b bytes more None e = inr (record {
   count = 0;
   within = omega arith;
   state = (l, s);
   taken = refl;
-  refused = λ h. ap (option_and_then (λ (p : Lexeme × State). alive CAP (a + 1) p.0 p.1 [])) e;
-  no_end = λ f r out. none_some f (sym (ap (option_and_then (λ (p : Lexeme × State). read_bytes CAP (a + 1) p.0 p.1 bytes)) e) ∙ r);
-  answered = ap (answer_by a (λ (p : Lexeme × State). answer CAP (a + 1) p.0 p.1 bytes)) e ∙ ap (λ i. Err (Syntax i)) (sym (add-zero a));
+  refused = λ h. ap (option_and_then (λ (p : Lexeme × ParserState). alive CAP (a + 1) p.0 p.1 [])) e;
+  no_end = λ f r out. none_some f (sym (ap (option_and_then (λ (p : Lexeme × ParserState). read_bytes CAP (a + 1) p.0 p.1 bytes)) e) ∙ r);
+  answered = ap (answer_by a (λ (p : Lexeme × ParserState). answer CAP (a + 1) p.0 p.1 bytes)) e ∙ ap (λ i. Err (Syntax i)) (sym (add-zero a));
 })
 on_byte a l s b bytes more (Some p) e =
-    ⊎_elim (λ ends. inl (ends.0, ap (option_and_then (λ (q : Lexeme × State). read_bytes CAP (a + 1) q.0 q.1 bytes)) e ∙ ends.1, ends.2))
+    ⊎_elim (λ ends. inl (ends.0, ap (option_and_then (λ (q : Lexeme × ParserState). read_bytes CAP (a + 1) q.0 q.1 bytes)) e ∙ ends.1, ends.2))
     (λ w. inr (record {
       count = suc w.count;
       within = omega (arith, w.within);
       state = w.state;
-      taken = ap (option_and_then (λ (q : Lexeme × State). alive CAP (a + 1) q.0 q.1 (take w.count bytes))) e ∙ w.taken;
-      refused = λ h. ap (option_and_then (λ (q : Lexeme × State). alive CAP (a + 1) q.0 q.1 (take (suc w.count) bytes))) e ∙ w.refused (omega arith);
-      no_end = λ f r out. w.no_end f (sym (ap (option_and_then (λ (q : Lexeme × State). read_bytes CAP (a + 1) q.0 q.1 bytes)) e) ∙ r) out;
-      answered = ap (answer_by a (λ (q : Lexeme × State). answer CAP (a + 1) q.0 q.1 bytes)) e ∙ w.answered ∙ ap (λ i. Err (Syntax i)) (omega arith);
+      taken = ap (option_and_then (λ (q : Lexeme × ParserState). alive CAP (a + 1) q.0 q.1 (take w.count bytes))) e ∙ w.taken;
+      refused = λ h. ap (option_and_then (λ (q : Lexeme × ParserState). alive CAP (a + 1) q.0 q.1 (take (suc w.count) bytes))) e ∙ w.refused (omega arith);
+      no_end = λ f r out. w.no_end f (sym (ap (option_and_then (λ (q : Lexeme × ParserState). read_bytes CAP (a + 1) q.0 q.1 bytes)) e) ∙ r) out;
+      answered = ap (answer_by a (λ (q : Lexeme × ParserState). answer CAP (a + 1) q.0 q.1 bytes)) e ∙ w.answered ∙ ap (λ i. Err (Syntax i)) (omega arith);
     }))
     (more (a + 1) p.0 p.1)
 
-ends_or_stops : (bytes : List ℕ) (a : ℕ) (l : Lexeme) (s : State) → Ends a l s bytes ⊎ Stops a l s bytes
+ends_or_stops : (bytes : List ℕ) (a : ℕ) (l : Lexeme) (s : ParserState) → Ends a l s bytes ⊎ Stops a l s bytes
 ends_or_stops [] a l s = at_end a l s (ending l s) refl
 ends_or_stops (b ∷ bytes) a l s = on_byte a l s b bytes (ends_or_stops bytes) (read_byte CAP a l s b) refl
 
@@ -126,7 +127,7 @@ not_taken bytes n k e h =
     let parts : take k bytes ≡ take n bytes ++ take (k - n) (drop n bytes) = ap (λ i. take i bytes) (omega arith) ∙ take-add n (k - n) bytes in
     ap (alive CAP 0 Blank start) parts
     ∙ alive-append CAP (take n bytes) (take (k - n) (drop n bytes)) 0 Blank start
-    ∙ ap (option_and_then (λ (p : Lexeme × State). alive CAP (0 + length (take n bytes)) p.0 p.1 (take (k - n) (drop n bytes)))) e
+    ∙ ap (option_and_then (λ (p : Lexeme × ParserState). alive CAP (0 + length (take n bytes)) p.0 p.1 (take (k - n) (drop n bytes)))) e
 
 -- the bytes that are taken, and no more, begin a file
 syntax_fault : (bytes : List ℕ) (w : Stops 0 Blank start bytes) → IsSyntaxFault bytes w.count
@@ -264,7 +265,7 @@ pub ok_reads : (bytes : List ℕ) (c : Members) → answer_to bytes ≡ Ok c →
 ok_reads bytes c e =
     ⊎_elim (λ w. (w.0, w.1, ok_equal c (coverage w.0) (sym e ∙ clean_answer bytes w.0 w.1))) (λ f. absurd (result_apart c f.0 (sym e ∙ fault_answer bytes f.0 f.1))) (clean_or_fault bytes)
 
-pub ok_faultless : (bytes : List ℕ) (c : Members) → answer_to bytes ≡ Ok c → IsFaultless bytes
+pub ok_faultless : (bytes : List ℕ) (c : Members) → answer_to bytes ≡ Ok c → HasNoFault bytes
 ok_faultless bytes c e fault h = result_apart c fault (sym e ∙ fault_answer bytes fault h)
 
 pub err_fault : (bytes : List ℕ) (fault : TextFault) → answer_to bytes ≡ Err fault → IsFault bytes fault
@@ -280,7 +281,7 @@ one_fault bytes e f h k = err_equal e f (sym (fault_answer bytes e h) ∙ fault_
 -- what a result of the code says
 pub record Says (bytes : List ℕ) (result : Result Members TextError) : Type 0 where
   pub read : IfOk result (λ c. Reads bytes c)
-  pub faultless : OnOk result (IsFaultless bytes)
+  pub faultless : OnOk result (HasNoFault bytes)
   pub fault : (fault : TextFault) → IsErrOf result (errors.Fault fault) → IsFault bytes fault
 
 fault_equal : (e f : TextFault) → let r : Result Members TextError = Err (errors.Fault e) in r ≡ Err (errors.Fault f) → e ≡ f
@@ -300,6 +301,6 @@ says bytes (Err (errors.Fault e)) g = record { read = tt; faultless = tt; fault 
 says bytes (Err errors.NoMemory) g = record { read = tt; faultless = tt; fault = λ fault p. absurd (no_memory_apart fault p) }
 
 -- a text that is read without a fault
-pub read_or_fault : (bytes : List ℕ) → ((c : Members) × Reads bytes c × IsFaultless bytes) ⊎ ((fault : TextFault) × IsFault bytes fault)
+pub read_or_fault : (bytes : List ℕ) → ((c : Members) × Reads bytes c × HasNoFault bytes) ⊎ ((fault : TextFault) × IsFault bytes fault)
 read_or_fault bytes =
     ⊎_elim (λ w. inl (coverage w.0, (w.0, w.1.is_numeric.is_planar.is_file, refl), ok_faultless bytes (coverage w.0) (clean_answer bytes w.0 w.1))) (λ f. inr f) (clean_or_fault bytes)

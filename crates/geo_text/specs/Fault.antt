@@ -147,5 +147,5 @@ IsFault bytes (RingShort ring) = (r : Ring) × IsFirstRing bytes ring r × ¬ Is
 IsFault bytes (RingOpen ring) = (r : Ring) × IsFirstRing bytes ring r × IsRingLong r × ¬ IsRingClosed r
 
 -- the text has no fault
-abbrev pub IsFaultless : List ℕ → Type 0
-IsFaultless bytes = (fault : TextFault) → IsFault bytes fault → ⊥
+abbrev pub HasNoFault : List ℕ → Type 0
+HasNoFault bytes = (fault : TextFault) → IsFault bytes fault → ⊥

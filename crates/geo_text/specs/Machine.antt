@@ -2,7 +2,8 @@
 use Rattle.std.specs.Prelude.{◌≡◌, ℕ, ◌+◌, ◌-◌, ◌*◌, ◌≤◌, min, Bool, true, false, ◌&&◌, ◌||◌, not, if◌then◌else◌, ◌==◌, nat_lt, nat_le, int_le, List, [], ◌∷◌, ◌++◌, length, take, get_or, slice_index, Option, Some, None, option_map, option_and_then, Result, Ok, Err, ℤ, pos, neg_ℤ, codes}
 use Rattle.std.specs.Char.{to_ascii_uppercase}
 use Rattle.std.specs.Option.{option_or}
-use Rattle.std.specs.Ordering.{int_eq}
+use Rattle.cov_types.specs.Coord.{is_same_coord}
+use Rattle.cov_types.specs.Coverage.{Members}
 use Rattle.cov_types.specs.declared.coord.Coord.{Coord}
 use Rattle.cov_types.specs.declared.coord.TheConstants.{LIMIT}
 use Rattle.geo_text.specs.Token.{Name, Polygon, MultiPolygon, GeometryCollection, Empty, is_white, is_digit, signed}
@@ -33,13 +34,9 @@ is_in_range n = int_le (neg_ℤ LIMIT) n && int_le n LIMIT
 abbrev pub origin : Coord
 origin = record { x = pos 0; y = pos 0 }
 
--- whether two coordinates are one
-abbrev pub same_coord : Coord → Coord → Bool
-same_coord a b = int_eq a.x b.x && int_eq a.y b.y
-
 -- the last of these is the first again
 abbrev pub is_closed : List Coord → Bool
-is_closed points = same_coord (get_or points (length points - 1) origin) (get_or points 0 origin)
+is_closed points = is_same_coord (get_or points (length points - 1) origin) (get_or points 0 origin)
 
 -- no fault yet, and no ring
 abbrev pub no_faults : Faults
@@ -81,7 +78,7 @@ pub record Kept : Type 0 where
   pub faults : Faults
 
 -- where in the grammar a parser is, whether within a collection and a multi body, and what it kept
-pub record State : Type 0 where
+pub record ParserState : Type 0 where
   pub place : Place
   pub in_collection : Bool
   pub in_multi : Bool
@@ -98,7 +95,7 @@ pub data Symbol : Type 0 where
   Separator : Symbol
 
 -- the parser at a place
-abbrev pub at : Place → Bool → Bool → Kept → State
+abbrev pub at : Place → Bool → Bool → Kept → ParserState
 at place in_collection in_multi kept = record { place = place; in_collection = in_collection; in_multi = in_multi; kept = kept }
 
 -- nothing is kept yet
@@ -106,7 +103,7 @@ abbrev pub nothing_kept : Kept
 nothing_kept = record { members = []; polys = []; rings = []; points = []; faults = no_faults }
 
 -- the parser before the first token
-abbrev pub start : State
+abbrev pub start : ParserState
 start = at places.Outside false false nothing_kept
 
 -- with the first number of a position
@@ -134,17 +131,17 @@ abbrev pub member_kept : Kept → Kept
 member_kept k = record k { members = k.members ++ k.polys ∷ []; polys = [] }
 
 -- behind an element, of a collection or not
-abbrev pub element_end : Bool → Kept → State
+abbrev pub element_end : Bool → Kept → ParserState
 element_end true k = at places.ElementEnd true false (member_kept k)
 element_end false k = at places.Outside false false (member_kept k)
 
 -- behind a polygon body, of a multi body or not
-abbrev pub body_end : Bool → Bool → Kept → State
+abbrev pub body_end : Bool → Bool → Kept → ParserState
 body_end in_collection true k = at places.BodyEnd in_collection true k
 body_end in_collection false k = element_end in_collection k
 
 -- the parser behind a token at a place, where the grammar has it there
-abbrev pub step_at : Place → Symbol → Bool → Bool → Kept → Option State
+abbrev pub step_at : Place → Symbol → Bool → Bool → Kept → Option ParserState
 step_at places.Outside (Named Polygon) c m k = Some (at (places.Head kinds.Polygon false) c m k)
 step_at places.Outside (Named MultiPolygon) c m k = Some (at (places.Head kinds.MultiPolygon false) c m k)
 step_at places.Outside (Named GeometryCollection) c m k = Some (at (places.Head kinds.GeometryCollection false) c m k)
@@ -176,7 +173,7 @@ step_at places.RingEnd Closing c m k = Some (body_end c m (polygon_kept k))
 step_at place symbol c m k = None
 
 -- the parser behind a token
-abbrev pub step : State → Symbol → Option State
+abbrev pub step : ParserState → Symbol → Option ParserState
 step s symbol = step_at s.place symbol s.in_collection s.in_multi s.kept
 
 -- ---- words
@@ -286,13 +283,13 @@ typed_on cap (lexemes.Word a keyword typed) b = option_map (λ more. lexemes.Wor
 typed_on cap (lexemes.Number n) b = option_map (λ m. lexemes.Number m) (number_on cap n b)
 
 -- the parser behind a lexeme that ends
-abbrev pub ending : Lexeme → State → Option State
+abbrev pub ending : Lexeme → ParserState → Option ParserState
 ending lexemes.Blank s = Some s
 ending (lexemes.Word a keyword typed) s = if is_complete keyword typed then step s (symbol_of keyword a) else None
 ending (lexemes.Number n) s = if n.some_digit then step s (Numbered n.at (signed n.negative n.size) n.whole) else None
 
 -- the lexeme and the parser behind a byte that begins a lexeme
-abbrev pub beginning : ℕ → ℕ → State → ℕ → Option (Lexeme × State)
+abbrev pub beginning : ℕ → ℕ → ParserState → ℕ → Option (Lexeme × ParserState)
 beginning cap a s b =
     if is_white b then Some (lexemes.Blank, s)
     else (if is_letter b then option_map (λ keyword. (lexemes.Word a keyword 1, s)) (keyword_at s.place (to_ascii_uppercase b))
@@ -303,7 +300,7 @@ beginning cap a s b =
     else None)))))
 
 -- one byte more, behind `a` bytes
-abbrev pub read_byte : ℕ → ℕ → Lexeme → State → ℕ → Option (Lexeme × State)
+abbrev pub read_byte : ℕ → ℕ → Lexeme → ParserState → ℕ → Option (Lexeme × ParserState)
 read_byte cap a lexeme s b =
     if goes_on lexeme b
     then option_map (λ more. (more, s)) (typed_on cap lexeme b)
@@ -315,10 +312,6 @@ IsLexeme (lexemes.Number n) = IsCapped n
 IsLexeme lexeme = Unit {0}
 
 -- ---- the file
-
--- a coverage as a list of members
-abbrev pub Members : Type 0
-Members = List (List (List (List Coord)))
 
 -- the members, unless there is a fault
 abbrev pub unless_fault : Members → Option TextFault → Result Members TextFault
@@ -336,9 +329,9 @@ answer_by a f None = Err (Syntax a)
 answer_by a f (Some x) = f x
 
 -- the answer to the bytes behind `a` bytes
-abbrev pub answer : ℕ → ℕ → Lexeme → State → List ℕ → Result Members TextFault
-answer cap a lexeme s [] = answer_by a (λ (last : State). answer_at a last.place last.kept) (ending lexeme s)
-answer cap a lexeme s (b ∷ bytes) = answer_by a (λ (p : Lexeme × State). answer cap (a + 1) p.0 p.1 bytes) (read_byte cap a lexeme s b)
+abbrev pub answer : ℕ → ℕ → Lexeme → ParserState → List ℕ → Result Members TextFault
+answer cap a lexeme s [] = answer_by a (λ (last : ParserState). answer_at a last.place last.kept) (ending lexeme s)
+answer cap a lexeme s (b ∷ bytes) = answer_by a (λ (p : Lexeme × ParserState). answer cap (a + 1) p.0 p.1 bytes) (read_byte cap a lexeme s b)
 
 -- ---- what the code answers
 
@@ -360,7 +353,7 @@ name_of kinds.MultiPolygon = MultiPolygon
 name_of kinds.GeometryCollection = GeometryCollection
 
 -- behind the bracket that opens a body
-abbrev pub opened : Body → State → State
+abbrev pub opened : Body → ParserState → ParserState
 opened kinds.Polygon s = record s { place = places.RingStart }
 opened kinds.MultiPolygon s = record s { place = places.BodyStart; in_multi = true }
 opened kinds.GeometryCollection s = record s { place = places.ElementStart; in_collection = true }

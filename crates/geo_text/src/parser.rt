@@ -29,9 +29,9 @@ pub(crate) struct Parser {
 }
 
 impl Model for Parser {
-    ghost use Rattle.geo_text.specs.Machine.{State};
+    ghost use Rattle.geo_text.specs.Machine.{ParserState};
 
-    ghost Value = { State };
+    ghost Value = { ParserState };
 
     ghost view = { λ p. record {
       place = p.place;

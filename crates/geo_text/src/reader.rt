@@ -2,7 +2,7 @@ ghost use Rattle.std.specs.Prelude.{◌≡◌, ◌⊎◌, ◌+◌, ◌^◌, ◌<
 ghost use Rattle.cov_types.specs.Coverage.{IsFormed};
 ghost use Rattle.cov_types.specs.declared.coord.Coord.{Coord};
 ghost use Rattle.geo_text.specs.Reading.{Reads};
-ghost use Rattle.geo_text.specs.Fault.{IsFault, IsFaultless};
+ghost use Rattle.geo_text.specs.Fault.{IsFault, HasNoFault};
 ghost use Rattle.geo_text.specs.declared.error.TextFault.{TextFault};
 ghost use Rattle.geo_text.specs.Machine.{ending, beginning, read_byte, IsLexeme, answer, Gives, error_of, start};
 ghost use Rattle.geo_text.specs.declared.number.TheConstants.{CAP};
@@ -124,7 +124,7 @@ fn read_all(alloc: Global, bytes: &[u8]) -> Result<Coverage, TextError>
 pub fn read_text(alloc: Global, bytes: &[u8]) -> Result<Coverage, TextError>
     requires { length bytes.now ≤ 67108864 }
     ensures read { IfOk result (λ c. Reads bytes.now c) }
-    ensures faultless { OnOk result (IsFaultless bytes.now) }
+    ensures faultless { OnOk result (HasNoFault bytes.now) }
     ensures formed { IfOk result IsFormed }
     ensures fault { (fault : TextFault) → IsErrOf result (TextError.Fault fault) → IsFault bytes.now fault }
 {
@@ -137,7 +137,7 @@ pub fn one_answer()
     ensures reading { (bytes : List ℕ) (c d : List (List (List (List Coord)))) → Reads bytes c → Reads bytes d → c ≡ d }
     ensures fault { (bytes : List ℕ) (e f : TextFault) → IsFault bytes e → IsFault bytes f → e ≡ f }
     ensures either { (bytes : List ℕ)
-        → ((c : List (List (List (List Coord)))) × Reads bytes c × IsFaultless bytes) ⊎ ((fault : TextFault) × IsFault bytes fault) }
+        → ((c : List (List (List (List Coord)))) × Reads bytes c × HasNoFault bytes) ⊎ ((fault : TextFault) × IsFault bytes fault) }
     ensures formed { (bytes : List ℕ) (c : List (List (List (List Coord))))
-        → length bytes ≤ 67108864 → Reads bytes c → IsFaultless bytes → IsFormed c }
+        → length bytes ≤ 67108864 → Reads bytes c → HasNoFault bytes → IsFormed c }
 {}

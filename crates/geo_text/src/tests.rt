@@ -125,7 +125,10 @@ fn each_fault_has_its_place(rt: HostRuntime) -> Result<(), Fail> {
         ("\u{feff}POLYGON EMPTY", "syntax 0"),
         ("POLYGON ((0 0, 268435457 0, 0 5, 0 0))", "out of range 15"),
         ("POLYGON ((0 0, 1.5 -268435457, 0 5, 0 0))", "not whole 15"),
-        ("POLYGON ((0 0, 1 -268435457, .5 5, 0 0))", "out of range 17"),
+        (
+            "POLYGON ((0 0, 1 -268435457, .5 5, 0 0))",
+            "out of range 17",
+        ),
         ("POLYGON Z ((0 0 1, 4 0 1, 0 4 1, 0 0 1))", "not planar 8"),
         ("POLYGON ((0 0 1, 4 0 1, 0 4 1, 0 0 1))", "not planar 14"),
         ("POLYGON ((.5 0, 0 0 1))", "not planar 20"),

@@ -1,4 +1,5 @@
 pub mod Nearest
+pub mod Boxes
 pub mod Cycles
 pub mod Links
 pub mod Numbers

@@ -35,7 +35,9 @@ impl<'a> Model for Regions<'a> {
 }
 
 impl<'a> Regions<'a> {
-    /// The regions between the edges of the arena, which they borrow. Takes linear memory.
+    /// The regions between the edges of the arena, which they borrow. Takes linear memory and, for n edges in few connected pieces, linear
+    /// time. Many pieces take n log n time in all, and a search for the nearest edge below each (`BoxTree::search`): the logarithm of n
+    /// where edges are short and apart, and up to n where long edges cover each other's boxes.
     pub fn build(alloc: Global, a: &'a Arena) -> Result<Regions<'a>, NoMemory>
         ensures { IfOk result (λ r. r ≡ a.now) }
     {

@@ -1,4 +1,6 @@
 use crate::Regions;
+use crate::below::nearest_by_scan;
+use crate::edge_tree::EdgeTree;
 use cov_types::{Coord, NoMemory, Seg};
 use half_edge::{Arena, are_arranged};
 use std::alloc::Global;
@@ -257,4 +259,114 @@ fn ten_thousand_squares_of_a_grid_have_a_region_each(rt: HostRuntime) -> Result<
     assert_eq!(rt; regions.count(), 10_001);
     assert_eq!(rt; regions.outer(), Some(0));
     Ok(())
+}
+
+/// A search finds the edge that a scan finds, below each end of the edges and below points among them.
+fn expect_same(alloc: Global, rt: &impl Abort, mut edges: Vec<Seg>) -> Result<(), Fail> {
+    edges.sort_unstable();
+    assert!(rt; are_arranged(&edges));
+    let mut points = Vec::new(alloc);
+    let mut state = 1u32;
+    for e in &edges {
+        state = state.wrapping_mul(1_664_525).wrapping_add(1_013_904_223);
+        points.push(e.lo)?;
+        points.push(e.hi)?;
+        points.push(Coord {
+            x: (state >> 24) as i32 % 130,
+            y: (state >> 16) as i32 % 130,
+        })?;
+    }
+    let tree = EdgeTree::build(alloc, &edges)?;
+    for p in &points {
+        assert!(rt; p.is_in_range());
+        assert_eq!(rt;
+            tree.nearest_below(*p),
+            nearest_by_scan(&edges, *p),
+            "{p:?}"
+        );
+    }
+    Ok(())
+}
+
+/// Adds the edges of a triangle.
+fn add_triangle(
+    rt: &impl Abort,
+    edges: &mut Vec<Seg>,
+    a: (i32, i32),
+    b: (i32, i32),
+    c: (i32, i32),
+) -> Result<(), NoMemory> {
+    edges.push(edge(rt, a.0, a.1, b.0, b.1))?;
+    edges.push(edge(rt, b.0, b.1, c.0, c.1))?;
+    edges.push(edge(rt, c.0, c.1, a.0, a.1))?;
+    Ok(())
+}
+
+/// Adds the edges of a square with these lower left and upper right corners.
+fn add_square(
+    rt: &impl Abort,
+    edges: &mut Vec<Seg>,
+    lo: (i32, i32),
+    hi: (i32, i32),
+) -> Result<(), NoMemory> {
+    edges.push(edge(rt, lo.0, lo.1, hi.0, lo.1))?;
+    edges.push(edge(rt, hi.0, lo.1, hi.0, hi.1))?;
+    edges.push(edge(rt, lo.0, hi.1, hi.0, hi.1))?;
+    edges.push(edge(rt, lo.0, lo.1, lo.0, hi.1))?;
+    Ok(())
+}
+
+#[test]
+fn a_search_among_scattered_pieces_finds_what_a_scan_finds(rt: HostRuntime) -> Result<(), Fail> {
+    let alloc = rt.alloc();
+    let mut edges = Vec::new(alloc);
+    let mut state = 7u32;
+    for cell in 0..144u8 {
+        state = state.wrapping_mul(1_664_525).wrapping_add(1_013_904_223);
+        let x = 10 * i32::from(cell % 12);
+        let y = 10 * i32::from(cell / 12);
+        let size = 2 + (state >> 24) as i32 % 7;
+        if state >> 31 == 0 {
+            add_square(&rt, &mut edges, (x, y), (x + size, y + size))?;
+        } else {
+            add_triangle(
+                &rt,
+                &mut edges,
+                (x, y + 1),
+                (x + size, y),
+                (x + 1, y + size),
+            )?;
+        }
+    }
+    expect_same(alloc, &rt, edges)
+}
+
+#[test]
+fn a_search_among_nested_squares_finds_what_a_scan_finds(rt: HostRuntime) -> Result<(), Fail> {
+    let alloc = rt.alloc();
+    let mut edges = Vec::new(alloc);
+    for ring in 0..20u8 {
+        let near = 3 * i32::from(ring);
+        add_square(&rt, &mut edges, (near, near), (130 - near, 130 - near))?;
+    }
+    expect_same(alloc, &rt, edges)
+}
+
+#[test]
+fn a_search_among_long_lines_finds_what_a_scan_finds(rt: HostRuntime) -> Result<(), Fail> {
+    let alloc = rt.alloc();
+    let mut edges = Vec::new(alloc);
+    for row in 0..20u8 {
+        let x = 40 * i32::from(row);
+        let y = 20 * i32::from(row);
+        edges.push(edge(&rt, 0, y, 1000, y + 7))?;
+        add_triangle(
+            &rt,
+            &mut edges,
+            (x + 3, y + 9),
+            (x + 9, y + 10),
+            (x + 5, y + 14),
+        )?;
+    }
+    expect_same(alloc, &rt, edges)
 }

@@ -1,7 +1,7 @@
 use Rattle.std.proofs.Common.{pos, arith}
 use Rattle.std.proofs.lemmas.Option.{slice_get-get_or}
 use Rattle.face_walk.proofs.Settling.{nearest_none, nearest_more, nearest_all}
-use Rattle.face_walk.proofs.below.nearest_edges_below.Goals as goal
+use Rattle.face_walk.proofs.below.nearest_by_scans.Goals as goal
 
 pub loop-p-init : goal.loop-p-init
 loop-p-init c = nearest_none c.args.edges.now c.args.points.now c.new-answers.result.items c.new-answers.ensures.items

@@ -1,5 +1,5 @@
 use Rattle.face_walk.proofs.Settling.{AreNearestTo}
-use Rattle.face_walk.proofs.below.nearest_edges_below.Given as goal
+use Rattle.face_walk.proofs.below.nearest_by_searches.Given as goal
 
 abbrev pub invariant-loop-p : goal.invariant-loop-p
 invariant-loop-p l = AreNearestTo l.edges l.points l.p-index l.answers.items

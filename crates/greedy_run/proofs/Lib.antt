@@ -10,3 +10,4 @@ pub mod Spots
 pub mod Borders
 pub mod Blocked
 pub mod BorderExamples
+pub mod Halves

@@ -11,3 +11,8 @@ pub mod Borders
 pub mod Blocked
 pub mod BorderExamples
 pub mod Halves
+pub mod Trails
+pub mod Listed
+pub mod Ended
+pub mod Loops
+pub mod Walks

@@ -10,3 +10,9 @@ pub mod Spots
 pub mod Borders
 pub mod Blocked
 pub mod BorderExamples
+pub mod Halves
+pub mod Trails
+pub mod Listed
+pub mod Ended
+pub mod Loops
+pub mod Walks

@@ -1,9 +1,9 @@
 -- Two lines with a common edge are one line, so lines that have each edge are all lines.
 use mathlib.Core.List.{[], ◌∷◌}
-use Rattle.std.proofs.Common.{◌≡◌, ◌⊎◌, refl, sym, ◌∙◌, ap, subst, ℕ, zero, suc, ◌+◌, ◌-◌, ◌<◌, ◌||◌, List, ◌++◌, get_or, IsTrue, inl, inr, ◌≢◌, arith}
+use Rattle.std.proofs.Common.{◌≡◌, refl, sym, ◌∙◌, ap, subst, ℕ, zero, suc, ◌+◌, ◌-◌, ◌<◌, ◌||◌, List, ◌++◌, get_or, IsTrue, inl, inr, ◌≢◌, arith}
 use Rattle.std.specs.Prelude.{Contains, length, reverse, drop, Some, slice_get, option_to_list, unwrap_or}
 use Rattle.std.specs.Ordering.{is_le}
-use Rattle.std.proofs.lemmas.Bool.{cases_order, true≢false}
+use Rattle.std.proofs.lemmas.Bool.{cases_order}
 use Rattle.std.proofs.lemmas.List.{get_or-drop, length-drop, length-reverse, get_or-reverse, reverse-reverse, same_lists, get_or_default}
 use Rattle.std.proofs.lemmas.List.Elements.{All-head, All-tail, All-contains}
 use Rattle.std.proofs.lemmas.Option.{none-some, slice_get_within, slice_get-get_or, get_or_from_slice_get}
@@ -11,14 +11,14 @@ use Rattle.std.proofs.lemmas.Slice.Zip.{length-zip, get_or-zip}
 use Rattle.cov_types.specs.declared.coord.Coord.{Coord}
 use Rattle.cov_types.specs.declared.seg.Seg.{Seg}
 use Rattle.cov_types.specs.Coord.{is_same_coord, points_cmp}
-use Rattle.cov_types.specs.Seg.{IsSegBetween, is_seg_before}
-use Rattle.cov_types.proofs.SegOrder.{cases_segs, is_seg_before-irrefl}
+use Rattle.cov_types.specs.Seg.{IsSegBetween}
 use Rattle.cov_types.specs.Uses.{seg_between}
 use Rattle.cov_types.proofs.Between.{seg_between-ordered, seg_between-reversed}
 use Rattle.plane.specs.Snapping.{chain_edges}
 use Rattle.greedy_run.specs.Laws.{AreCovering, IsOnePlace}
 use Rattle.greedy_run.specs.Lines.{steps, IsAlongEdge, IsPathAlong, IsNode, IsLine, AreLines}
 use Rattle.arrangement.proofs.PointOrders.{points_same}
+use Rattle.greedy_run.proofs.Trails.{seg_or}
 use Rattle.greedy_run.proofs.Threads.{IsThread, AreOne, are_one, turned_thread, three_counted, two_edges, ends_at, seg_turned}
 
 some_is : {X : Type 0} (a b : X) → Some a ≡ Some b → a ≡ b
@@ -26,7 +26,7 @@ some_is a b h = ap (λ o. unwrap_or o a) h
 
 -- ---- the edges of a path, by places
 
-is_between : (p q : Coord) (e : Seg) → IsSegBetween p q e → seg_between p q ≡ Some e
+pub is_between : (p q : Coord) (e : Seg) → IsSegBetween p q e → seg_between p q ≡ Some e
 is_between p q e (inl h) = seg_between-ordered p q e h.0 h.1
 is_between p q e (inr h) = seg_between-reversed p q e h.0 h.1
 
@@ -37,11 +37,11 @@ rest_path : (edges : List Seg) (x y : Coord) (rest : List Coord) → IsPathAlong
 rest_path edges x y rest walk = All-tail (IsAlongEdge edges) (x, y) (steps (y ∷ rest)) walk
 
 -- the chain of a path begins with its first edge
-chain_first : (x y : Coord) (rest : List Coord) (e : Seg) → IsSegBetween x y e → chain_edges (x ∷ y ∷ rest) ≡ e ∷ chain_edges (y ∷ rest)
+pub chain_first : (x y : Coord) (rest : List Coord) (e : Seg) → IsSegBetween x y e → chain_edges (x ∷ y ∷ rest) ≡ e ∷ chain_edges (y ∷ rest)
 chain_first x y rest e s = ap (λ o. option_to_list o ++ chain_edges (y ∷ rest)) (is_between x y e s)
 
 module _ (edges : List Seg) where
-  chain_at : (points : List Coord) → IsPathAlong edges points → (k : ℕ) (p q : Coord) (e : Seg) → slice_get points k ≡ Some p → slice_get points (suc k) ≡ Some q → IsSegBetween p q e
+  pub chain_at : (points : List Coord) → IsPathAlong edges points → (k : ℕ) (p q : Coord) (e : Seg) → slice_get points k ≡ Some p → slice_get points (suc k) ≡ Some q → IsSegBetween p q e
       → slice_get (chain_edges points) k ≡ Some e
   chain_at [] walk k p q e at_p at_q s = absurd (none-some p at_p)
   chain_at (x ∷ []) walk k p q e at_p at_q s = absurd (none-some q at_q)
@@ -52,15 +52,15 @@ module _ (edges : List Seg) where
       ap (λ es. slice_get es (suc k)) (chain_first x y rest first.0 first.1.1) ∙ chain_at (y ∷ rest) (rest_path edges x y rest walk) k p q e at_p at_q s
 
   -- an edge of the chain stands between two places
-  record IsStepOf (points : List Coord) (e : Seg) : Type 0 where
-    k : ℕ
-    p : Coord
-    q : Coord
-    at_p : slice_get points k ≡ Some p
-    at_q : slice_get points (suc k) ≡ Some q
-    between : IsSegBetween p q e
+  pub record IsStepOf (points : List Coord) (e : Seg) : Type 0 where
+    pub k : ℕ
+    pub p : Coord
+    pub q : Coord
+    pub at_p : slice_get points k ≡ Some p
+    pub at_q : slice_get points (suc k) ≡ Some q
+    pub between : IsSegBetween p q e
 
-  step_of : (points : List Coord) → IsPathAlong edges points → (e : Seg) → Contains (chain_edges points) e → IsStepOf points e
+  pub step_of : (points : List Coord) → IsPathAlong edges points → (e : Seg) → Contains (chain_edges points) e → IsStepOf points e
   step_of [] walk e (k, inside, is) = absurd (omega arith)
   step_of (x ∷ []) walk e (k, inside, is) = absurd (omega arith)
   step_of (x ∷ y ∷ rest) walk e has =
@@ -74,51 +74,52 @@ module _ (edges : List Seg) where
       by later f s (zero, inside, is) = record { k = 0; p = x; q = y; at_p = refl; at_q = refl; between = subst (IsSegBetween x y) is s }
       by later f s (suc k, inside, is) = next (later (k, omega arith, is))
 
-  -- ---- a line is a path by places
+  -- ---- a path by places, and a line
 
-  module _ (points : List Coord) (line : IsLine edges points) (d : Coord) where
-    abbrev point : ℕ → Coord
+  module _ (points : List Coord) (walk : IsPathAlong edges points) (d : Coord) where
+    abbrev pub point : ℕ → Coord
     point k = get_or points k d
 
-    at : (k : ℕ) → k < length points → slice_get points k ≡ Some (point k)
+    pub at : (k : ℕ) → k < length points → slice_get points k ≡ Some (point k)
     at k within = slice_get-get_or points k d within
 
-    along : (k : ℕ) → k < length points - 1 → (e : Seg) × (Contains edges e × IsSegBetween (point k) (point (suc k)) e)
+    pub along : (k : ℕ) → k < length points - 1 → (e : Seg) × (Contains edges e × IsSegBetween (point k) (point (suc k)) e)
     along k less =
         let shorter = length-drop 1 points in
         let inside : k < length (drop 1 points) = omega arith in
         let within : k < length (steps points) = omega (arith, length-zip points (drop 1 points)) in
         let next : get_or (drop 1 points) k d ≡ point (suc k) = get_or-drop 1 points k d ∙ (let z : 1 + k ≡ suc k = omega arith in ap (λ n. get_or points n d) z) in
         let is : get_or (steps points) k (d, d) ≡ (point k, point (suc k)) = get_or-zip points (drop 1 points) k (d, d) (omega arith) inside ∙ (λ i. (point k, next i)) in
-        subst (IsAlongEdge edges) is (line.walk k (d, d) within)
+        subst (IsAlongEdge edges) is (walk k (d, d) within)
 
-    edge_at : (k : ℕ) (e : Seg) → k < length points - 1 → IsSegBetween (point k) (point (suc k)) e → slice_get (chain_edges points) k ≡ Some e
-    edge_at k e less s = chain_at points line.walk k (point k) (point (suc k)) e (at k (omega arith)) (at (suc k) (omega arith)) s
+    pub edge_at : (k : ℕ) (e : Seg) → k < length points - 1 → IsSegBetween (point k) (point (suc k)) e → slice_get (chain_edges points) k ≡ Some e
+    edge_at k e less s = chain_at points walk k (point k) (point (suc k)) e (at k (omega arith)) (at (suc k) (omega arith)) s
 
-    pub thread : IsThread edges (length points - 1) point
+  module _ (points : List Coord) (line : IsLine edges points) (d : Coord) where
+    pub thread : IsThread edges (length points - 1) (point points line.walk d)
     thread = record {
       some = (let long = line.long in omega arith);
-      step = along;
+      step = along points line.walk d;
       distinct = λ j k e less within s t. (
-          let at_j = edge_at j e (omega arith) s in
-          let at_k = edge_at k e within t in
+          let at_j = edge_at points line.walk d j e (omega arith) s in
+          let at_k = edge_at points line.walk d k e within t in
           line.distinct j k e less (slice_get_within (chain_edges points) k e at_k) (get_or_from_slice_get (chain_edges points) j e e at_j ∙ sym (get_or_from_slice_get (chain_edges points) k e e at_k)));
-      from = (let long = line.long in line.from (point 0) (at 0 (omega arith)));
-      to = (let long = line.long in line.to (point (length points - 1)) (at (length points - 1) (omega arith)));
-      between = λ k some less. line.between k (point k) some (omega arith) (at k (omega arith));
+      from = (let long = line.long in line.from (point points line.walk d 0) (at points line.walk d 0 (omega arith)));
+      to = (let long = line.long in line.to (point points line.walk d (length points - 1)) (at points line.walk d (length points - 1) (omega arith)));
+      between = λ k some less. line.between k (point points line.walk d k) some (omega arith) (at points line.walk d k (omega arith));
     }
 
   -- ---- lines with a common edge
 
   module _ (points others : List Coord) (l : IsLine edges points) (m : IsLine edges others) (d : Coord) where
-    same_way : AreOne edges (length points - 1) (length others - 1) (point points l d) (point others m d) → points ≡ others
+    same_way : AreOne edges (length points - 1) (length others - 1) (point points l.walk d) (point others m.walk d) → points ≡ others
     same_way one =
         let long = l.long in
         let long_too = m.long in
         let same = one.same_length in
         same_lists points others (omega arith) (λ k c within. get_or_default points k c d within ∙ one.same_points k (omega arith) ∙ get_or_default others k d c (omega arith))
 
-    back_way : AreOne edges (length points - 1) (length others - 1) (point points l d) (λ k. point others m d ((length others - 1) - k)) → points ≡ reverse others
+    back_way : AreOne edges (length points - 1) (length others - 1) (point points l.walk d) (λ k. point others m.walk d ((length others - 1) - k)) → points ≡ reverse others
     back_way one =
         let long = l.long in
         let long_too = m.long in
@@ -143,29 +144,29 @@ module _ (edges : List Seg) where
         j_within : t.k < length others - 1
         j_within = let w = slice_get_within others (suc t.k) t.q t.at_q in omega arith
 
-        p_is : point points l d s.k ≡ s.p
+        p_is : point points l.walk d s.k ≡ s.p
         p_is = get_or_from_slice_get points s.k s.p d s.at_p
 
-        q_is : point points l d (suc s.k) ≡ s.q
+        q_is : point points l.walk d (suc s.k) ≡ s.q
         q_is = get_or_from_slice_get points (suc s.k) s.q d s.at_q
 
-        u_is : point others m d t.k ≡ t.p
+        u_is : point others m.walk d t.k ≡ t.p
         u_is = get_or_from_slice_get others t.k t.p d t.at_p
 
-        v_is : point others m d (suc t.k) ≡ t.q
+        v_is : point others m.walk d (suc t.k) ≡ t.q
         v_is = get_or_from_slice_get others (suc t.k) t.q d t.at_q
 
         along_it : s.p ≡ t.p → s.q ≡ t.q → points ≡ others
-        along_it p q = same_way (are_one edges (length points - 1) (length others - 1) (point points l d) (point others m d) (thread points l d) (thread others m d) s.k t.k i_within j_within (p_is ∙ p ∙ sym u_is) (q_is ∙ q ∙ sym v_is))
+        along_it p q = same_way (are_one edges (length points - 1) (length others - 1) (point points l.walk d) (point others m.walk d) (thread points l d) (thread others m d) s.k t.k i_within j_within (p_is ∙ p ∙ sym u_is) (q_is ∙ q ∙ sym v_is))
 
         against_it : s.p ≡ t.q → s.q ≡ t.p → points ≡ others
         against_it p q =
             let n = length others - 1 in
             let here : n - (n - suc t.k) ≡ suc t.k = omega (arith, j_within) in
             let next : n - suc (n - suc t.k) ≡ t.k = omega (arith, j_within) in
-            in_one_direction (back_way (are_one edges (length points - 1) n (point points l d) (λ k. point others m d (n - k)) (thread points l d) (turned_thread edges n (point others m d) (thread others m d)) s.k (n - suc t.k) i_within (omega (arith, j_within))
-            (p_is ∙ p ∙ sym v_is ∙ sym (ap (point others m d) here))
-            (q_is ∙ q ∙ sym u_is ∙ sym (ap (point others m d) next))))
+            in_one_direction (back_way (are_one edges (length points - 1) n (point points l.walk d) (λ k. point others m.walk d (n - k)) (thread points l d) (turned_thread edges n (point others m.walk d) (thread others m d)) s.k (n - suc t.k) i_within (omega (arith, j_within))
+            (p_is ∙ p ∙ sym v_is ∙ sym (ap (point others m.walk d) here))
+            (q_is ∙ q ∙ sym u_is ∙ sym (ap (point others m.walk d) next))))
 
         by : IsSegBetween s.p s.q e → IsSegBetween t.p t.q e → points ≡ others
         by (inl a) (inl b) = along_it (sym a.0 ∙ b.0) (sym a.1 ∙ b.1)
@@ -189,8 +190,8 @@ module _ (edges : List Seg) where
       by : (points : List Coord) (d : Coord) → IsLine edges points → Contains lines points
       by points d line =
           let long = line.long in
-          let first = along points line d 0 (omega arith) in
-          let at = edge_at points line d 0 first.0 (omega arith) first.1.1 in
+          let first = along points line.walk d 0 (omega arith) in
+          let at = edge_at points line.walk d 0 first.0 (omega arith) first.1.1 in
           let in_points : Contains (chain_edges points) first.0 = (0, slice_get_within (chain_edges points) 0 first.0 at, get_or_from_slice_get (chain_edges points) 0 first.0 first.0 at) in
           let other = h.every first.0 first.1.0 in
           let its : IsLine edges other.0 = All-contains (IsLine edges) lines other.0 h.each other.1.0 in
@@ -233,21 +234,21 @@ module _ (edges : List Seg) where
 
     both_edges : HasTwoEdges
     both_edges =
-        let first = along points line v (i - 1) (omega (arith, not_last)) in
-        let second = along points line v i not_last in
+        let first = along points line.walk v (i - 1) (omega (arith, not_last)) in
+        let second = along points line.walk v i not_last in
         let place : suc (i - 1) ≡ i = omega (arith, not_first) in
-        let is : point points line v i ≡ v = get_or_from_slice_get points i v v here in
+        let is : point points line.walk v i ≡ v = get_or_from_slice_get points i v v here in
         record {
           e = first.0;
           f = second.0;
-          a = point points line v (i - 1);
-          c = point points line v (suc i);
+          a = point points line.walk v (i - 1);
+          c = point points line.walk v (suc i);
           has_e = first.1.0;
           has_f = second.1.0;
-          to = seg_turned (point points line v (i - 1)) v first.0 (subst (λ q. IsSegBetween (point points line v (i - 1)) q first.0) (ap (point points line v) place ∙ is) first.1.1);
-          from = subst (λ q. IsSegBetween q (point points line v (suc i)) second.0) is second.1.1;
-          at_e = edge_at points line v (i - 1) first.0 (omega (arith, not_last)) first.1.1;
-          at_f = edge_at points line v i second.0 not_last second.1.1;
+          to = seg_turned (point points line.walk v (i - 1)) v first.0 (subst (λ q. IsSegBetween (point points line.walk v (i - 1)) q first.0) (ap (point points line.walk v) place ∙ is) first.1.1);
+          from = subst (λ q. IsSegBetween q (point points line.walk v (suc i)) second.0) is second.1.1;
+          at_e = edge_at points line.walk v (i - 1) first.0 (omega (arith, not_last)) first.1.1;
+          at_f = edge_at points line.walk v i second.0 not_last second.1.1;
         }
 
   placed : (xs : List Seg) (k : ℕ) (e : Seg) → slice_get xs k ≡ Some e → Contains xs e
@@ -274,15 +275,6 @@ module _ (edges : List Seg) where
       (differ points line (i - 1) i x.e x.f (omega arith) x.at_e x.at_f)
       (differ points line (i - 1) j x.e y.f (omega arith) x.at_e y.at_f)
       (differ points line i j x.f y.f less x.at_f y.at_f)
-
-  seg_or : (e f : Seg) → (e ≡ f) ⊎ (e ≢ f)
-  seg_or e f = elim (cases_segs e f) [
-    | inl before ↦ inr (λ same. true≢false (sym (subst (λ s. IsTrue (is_seg_before e s)) (sym same) before) ∙ is_seg_before-irrefl e))
-    | inr rest ↦ elim rest [
-      | inl same ↦ inl same
-      | inr after ↦ inr (λ same. true≢false (sym (subst (λ s. IsTrue (is_seg_before s e)) (sym same) after) ∙ is_seg_before-irrefl e))
-    ]
-  ]
 
   -- two lines through it have an edge in common
   module _ (points others : List Coord) (l : IsLine edges points) (m : IsLine edges others) (v : Coord) (no_node : ¬ IsNode edges v) (i j : ℕ) (at_i : slice_get points i ≡ Some v) (at_j : slice_get others j ≡ Some v) where

@@ -14,7 +14,7 @@ use Rattle.greedy_run.specs.Lines.{degree, IsNode}
 
 -- ---- three different elements that pass are counted
 
-some_counted : {X : Type 0} (p : X → Bool) (xs : List X) (x : X) → Contains xs x → p x ≡ true → 1 ≤ count_by p xs
+pub some_counted : {X : Type 0} (p : X → Bool) (xs : List X) (x : X) → Contains xs x → p x ≡ true → 1 ≤ count_by p xs
 some_counted p [] x (k, inside, is) h = absurd (omega arith)
 some_counted p (y ∷ xs) x (zero, inside, is) h =
     let first : cond {A = ℕ} (p y) 1 0 ≡ 1 = ap (λ b. cond {A = ℕ} b 1 0) (ap p is ∙ h) in omega (arith, sum_by-cons (λ z. cond (p z) 1 0) y xs, first)
@@ -73,18 +73,20 @@ one_seg a b e f (inr h) (inr k) = same_segs e f (h.0 ∙ sym k.0) (h.1 ∙ sym k
 one_seg a b e f (inl h) (inr k) = absurd (not_both_ways e f (h.0 ∙ sym k.1) (h.1 ∙ sym k.0))
 one_seg a b e f (inr h) (inl k) = absurd (not_both_ways e f (h.0 ∙ sym k.1) (h.1 ∙ sym k.0))
 
+-- a segment has two ends
+seg_no_loop : (e : Seg) → e.lo ≡ e.hi → ⊥
+seg_no_loop e same = not_both_ways e e same (sym same)
+
+pub no_loop : (q : Coord) (e : Seg) → IsSegBetween q q e → ⊥
+no_loop q e (inl h) = seg_no_loop e (h.0 ∙ sym h.1)
+no_loop q e (inr h) = seg_no_loop e (h.0 ∙ sym h.1)
+
 -- a segment from q has one other end
-other_end : (q c d : Coord) (e : Seg) → IsSegBetween q c e → IsSegBetween q d e → c ≡ d
+pub other_end : (q c d : Coord) (e : Seg) → IsSegBetween q c e → IsSegBetween q d e → c ≡ d
 other_end q c d e (inl h) (inl k) = sym h.1 ∙ k.1
 other_end q c d e (inr h) (inr k) = sym h.0 ∙ k.0
-other_end q c d e (inl h) (inr k) = absurd (no_loop e (h.0 ∙ sym k.1))
-  where
-    no_loop : (e : Seg) → e.lo ≡ e.hi → ⊥
-    no_loop e same = not_both_ways e e same (sym same)
-other_end q c d e (inr h) (inl k) = absurd (no_loop e (k.0 ∙ sym h.1))
-  where
-    no_loop : (e : Seg) → e.lo ≡ e.hi → ⊥
-    no_loop e same = not_both_ways e e same (sym same)
+other_end q c d e (inl h) (inr k) = absurd (seg_no_loop e (h.0 ∙ sym k.1))
+other_end q c d e (inr h) (inl k) = absurd (seg_no_loop e (k.0 ∙ sym h.1))
 
 pub ends_at : (q c : Coord) (e : Seg) → IsSegBetween q c e → (is_same_coord e.lo q || is_same_coord e.hi q) ≡ true
 ends_at q c e (inl h) = or_left _ _ ((Decides-same_coords e.lo q).1 h.0)

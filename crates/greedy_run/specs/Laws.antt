@@ -1,12 +1,13 @@
 -- The laws that make the definitions of lines and of the run believable.
-use Rattle.std.specs.Prelude.{◌≡◌, ℕ, ◌↔◌, Bool, IsTrue, List, All, AllPairs, Contains, Some, slice_get}
+use Rattle.std.specs.Prelude.{◌≡◌, ℕ, ◌+◌, ◌≤◌, ◌↔◌, Bool, false, IsTrue, List, length, All, AllPairs, Contains, Some, slice_get}
 use Rattle.std.specs.Ordering.{is_lt}
 use Rattle.cov_types.specs.declared.coord.Coord.{Coord}
 use Rattle.cov_types.specs.declared.seg.Seg.{Seg}
-use Rattle.cov_types.specs.Coord.{points_cmp}
+use Rattle.cov_types.specs.Coord.{is_before, points_cmp}
 use Rattle.cov_types.specs.Coverage.{Members}
 use Rattle.plane.specs.Snapping.{chain_edges}
-use Rattle.greedy_run.specs.Lines.{IsNode, IsLine, AreLines}
+use Rattle.arrangement.specs.Noding.{IsAscending}
+use Rattle.greedy_run.specs.Lines.{degree, IsLeastOfLoop, IsNode, IsLine, AreLines, IsTrail, IsLoop, IsWalked}
 use Rattle.greedy_run.specs.Run.{IsLastBefore, IsFirstAfter, point_before, point_after, Simplification, Spot, IsRemovable, IsNextPoint, IsFinalState, IsSimplified}
 
 -- edges have one list of lines
@@ -37,6 +38,40 @@ pub record IsOnePlace (points others : List Coord) (i j : ℕ) : Type 0 where
 abbrev pub PlaceLaw : Type 0
 PlaceLaw = (edges : List Seg) (points others : List Coord) → IsLine edges points → IsLine edges others → (v : Coord) → ¬ IsNode edges v
     → (i j : ℕ) → slice_get points i ≡ Some v → slice_get others j ≡ Some v → IsOnePlace points others i j
+
+-- the edge stands in this line and in no other
+pub record IsOnlyLine (edges : List Seg) (e : Seg) (points : List Coord) : Type 0 where
+  pub line : IsLine edges points
+  pub among : Contains (chain_edges points) e
+  pub only : (others : List Coord) → IsLine edges others → Contains (chain_edges others) e → points ≡ others
+
+-- each edge stands in exactly one line
+abbrev pub EdgeLineLaw : Type 0
+EdgeLineLaw = (edges : List Seg) → IsAscending edges → (e : Seg) → Contains edges e → (points : List Coord) × IsOnlyLine edges e points
+
+-- the vertex stands at this place of this line and nowhere else
+pub record IsOnlyPlace (edges : List Seg) (v : Coord) (points : List Coord) (i : ℕ) : Type 0 where
+  pub line : IsLine edges points
+  pub at : slice_get points i ≡ Some v
+  pub only : (others : List Coord) (j : ℕ) → IsLine edges others → slice_get others j ≡ Some v → IsOnePlace points others i j
+
+-- each vertex that is no node stands at exactly one place of one line
+abbrev pub VertexLineLaw : Type 0
+VertexLineLaw = (edges : List Seg) → IsAscending edges → (v : Coord) → 1 ≤ degree edges v → ¬ IsNode edges v → (points : List Coord) × ((i : ℕ) × IsOnlyPlace edges v points i)
+
+-- ---- walking along a line
+
+-- a trail has at most as many steps as there are edges
+abbrev pub TrailLaw : Type 0
+TrailLaw = (edges : List Seg) (points : List Coord) → IsTrail edges points → length points ≤ length edges + 1
+
+-- from any edge a walk goes on until other than two edges meet, or until it is back
+abbrev pub WalkLaw : Type 0
+WalkLaw = (edges : List Seg) → IsAscending edges → (e : Seg) → Contains edges e → (points : List Coord) × IsWalked edges e points
+
+-- and where it is back, it has seen all points of the loop: the least of them is the node
+abbrev pub LoopLaw : Type 0
+LoopLaw = (edges : List Seg) (points : List Coord) → IsLoop edges points → (p : Coord) → Contains points p → IsLeastOfLoop edges p ↔ All (λ q. is_before q p ≡ false) points
 
 -- the point before a place in what is left of a line is at the last place before it that is not removed
 abbrev pub BeforeLaw : Type 0

@@ -46,3 +46,30 @@ pub record IsLine (edges : List Seg) (points : List Coord) : Type 0 where
 pub record AreLines (edges : List Seg) (lines : List (List Coord)) : Type 0 where
   pub ascending : AllPairs (λ l m. IsTrue (is_lt (points_cmp l m))) lines
   pub exact : (points : List Coord) → Contains lines points ↔ IsLine edges points
+
+-- ---- walking along a line
+
+-- a trail: a walk along distinct edges, where two edges meet at each point between its ends
+pub record IsTrail (edges : List Seg) (points : List Coord) : Type 0 where
+  pub long : 2 ≤ length points
+  pub walk : IsPathAlong edges points
+  pub distinct : AllPairs (λ e f. e ≢ f) (chain_edges points)
+  pub between : (k : ℕ) (p : Coord) → 0 < k → k + 1 < length points → slice_get points k ≡ Some p → degree edges p ≡ 2
+
+-- the last point of a list
+abbrev pub EndsAt : List Coord → Coord → Type 0
+EndsAt points q = slice_get points (length points - 1) ≡ Some q
+
+-- a loop: a trail back to its first point, where two edges meet too
+pub record IsLoop (edges : List Seg) (points : List Coord) : Type 0 where
+  pub trail : IsTrail edges points
+  pub at : Coord
+  pub first : slice_get points 0 ≡ Some at
+  pub last : EndsAt points at
+  pub two : degree edges at ≡ 2
+
+-- a trail that begins along the edge and is done: it ends where other than two edges meet, or is a loop
+pub record IsWalked (edges : List Seg) (e : Seg) (points : List Coord) : Type 0 where
+  pub trail : IsTrail edges points
+  pub first : slice_get (chain_edges points) 0 ≡ Some e
+  pub done : IsLoop edges points ⊎ ((q : Coord) → EndsAt points q → degree edges q ≢ 2)

@@ -1,6 +1,7 @@
 ghost use Rattle.greedy_run.specs.Borders.{BorderExamples};
 ghost use Rattle.greedy_run.specs.Examples.{StateExamples};
 ghost use Rattle.greedy_run.specs.Runs.{RunExamples};
+ghost use Rattle.greedy_run.specs.Valid.{ValidExamples};
 
 /// Examples with numbers, by computation. A call does nothing.
 pub fn vectors()
@@ -11,4 +12,5 @@ pub fn vectors()
 pub fn instances()
     ensures run { RunExamples }
     ensures borders { BorderExamples }
+    ensures valid { ValidExamples }
 {}

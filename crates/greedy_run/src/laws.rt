@@ -1,11 +1,24 @@
-ghost use Rattle.greedy_run.specs.Laws.{LinesLaw, CommonEdgeLaw, CoveringLaw, PlaceLaw, BeforeLaw, AfterLaw, NoNodeLaw, NextPointLaw, FinalStateLaw, SimplifiedLaw};
+ghost use Rattle.greedy_run.specs.Laws.{LinesLaw, CommonEdgeLaw, CoveringLaw, PlaceLaw, EdgeLineLaw, VertexLineLaw, TrailLaw, WalkLaw, LoopLaw, BeforeLaw, AfterLaw, NoNodeLaw, NextPointLaw, FinalStateLaw, SimplifiedLaw};
 
-/// Edges have one list of lines, in which an edge and a vertex that is no node stand at one place at most. A call does nothing.
+/// Edges have one list of lines, and two lines with a common edge or a common vertex that is no node are one. A call does nothing.
 pub fn lines_law()
     ensures one { LinesLaw }
     ensures edge { CommonEdgeLaw }
     ensures covering { CoveringLaw }
     ensures place { PlaceLaw }
+{}
+
+/// Each edge stands in exactly one line, and each vertex that is no node at one place of one line. A call does nothing.
+pub fn line_law()
+    ensures edge { EdgeLineLaw }
+    ensures vertex { VertexLineLaw }
+{}
+
+/// A walk from any edge ends where other than two edges meet, or it is back; then its least point is the node. A call does nothing.
+pub fn walk_law()
+    ensures bound { TrailLaw }
+    ensures done { WalkLaw }
+    ensures least { LoopLaw }
 {}
 
 /// The neighbours of a place, and that a point that can be removed is no node. A call does nothing.

@@ -1,7 +1,7 @@
-ghost use Rattle.std.specs.Prelude.{◌<◌, ◌≤◌, All, IfOk, IfSome};
+ghost use Rattle.std.specs.Prelude.{◌<◌, All, IfOk};
 ghost use Rattle.cov_types.specs.Range.{IsSegInRange};
 
-use crate::{Columns, HotSet, before, meets, pixel_of};
+use crate::{Columns, HotSet, meets, pixel_of};
 use cov_types::{Coord, EdgeUse, LIMIT, NoMemory, Seg};
 use grid_pred::crossing;
 use std::alloc::Global;
@@ -134,7 +134,8 @@ fn random_lists_are_answered_as_plain_scans_answer(rt: HostRuntime) -> Result<()
     ];
     let mut random = Random { state: 1 };
     for (layout, count) in cases {
-        let uses = random_uses(rt.alloc(), layout, count, &mut random)?;
+        let list = random_list(rt.alloc(), layout, count, &mut random)?;
+        let uses = edge_uses(&rt, rt.alloc(), &list)?;
         expect_near(&rt, rt.alloc(), &uses)?;
         expect_chains(&rt, rt.alloc(), &uses)?;
     }
@@ -188,12 +189,16 @@ fn expect_chains(rt: &impl Abort, alloc: Global, uses: &[EdgeUse]) -> Result<(),
     Ok(())
 }
 
-fn expect_order(rt: &impl Abort, s: Seg, chain: &[Coord])
-    requires { IsSegInRange s }
-{
+// From column to column, and in one column upwards or downwards as the segment goes.
+fn expect_order(rt: &impl Abort, s: Seg, chain: &[Coord]) {
     for i in 1..chain.len() {
         let (a, b) = (chain[i - 1], chain[i]);
-        assert!(rt; meets(s, a) && meets(s, b) && before(s, a, b));
+        let onwards = if s.lo.y <= s.hi.y {
+            a.y < b.y
+        } else {
+            b.y < a.y
+        };
+        assert!(rt; a.x < b.x || a.x == b.x && onwards);
     }
 }
 
@@ -266,22 +271,18 @@ impl Random {
     }
 }
 
-// So many segments, less those that would be points.
-fn random_uses(
+// So many segments by their ends.
+fn random_list(
     alloc: Global,
     layout: Layout,
     count: u32,
     random: &mut Random,
-) -> Result<Vec<EdgeUse>, NoMemory>
-    ensures { IfOk result (λ uses. All (λ u. IsSegInRange u.seg) uses.items) }
-{
-    let mut uses = Vec::new(alloc);
+) -> Result<Vec<Ends>, NoMemory> {
+    let mut list = Vec::new(alloc);
     for i in 0..count {
-        if let Some(seg) = between(random_ends(layout, i, random)) {
-            uses.push(EdgeUse { member: 0, seg })?;
-        }
+        list.push(random_ends(layout, i, random))?;
     }
-    Ok(uses)
+    Ok(list)
 }
 
 fn random_ends(layout: Layout, i: u32, random: &mut Random) -> Ends {
@@ -289,6 +290,8 @@ fn random_ends(layout: Layout, i: u32, random: &mut Random) -> Ends {
     let y = random.below(8) as i32;
     let u = random.below(8) as i32;
     let v = random.below(8) as i32;
+    // Never a point.
+    let u = if x == u && y == v { u + 1 } else { u };
     match layout {
         Layout::Dense => (x, y, u, v),
         Layout::Clusters => {
@@ -318,21 +321,13 @@ fn edge_uses(rt: &impl Abort, alloc: Global, list: &[Ends]) -> Result<Vec<EdgeUs
     Ok(uses)
 }
 
-// The segment between two points in range, if they differ.
-fn between(ends: Ends) -> Option<Seg>
-    ensures { IfSome result IsSegInRange }
-{
-    let (lo_x, lo_y, hi_x, hi_y) = ends;
-    let seg = Seg::between(Coord { x: lo_x, y: lo_y }, Coord { x: hi_x, y: hi_y })?;
-    if seg.lo.is_in_range() && seg.hi.is_in_range() {
-        Some(seg)
-    } else {
-        None
-    }
-}
-
 fn segment(rt: &impl Abort, ends: Ends) -> Seg
     ensures { IsSegInRange result }
 {
-    between(ends).expect(rt, "two different ends in range")
+    let (lo_x, lo_y, hi_x, hi_y) = ends;
+    let lo = Coord { x: lo_x, y: lo_y };
+    let hi = Coord { x: hi_x, y: hi_y };
+    let segment = Seg::between(lo, hi).expect(rt, "two different ends");
+    assert!(rt; segment.lo.is_in_range() && segment.hi.is_in_range());
+    segment
 }

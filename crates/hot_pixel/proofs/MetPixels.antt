@@ -23,7 +23,7 @@ use Rattle.box_tree.proofs.Reached.{pixel_reached, reach_of-up, reach_of-down, i
 use Rattle.rounding_laws.specs.Formulas.{ComesFirst, IsBeside, IsBesideUp, IsBesideDown}
 use Rattle.rounding_laws.proofs.First.{passes-is}
 use Rattle.rounding_laws.proofs.Meets.{meets-is}
-use Rattle.hot_pixel.specs.Centres.{AreHotCentres, Gains, IsMetAt, AreMet}
+use Rattle.hot_pixel.specs.Centres.{AreHotCentres, Gains, HasMetCentre, AreMet}
 use Rattle.hot_pixel.proofs.Gains.{gains_one, gains_not_found, gains_from_none}
 
 -- ---- the probe reaches each pixel that the segment meets
@@ -61,11 +61,11 @@ module _ (s : Seg) (centres : List Coord) (k : ℕ) (r : Coord) (within : k < le
   only_r : (q : Coord) → slice_get centres k ≡ Some q → r ≡ q
   only_r q at = is ∙ get_or_from_slice_get centres k q r at
 
-  pub met_kept : end ≡ start ++ r ∷ [] → MeetsPixel s r → Gains start end (λ q. IsMetAt s centres q k)
-  met_kept pushed met = gains_one (λ q. IsMetAt s centres q k) start end r pushed (λ q. (λ h. only_r q h.at, λ same. subst (λ (p : Coord). IsMetAt s centres p k) same (record { at = at_k; met = met })))
+  pub met_kept : end ≡ start ++ r ∷ [] → MeetsPixel s r → Gains start end (λ q. HasMetCentre s centres q k)
+  met_kept pushed met = gains_one (λ q. HasMetCentre s centres q k) start end r pushed (λ q. (λ h. only_r q h.at, λ same. subst (λ (p : Coord). HasMetCentre s centres p k) same (record { at = at_k; met = met })))
 
-  pub met_passed : end ≡ start → ¬ MeetsPixel s r → Gains start end (λ q. IsMetAt s centres q k)
-  met_passed same missed = gains_not_found (λ q. IsMetAt s centres q k) start end same (λ q h. missed (subst (MeetsPixel s) (sym (only_r q h.at)) h.met))
+  pub met_passed : end ≡ start → ¬ MeetsPixel s r → Gains start end (λ q. HasMetCentre s centres q k)
+  met_passed same missed = gains_not_found (λ q. HasMetCentre s centres q k) start end same (λ q h. missed (subst (MeetsPixel s) (sym (only_r q h.at)) h.met))
 
 -- the places near are places of centres
 pub near_within : (s : Seg) (centres seen : List Coord) (near shown : List ℕ) (boxes : List Rect) → boxes ≡ map box_of_point centres → seen ≡ centres → near ≡ places (reaches (Pixels s)) 0 boxes → shown ≡ near → All (λ k. k < length seen) shown
@@ -79,11 +79,11 @@ pub chain_is : (segs : List Seg) (s : Seg) (centres seen : List Coord) (near sho
     → near ≡ places (reaches (Pixels s)) 0 boxes → shown ≡ near → AreMet s seen shown met → ((r : Coord) → Contains chain r ↔ Contains met r) → AllPairs (ComesFirst s) chain → IsChain segs s chain
 chain_is segs s centres seen near shown boxes met chain in_range hot are read found shown_all kept sorted order = record { members = members; in_order = in_order }
   where
-    there : (r : Coord) → Any (IsMetAt s seen r) shown → IsHot segs r × MeetsPixel s r
+    there : (r : Coord) → Any (HasMetCentre s seen r) shown → IsHot segs r × MeetsPixel s r
     there r (j, k, within, is, at) =
         ((hot.exact r).0 (subst (λ (xs : List Coord). Contains xs r) read (k, slice_get_within seen k r at.at, get_or_from_slice_get seen k r r at.at)), at.met)
 
-    back : (r : Coord) → IsHot segs r → MeetsPixel s r → Any (IsMetAt s seen r) shown
+    back : (r : Coord) → IsHot segs r → MeetsPixel s r → Any (HasMetCentre s seen r) shown
     back r is_hot meets =
         let k = (hot.exact r).1 is_hot in
         let at : slice_get centres k.0 ≡ Some r = slice_get-get_or centres k.0 r k.1 ∙ ap Some k.2 in

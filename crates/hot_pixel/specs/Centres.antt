@@ -42,10 +42,10 @@ pub record HasCrossing (segs : List Seg) (first past : ℕ) (r : Coord) : Type 0
   pub cross : CrossAt segs i k r
 
 -- the centre at k is r, and the segment meets its pixel
-pub record IsMetAt (s : Seg) (centres : List Coord) (r : Coord) (k : ℕ) : Type 0 where
+pub record HasMetCentre (s : Seg) (centres : List Coord) (r : Coord) (k : ℕ) : Type 0 where
   pub at : slice_get centres k ≡ Some r
   pub met : MeetsPixel s r
 
 -- of the centres with the numbers near, those whose pixels the segment meets
 abbrev pub AreMet : Seg → List Coord → List ℕ → List Coord → Type 0
-AreMet s centres near met = (r : Coord) → Contains met r ↔ Any (IsMetAt s centres r) near
+AreMet s centres near met = (r : Coord) → Contains met r ↔ Any (HasMetCentre s centres r) near

@@ -42,7 +42,7 @@ impl Columns {
     }
 
     /// The places of the uses whose segments pass a column of the segment, or the column before or after, ascending. Takes time in
-    /// proportion to these, and to the logarithm of the list.
+    /// proportion to these and to the logarithm of the list, and memory in proportion to these.
     pub fn near(&self, s: Seg) -> Result<Vec<usize>, NoMemory>
         requires { IsSegInRange s }
         ensures { IfOk result (λ places. places.items ≡ places_in_columns s 0 self.now) }
@@ -54,10 +54,7 @@ impl Columns {
 fn boxes_of(alloc: Global, list: &[EdgeUse]) -> Result<Vec<Rect>, NoMemory>
     ensures { IfOk result (λ boxes. boxes.items ≡ map (λ u. box_of_segment u.seg) list.now) }
 {
-    let boxes = list
-        .iter()
-        .map(|u| Rect::of_segment(u.seg))
-        .collect(alloc)?;
+    let boxes = list.iter().map(|u| Rect::of_segment(u.seg)).collect(alloc)?;
     Ok(boxes)
 }
 

@@ -55,7 +55,8 @@ impl HotSet {
     }
 
     /// The chain of a segment, listed or not: the centres of the hot pixels that it meets, in the order from lo to hi. Takes time in
-    /// proportion to the centres near the segment, and to the logarithm of all.
+    /// proportion to the centres near the segment and to the logarithm of all, and n log n in the length of the chain; memory in
+    /// proportion to the centres near it.
     pub fn chain(&self, s: Seg) -> Result<Vec<Coord>, NoMemory>
         requires { IsSegInRange s }
         ensures { IfOk result (λ chain. IsChain self.now s chain.items) }

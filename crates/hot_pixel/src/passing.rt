@@ -8,7 +8,7 @@ ghost use Rattle.rounding_laws.specs.Formulas.{ComesFirst, IsBesideUp, IsBesideD
 use cov_types::{Coord, Seg};
 use grid_pred::turn;
 
-/// Whether the segment has a point in the pixel of r.
+/// Whether the segment has a point in the pixel of r. Takes constant time.
 pub fn meets(s: Seg, r: Coord) -> bool
     ensures { IsTrue result ↔ MeetsPixel s r }
 {
@@ -22,7 +22,7 @@ pub fn meets(s: Seg, r: Coord) -> bool
     }
 }
 
-/// Whether the segment, from lo to hi, passes the pixel of a before that of b.
+/// Whether the segment, from lo to hi, passes the pixel of a before that of b. Takes constant time.
 pub fn before(s: Seg, a: Coord, b: Coord) -> bool
     requires in_range { IsSegInRange s }
     requires meets_a { MeetsPixel s a }

@@ -8,7 +8,7 @@ ghost use Rattle.hot_pixel.specs.Pixel.{RoundsTo};
 use cov_types::Coord;
 use grid_pred::Cross;
 
-/// The grid point whose pixel holds a crossing.
+/// The grid point whose pixel holds a crossing. Takes constant time.
 pub fn pixel_of(c: &Cross) -> Coord
     requires { IsCrossInRange c.now }
     ensures exact { (r : Coord) → IsInPixel (at_cross c.now) r ↔ (r ≡ result) }

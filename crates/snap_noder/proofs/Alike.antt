@@ -20,10 +20,10 @@ use Rattle.snap_noder.proofs.ParityLemmas.{contains_mapped}
 use Rattle.snap_noder.proofs.Times.{contains_cases}
 
 -- every sum over the one is that over the other
-abbrev pub AreAlike : {X : Type 0} → List X → List X → Type 0
-AreAlike {X} us vs = (f : X → ℕ) → sum_by f us ≡ sum_by f vs
+abbrev pub HaveSameElements : {X : Type 0} → List X → List X → Type 0
+HaveSameElements {X} us vs = (f : X → ℕ) → sum_by f us ≡ sum_by f vs
 
-pub permuted_alike : {X : Type 0} (us vs : List X) → IsPermutation us vs → AreAlike us vs
+pub permuted_alike : {X : Type 0} (us vs : List X) → IsPermutation us vs → HaveSameElements us vs
 permuted_alike us vs moved f = sym (sum_by-IsPermutation f us vs moved)
 
 -- ---- what passes a test
@@ -58,7 +58,7 @@ some_has {X} p (x ∷ xs) some = by (λ h. some_has p xs h) (p x) refl
 
 -- ---- their edges
 
-same_segments : (us vs : List EdgeUse) → AreAlike us vs → (e : Seg) → Contains (segments us) e → Contains (segments vs) e
+same_segments : (us vs : List EdgeUse) → HaveSameElements us vs → (e : Seg) → Contains (segments us) e → Contains (segments vs) e
 same_segments us vs alike e has =
     let u = contains_mapped (λ (w : EdgeUse). w.seg) us e has in
     let test : EdgeUse → Bool = λ w. is_same_seg e w.seg in
@@ -66,7 +66,7 @@ same_segments us vs alike e has =
     let v = some_has test vs (subst (λ n. 0 < n) (alike (λ w. cond (test w) 1 0)) some) in
     subst (λ (s : Seg). Contains (segments vs) s) (sym ((Decides-same_segs e v.0.seg).0 v.1.1)) (contains-map (λ (w : EdgeUse). w.seg) vs v.0 v.1.0)
 
-pub alike_edges : (us vs : List EdgeUse) (edges : List Seg) (odd : List OddUse) → AreAlike us vs → AreEdges vs edges odd → AreEdges us edges odd
+pub alike_edges : (us vs : List EdgeUse) (edges : List Seg) (odd : List OddUse) → HaveSameElements us vs → AreEdges vs edges odd → AreEdges us edges odd
 alike_edges us vs edges odd alike are = record {
   ascending = are.ascending;
   exact = λ e. (λ has. same_segments vs us (λ f. sym (alike f)) e ((are.exact e).0 has), λ used. (are.exact e).1 (same_segments us vs alike e used));

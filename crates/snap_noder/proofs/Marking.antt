@@ -15,7 +15,7 @@ use Rattle.std.proofs.Math.Seq.{get_or-append_seam}
 use Rattle.cov_types.specs.declared.seg.Seg.{Seg}
 use Rattle.arrangement.specs.declared.odd_use.OddUse.{OddUse}
 use Rattle.snap_noder.specs.Places.{HavePlaces}
-use Rattle.snap_noder.specs.Marked.{AreMarks, marked_before, ArePrefixCounts}
+use Rattle.snap_noder.specs.Marked.{AreUseMarks, marked_before, ArePrefixCounts}
 
 -- ---- marks
 
@@ -45,11 +45,11 @@ changed before k marks at inside within was =
     not_equal i j n = false_from_ne_true (i == j) (λ t. n ((Decides-eqb i j).0 t))
 
 -- o is the pair at i
-pub marks_more : (edges : List Seg) (odd : List OddUse) (before after : List Bool) (i : ℕ) (o : OddUse) → i < length odd → o ≡ get_or odd i o → o.edge < length edges → AreMarks edges (take i odd) before → after ≡ slice_set before o.edge true
-    → AreMarks edges (take (i + 1) odd) after
+pub marks_more : (edges : List Seg) (odd : List OddUse) (before after : List Bool) (i : ℕ) (o : OddUse) → i < length odd → o ≡ get_or odd i o → o.edge < length edges → AreUseMarks edges (take i odd) before → after ≡ slice_set before o.edge true
+    → AreUseMarks edges (take (i + 1) odd) after
 marks_more edges odd before after i o within is inside so_far set =
-    subst (AreMarks edges (take (i + 1) odd)) (sym set)
-    (subst (λ (os : List OddUse). AreMarks edges os (slice_set before o.edge true)) (ap (λ (p : OddUse). take i odd ++ p ∷ []) is ∙ sym (take_more odd i o within)) (record {
+    subst (AreUseMarks edges (take (i + 1) odd)) (sym set)
+    (subst (λ (os : List OddUse). AreUseMarks edges os (slice_set before o.edge true)) (ap (λ (p : OddUse). take i odd ++ p ∷ []) is ∙ sym (take_more odd i o within)) (record {
       long = length-set before o.edge true ∙ so_far.long;
       each = λ k below.
           changed (list_any (λ p. p.edge == k) (take i odd)) k before o.edge (omega (arith, so_far.long)) (omega (arith, so_far.long)) (so_far.each k below)
@@ -65,12 +65,12 @@ marks_more edges odd before after i o within is inside so_far set =
     any_push p xs x = or_none (list_any p xs) (p x) ∙ sym (list_any-append p xs (x ∷ []))
 
 -- the pair at i, as the loop reads it through a slice
-pub marks_read : (edges : List Seg) (odd shown : List OddUse) (marks : List Bool) (i : ℕ) (d : OddUse) → shown ≡ odd → i < length shown → HavePlaces edges odd → AreMarks edges (take i odd) marks
-    → AreMarks edges (take (i + 1) odd) (slice_set marks (get_or shown i d).edge true)
+pub marks_read : (edges : List Seg) (odd shown : List OddUse) (marks : List Bool) (i : ℕ) (d : OddUse) → shown ≡ odd → i < length shown → HavePlaces edges odd → AreUseMarks edges (take i odd) marks
+    → AreUseMarks edges (take (i + 1) odd) (slice_set marks (get_or shown i d).edge true)
 marks_read edges odd shown marks i d same within places so_far =
     let inside : i < length odd = omega (arith, ap length same) in
     let read : get_or shown i d ≡ get_or odd i d = ap (λ (ps : List OddUse). get_or ps i d) same in
-    subst (λ (o : OddUse). AreMarks edges (take (i + 1) odd) (slice_set marks o.edge true)) (sym read)
+    subst (λ (o : OddUse). AreUseMarks edges (take (i + 1) odd) (slice_set marks o.edge true)) (sym read)
     (marks_more edges odd marks (slice_set marks (get_or odd i d).edge true) i (get_or odd i d) inside (get_or_default odd i d (get_or odd i d) inside) (places i d inside) so_far refl)
 
 -- ---- counts

@@ -19,7 +19,7 @@ use Rattle.arrangement.specs.declared.odd_use.OddUse.{OddUse}
 use Rattle.arrangement.specs.Noding.{segments, IsAscending, IsOdd, AreEdges}
 use Rattle.arrangement.proofs.OddUses.{is_same_use, Decides-same_use, one_place}
 use Rattle.snap_noder.specs.Order.{AreOddAscending}
-use Rattle.snap_noder.specs.Places.{HavePlaces, odd_times, IsPlaced, AreNumbered}
+use Rattle.snap_noder.specs.Places.{HavePlaces, odd_times, HasEdgePlace, HaveEdgeNumbers}
 use Rattle.snap_noder.proofs.OddOrder.{is_same_odd, Decides-same_odds, same_odds}
 use Rattle.snap_noder.proofs.Times.{contains_cases, odd_has}
 
@@ -40,16 +40,16 @@ some_is {X} x y e = ap (λ (o : Option X). unwrap_or o x) e
 
 -- the pairs are those of the uses, in some order
 abbrev pub ArePlacesOf : List EdgeUse → List Seg → List OddUse → Type 0
-ArePlacesOf uses edges pairs = (placed : List OddUse) × (AllZip (IsPlaced edges) uses placed × IsPermutation placed pairs)
+ArePlacesOf uses edges pairs = (placed : List OddUse) × (AllZip (HasEdgePlace edges) uses placed × IsPermutation placed pairs)
 
 -- in ascending edges a use has one pair
-one_pair : (edges : List Seg) → IsAscending edges → (u v : EdgeUse) (o p : OddUse) → IsPlaced edges u o → IsPlaced edges v p → u ≡ v → o ≡ p
+one_pair : (edges : List Seg) → IsAscending edges → (u v : EdgeUse) (o p : OddUse) → HasEdgePlace edges u o → HasEdgePlace edges v p → u ≡ v → o ≡ p
 one_pair edges up u v o p at_o at_p same =
     same_odds o p (at_o.0 ∙ ap (λ (w : EdgeUse). w.member) same ∙ sym at_p.0)
     (one_place edges up o.edge p.edge v.seg (at_o.1 ∙ ap (λ (w : EdgeUse). Some w.seg) same) at_p.1)
 
 -- and a pair has one use
-one_use : (edges : List Seg) (u v : EdgeUse) (o p : OddUse) → IsPlaced edges u o → IsPlaced edges v p → o ≡ p → u ≡ v
+one_use : (edges : List Seg) (u v : EdgeUse) (o p : OddUse) → HasEdgePlace edges u o → HasEdgePlace edges v p → o ≡ p → u ≡ v
 one_use edges u v o p at_o at_p same =
     same_uses u v (sym at_o.0 ∙ ap (λ (q : OddUse). q.member) same ∙ at_p.0)
     (some_is u.seg v.seg (sym at_o.1 ∙ ap (λ (q : OddUse). slice_get edges q.edge) same ∙ at_p.1))
@@ -57,14 +57,14 @@ one_use edges u v o p at_o at_p same =
 -- ---- how often
 
 module _ (edges : List Seg) (up : IsAscending edges) where
-  same_tests : (u v : EdgeUse) (o p : OddUse) → IsPlaced edges u o → IsPlaced edges v p → is_same_odd p o ≡ is_same_use v u
+  same_tests : (u v : EdgeUse) (o p : OddUse) → HasEdgePlace edges u o → HasEdgePlace edges v p → is_same_odd p o ≡ is_same_use v u
   same_tests u v o p at_o at_p =
       both_ways (is_same_odd p o) (is_same_use v u)
       (λ h. (Decides-same_use v u).1 (one_use edges v u p o at_p at_o ((Decides-same_odds p o).0 h)))
       (λ h. (Decides-same_odds p o).1 (one_pair edges up v u p o at_p at_o ((Decides-same_use v u).0 h)))
 
   -- a pair stands as often among the places as its use among the uses
-  placed_times : (u : EdgeUse) (o : OddUse) → IsPlaced edges u o → (uses : List EdgeUse) (placed : List OddUse) → AllZip (IsPlaced edges) uses placed → odd_times o placed ≡ member_times u.seg uses u.member
+  placed_times : (u : EdgeUse) (o : OddUse) → HasEdgePlace edges u o → (uses : List EdgeUse) (placed : List OddUse) → AllZip (HasEdgePlace edges) uses placed → odd_times o placed ≡ member_times u.seg uses u.member
   placed_times u o at_o [] [] each = refl
   placed_times u o at_o [] (p ∷ placed) each = absurd each
   placed_times u o at_o (v ∷ uses) [] each = absurd each
@@ -73,23 +73,23 @@ module _ (edges : List Seg) (up : IsAscending edges) where
       ∙ (λ i. cond (same_tests u v o p at_o each.0 i) 1 0 + placed_times u o at_o uses placed each.1 i)
       ∙ sym (sum_by-cons (λ w. cond (is_same_use w u) 1 0) v uses)
 
-  pub pair_times : (u : EdgeUse) (o : OddUse) (uses : List EdgeUse) (pairs : List OddUse) → IsPlaced edges u o → ArePlacesOf uses edges pairs → odd_times o pairs ≡ member_times u.seg uses u.member
+  pub pair_times : (u : EdgeUse) (o : OddUse) (uses : List EdgeUse) (pairs : List OddUse) → HasEdgePlace edges u o → ArePlacesOf uses edges pairs → odd_times o pairs ≡ member_times u.seg uses u.member
   pair_times u o uses pairs at_o (placed, (each, moved)) = sum_by-IsPermutation (λ q. cond (is_same_odd q o) 1 0) placed pairs moved ∙ placed_times u o at_o uses placed each
 
   -- each pair is that of a use
-  placed_use : (uses : List EdgeUse) (placed : List OddUse) → AllZip (IsPlaced edges) uses placed → (o : OddUse) → Contains placed o → (u : EdgeUse) × IsPlaced edges u o
+  placed_use : (uses : List EdgeUse) (placed : List OddUse) → AllZip (HasEdgePlace edges) uses placed → (o : OddUse) → Contains placed o → (u : EdgeUse) × HasEdgePlace edges u o
   placed_use [] [] each o (k, within, is) = absurd (omega arith)
   placed_use [] (p ∷ placed) each o h = absurd each
   placed_use (v ∷ uses) [] each o (k, within, is) = absurd (omega arith)
   placed_use (v ∷ uses) (p ∷ placed) each o h =
       elim (contains_cases p o placed h) [
-        | inl here ↦ (v, subst (λ (q : OddUse). IsPlaced edges v q) here each.0)
+        | inl here ↦ (v, subst (λ (q : OddUse). HasEdgePlace edges v q) here each.0)
         | inr later ↦ placed_use uses placed each.1 o later
       ]
 
   -- what the code ends with
   module _ (uses : List EdgeUse) (pairs odd : List OddUse) (places : ArePlacesOf uses edges pairs) (exact : (o : OddUse) → Contains odd o ↔ (odd_times o pairs % 2 ≡ 1)) where
-    use_of : (o : OddUse) → Contains pairs o → (u : EdgeUse) × IsPlaced edges u o
+    use_of : (o : OddUse) → Contains pairs o → (u : EdgeUse) × HasEdgePlace edges u o
     use_of o has = placed_use uses places.0 places.1.0 o (Contains-permutation pairs places.0 o (IsPermutation-sym places.0 pairs places.1.1) has)
 
     pub have_places : HavePlaces edges odd
@@ -140,10 +140,10 @@ reordered uses sorted edges odd moved are = record {
     times e member = sum_by-IsPermutation (λ u. cond (is_same_use u (record { member = member; seg = e })) 1 0) uses sorted moved
 
 -- what the code ends with: sorted uses are numbered, which it read through a slice, the pairs are sorted and cancelled
-module _ (uses sorted read : List EdgeUse) (edges : List Seg) (numbered pairs shown odd : List OddUse) (moved : IsPermutation uses sorted) (same : read ≡ sorted) (are : AreNumbered read edges numbered)
+module _ (uses sorted read : List EdgeUse) (edges : List Seg) (numbered pairs shown odd : List OddUse) (moved : IsPermutation uses sorted) (same : read ≡ sorted) (are : HaveEdgeNumbers read edges numbered)
     (moved_pairs : IsPermutation numbered pairs) (same_pairs : shown ≡ pairs) (exact : (o : OddUse) → Contains odd o ↔ (odd_times o shown % 2 ≡ 1)) where
-  at_sorted : AreNumbered sorted edges numbered
-  at_sorted = subst (λ (us : List EdgeUse). AreNumbered us edges numbered) same are
+  at_sorted : HaveEdgeNumbers sorted edges numbered
+  at_sorted = subst (λ (us : List EdgeUse). HaveEdgeNumbers us edges numbered) same are
 
   places : ArePlacesOf sorted edges pairs
   places = (numbered, (at_sorted.placed, moved_pairs))

@@ -21,7 +21,7 @@ use Rattle.hot_pixel.proofs.Ascending.{all_pairs_head, all_pairs_tail}
 use Rattle.arrangement.specs.declared.odd_use.OddUse.{OddUse}
 use Rattle.arrangement.specs.Noding.{IsAscending, IsOdd, AreLiveEdges, odd_uses, is_odd_before}
 use Rattle.arrangement.proofs.OddUses.{pair_of, has_use, one_place, odd_use_listed, distinct_uses}
-use Rattle.snap_noder.specs.Marked.{AreMarks, marked, marked_before, ArePrefixCounts}
+use Rattle.snap_noder.specs.Marked.{AreUseMarks, marked, marked_before, ArePrefixCounts}
 use Rattle.snap_noder.specs.Order.{AreOddAscending}
 use Rattle.snap_noder.specs.Places.{HavePlaces, AreAllUsed}
 use Rattle.snap_noder.proofs.LiveUses.{odd_in_distinct, ascending_distinct}
@@ -94,13 +94,13 @@ number counts o = record { member = o.member; edge = slice_index counts o.edge }
 pub record AreRenumbered (edges : List Seg) (odd : List OddUse) (live : List Seg) (live_odd : List OddUse) : Type 0 where
   pub marks : List Bool
   pub counts : List ℕ
-  pub are_marks : AreMarks edges odd marks
+  pub are_marks : AreUseMarks edges odd marks
   pub are_counts : ArePrefixCounts marks counts
   pub kept : live ≡ marked edges marks
   pub numbered : live_odd ≡ map (λ o. record { member = o.member; edge = slice_index counts o.edge }) odd
 
 -- what the code makes, which it read through slices
-pub renumbered_by : (edges seen live : List Seg) (odd pairs live_odd : List OddUse) (marks marks_seen marks_read : List Bool) (counts counts_read : List ℕ) → AreMarks edges odd marks → seen ≡ edges → marks_seen ≡ marks → marks_read ≡ marks
+pub renumbered_by : (edges seen live : List Seg) (odd pairs live_odd : List OddUse) (marks marks_seen marks_read : List Bool) (counts counts_read : List ℕ) → AreUseMarks edges odd marks → seen ≡ edges → marks_seen ≡ marks → marks_read ≡ marks
     → pairs ≡ odd → counts_read ≡ counts → live ≡ marked seen marks_seen → ArePrefixCounts marks_read counts
     → live_odd ≡ map (λ o. record { member = o.member; edge = slice_index counts_read o.edge }) pairs → AreRenumbered edges odd live live_odd
 renumbered_by edges seen live odd pairs live_odd marks marks_seen marks_read counts counts_read are same same_marks read same_pairs same_counts kept counted made = record {
@@ -113,7 +113,7 @@ renumbered_by edges seen live odd pairs live_odd marks marks_seen marks_read cou
 }
 
 -- each number is in place among the counts
-pub counts_in_place : (edges : List Seg) (odd pairs : List OddUse) (marks marks_read : List Bool) (counts counts_read : List ℕ) → HavePlaces edges odd → AreMarks edges odd marks → marks_read ≡ marks → ArePrefixCounts marks_read counts → pairs ≡ odd
+pub counts_in_place : (edges : List Seg) (odd pairs : List OddUse) (marks marks_read : List Bool) (counts counts_read : List ℕ) → HavePlaces edges odd → AreUseMarks edges odd marks → marks_read ≡ marks → ArePrefixCounts marks_read counts → pairs ≡ odd
     → counts_read ≡ counts → All (λ o. o.edge < length counts_read) pairs
 counts_in_place edges odd pairs marks marks_read counts counts_read places are read counted same_pairs same_counts k d within =
     let place = places k d (omega (arith, ap length same_pairs)) in

@@ -29,7 +29,7 @@ use Rattle.arrangement.specs.declared.odd_use.OddUse.{OddUse}
 use Rattle.arrangement.specs.Noding.{segments, AreChains, snapped_uses, AreSnapped, AreEdges, IsNoded, odd_uses}
 use Rattle.crossing_laws.proofs.Lists.{contains_here, contains_there, contains-map}
 use Rattle.snap_noder.specs.Snapped.{chain_uses, HasSegmentBefore, AreSnappedOver, IsNearSegments}
-use Rattle.snap_noder.proofs.Alike.{AreAlike, Follows, follow, sum_of_pieces, firsts_of_zip, zip_of_parts, each_of_zip, zip_of_each, alike_edges}
+use Rattle.snap_noder.proofs.Alike.{HaveSameElements, Follows, follow, sum_of_pieces, firsts_of_zip, zip_of_parts, each_of_zip, zip_of_each, alike_edges}
 use Rattle.snap_noder.proofs.LiveUses.{even_odd}
 use Rattle.snap_noder.proofs.ParityLemmas.{contains_mapped}
 use Rattle.snap_noder.proofs.Zip.{zip_more, zipped_push}
@@ -113,7 +113,7 @@ none_before list i none = (λ h. absurd (grind (arith, nat_tests)), λ h. absurd
 pub record AreSnappedAlike (list out : List EdgeUse) : Type 0 where
   pub snapped : List EdgeUse
   pub are : AreSnapped list snapped
-  pub alike : AreAlike snapped out
+  pub alike : HaveSameElements snapped out
 
 module _ (list sorted out : List EdgeUse) (moved : IsPermutation list sorted) (over : AreSnappedOver (segments list) sorted out) where
   -- each use of the list with its chain

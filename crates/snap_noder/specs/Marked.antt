@@ -5,7 +5,7 @@ use Rattle.cov_types.specs.declared.seg.Seg.{Seg}
 use Rattle.arrangement.specs.declared.odd_use.OddUse.{OddUse}
 
 -- of each edge, whether some pair has it
-pub record AreMarks (edges : List Seg) (odd : List OddUse) (marks : List Bool) : Type 0 where
+pub record AreUseMarks (edges : List Seg) (odd : List OddUse) (marks : List Bool) : Type 0 where
   pub long : length marks ≡ length edges
   pub each : (k : ℕ) → k < length edges → slice_get marks k ≡ Some (list_any (λ o. o.edge == k) odd)
 

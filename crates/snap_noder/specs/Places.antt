@@ -19,14 +19,14 @@ abbrev pub odd_times : OddUse → List OddUse → ℕ
 odd_times o pairs = count_by (λ p. (p.member == o.member) && (p.edge == o.edge)) pairs
 
 -- o has the member of u, and the place of its segment
-abbrev pub IsPlaced : List Seg → EdgeUse → OddUse → Type 0
-IsPlaced edges u o = (o.member ≡ u.member) × (slice_get edges o.edge ≡ Some u.seg)
+abbrev pub HasEdgePlace : List Seg → EdgeUse → OddUse → Type 0
+HasEdgePlace edges u o = (o.member ≡ u.member) × (slice_get edges o.edge ≡ Some u.seg)
 
 -- the edges are the segments of the uses, ascending, and each use has its pair, in the order of the uses
-pub record AreNumbered (uses : List EdgeUse) (edges : List Seg) (pairs : List OddUse) : Type 0 where
+pub record HaveEdgeNumbers (uses : List EdgeUse) (edges : List Seg) (pairs : List OddUse) : Type 0 where
   pub ascending : IsAscending edges
   pub exact : (e : Seg) → Contains edges e ↔ Contains (segments uses) e
-  pub placed : AllZip (IsPlaced edges) uses pairs
+  pub placed : AllZip (HasEdgePlace edges) uses pairs
 
 -- x is the last of the list
 abbrev pub EndsWith : {X : Type 0} → List X → X → Type 0

@@ -2,7 +2,7 @@ ghost use Rattle.std.specs.Prelude.{◌≡◌, ◌<◌, All, Contains, IfOk, ◌
 ghost use Rattle.cov_types.specs.Uses.{HasEvenEnds};
 ghost use Rattle.arrangement.specs.Noding.{AreLiveEdges, odd_uses};
 ghost use Rattle.sector_laws.specs.Sector.{AreDistinct, IsPlanar};
-ghost use Rattle.snap_noder.specs.Marked.{AreMarks, ArePrefixCounts, marked};
+ghost use Rattle.snap_noder.specs.Marked.{AreUseMarks, ArePrefixCounts, marked};
 
 use crate::live_edges::LiveEdges;
 use crate::noded::Noded;
@@ -31,7 +31,7 @@ pub fn live(alloc: Global, n: &Noded) -> Result<LiveEdges, NoMemory>
 
 // Of each edge whether some odd pair has it.
 fn marks_of(alloc: Global, n: &Noded) -> Result<Vec<bool>, NoMemory>
-    ensures { IfOk result (λ marks. AreMarks n.now.edges.items n.now.odd.items marks.items) }
+    ensures { IfOk result (λ marks. AreUseMarks n.now.edges.items n.now.odd.items marks.items) }
 {
     let mut marks = vec![in alloc; false; n.edges.len()]?;
     for o in &n.odd {

@@ -3,6 +3,7 @@ ghost use Rattle.cov_types.specs.Range.{IsSegInRange};
 ghost use Rattle.cov_types.specs.Uses.{HasEvenEnds};
 ghost use Rattle.plane.specs.Noded.{IsNodedFully};
 ghost use Rattle.arrangement.specs.Noding.{AreEdges, IsNoded, odd_uses, segments};
+ghost use Rattle.sector_laws.specs.Sector.{AreDistinct};
 ghost use Rattle.snap_noder.specs.Snapped.{AreSnappedOver, HasSegmentBefore, IsNearSegments, chain_uses};
 
 use crate::noded::Noded;
@@ -11,13 +12,16 @@ use cov_types::{Coord, EdgeUse, NoMemory, Seg};
 use hot_pixel::HotSet;
 use std::alloc::Global;
 
-/// The noded edges of the uses, and for each member those that it has an odd number of times.
+/// The noded edges of the uses, and for each member those that it has an odd number of times. Takes n log n time in the number of
+/// uses, crossings and chain edges, and besides the pairs of distinct segments whose boxes touch; memory in proportion to the uses,
+/// crossings and chain edges.
 pub fn node(alloc: Global, list: &[EdgeUse]) -> Result<Noded, NoMemory>
     requires { All (λ u. IsSegInRange u.seg) list.now }
     ensures exact { IfOk result (λ n. IsNoded list.now n.edges.items n.odd.items) }
 
     // Any two edges are equal or have at most common ends in common.
     ensures fully_noded { IfOk result (λ n. IsNodedFully n.edges.items) }
+    ensures distinct { IfOk result (λ n. AreDistinct n.edges.items) }
     ensures half_unit { IfOk result (λ n. IsNearSegments list.now n.edges.items) }
     ensures in_range { IfOk result (λ n. All IsSegInRange n.edges.items) }
 
@@ -30,12 +34,14 @@ pub fn node(alloc: Global, list: &[EdgeUse]) -> Result<Noded, NoMemory>
     edges_of(alloc, uses)
 }
 
-/// The segments of the uses themselves, each once, and for each member those that it uses an odd number of times.
+/// The segments of the uses themselves, each once, and for each member those that it uses an odd number of times. Takes n log n time
+/// in the number of uses, and memory in proportion to it.
 pub fn plain(alloc: Global, list: &[EdgeUse]) -> Result<Noded, NoMemory>
     requires in_range { All (λ u. IsSegInRange u.seg) list.now }
     requires noded { IsNodedFully (segments list.now) }
     ensures exact { IfOk result (λ n. AreEdges list.now n.edges.items n.odd.items) }
     ensures fully_noded { IfOk result (λ n. IsNodedFully n.edges.items) }
+    ensures distinct { IfOk result (λ n. AreDistinct n.edges.items) }
     ensures in_range { IfOk result (λ n. All IsSegInRange n.edges.items) }
     ensures even { IfOk result (λ n. HasEvenEnds list.now → HasEvenEnds (odd_uses n.edges.items n.odd.items)) }
 {

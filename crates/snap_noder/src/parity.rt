@@ -1,7 +1,7 @@
 ghost use Rattle.std.specs.Prelude.{◌≡◌, ◌%◌, Contains, IfOk, IsPermutation, IsSorted, IsTrue, ◌↔◌};
 ghost use Rattle.arrangement.specs.Noding.{AreEdges};
 ghost use Rattle.snap_noder.specs.Order.{AreBySegment, AreOddAscending, odd_cmp};
-ghost use Rattle.snap_noder.specs.Places.{AreNumbered, EndsWith, odd_times};
+ghost use Rattle.snap_noder.specs.Places.{HaveEdgeNumbers, EndsWith, odd_times};
 
 use crate::noded::Noded;
 use arrangement::OddUse;
@@ -38,7 +38,7 @@ struct Numbered {
 // Numbers the edges of uses that are in the order of their segments: each new segment is the next edge.
 fn number_edges(alloc: Global, uses: &[EdgeUse]) -> Result<Numbered, NoMemory>
     requires { AreBySegment uses.now }
-    ensures { IfOk result (λ n. AreNumbered uses.now n.edges.items n.pairs.items) }
+    ensures { IfOk result (λ n. HaveEdgeNumbers uses.now n.edges.items n.pairs.items) }
 {
     let mut edges = Vec::new(alloc);
     let mut pairs = Vec::new(alloc);

@@ -1,8 +1,13 @@
-ghost use Rattle.std.specs.Prelude.{All, IfOk};
+ghost use Rattle.std.specs.Prelude.{◌<◌, All, IfOk, IfSome};
+ghost use Rattle.arrangement.specs.Noding.{odd_uses};
+ghost use Rattle.cov_types.specs.Coverage.{AllInRange};
 ghost use Rattle.cov_types.specs.Range.{IsSegInRange};
+ghost use Rattle.cov_types.specs.Uses.{HasEvenEnds};
+ghost use Rattle.sector_laws.specs.Sector.{AreDistinct, IsPlanar};
 
-use crate::{live, node, plain};
-use cov_types::{Coord, EdgeUse, Seg};
+use crate::{LiveEdges, live, node, plain, uses_of_odd};
+use cov_types::{Coord, Coverage, EdgeUse, Member, NoMemory, Poly, Ring, Seg, in_range, uses};
+use hot_pixel::HotSet;
 use std::alloc::Global;
 use std::process::Abort;
 use std::test::Fail;
@@ -116,6 +121,233 @@ fn edges_that_are_noded_already_keep_those_used_an_odd_number_of_times(
     Ok(())
 }
 
+#[test]
+fn two_squares_have_live_edges_with_all_that_a_topology_requires(
+    rt: HostRuntime,
+) -> Result<(), Fail> {
+    let alloc = rt.alloc();
+    let mut members = Vec::new(alloc);
+    members.push(square(alloc, 0, 10)?)?;
+    members.push(square(alloc, 5, 15)?)?;
+    let coverage = Coverage { members };
+    assert!(rt; in_range(&coverage));
+    assert_eq!(rt; noded_edges(alloc, &coverage)?.len(), 10);
+    assert_eq!(rt; live_edges(alloc, &coverage)?.edges.len(), 10);
+    Ok(())
+}
+
+#[test]
+fn random_lists_are_noded_as_one_use_after_another(rt: HostRuntime) -> Result<(), Fail> {
+    let cases = [(6, 0), (6, 1), (3, 30), (6, 40), (30, 40)];
+    let mut random = Random { state: 1 };
+    for (extent, count) in cases {
+        let list = random_uses(rt.alloc(), extent, count, &mut random)?;
+        expect_as_counted(&rt, rt.alloc(), &list)?;
+    }
+    Ok(())
+}
+
+#[test]
+fn a_row_of_many_squares_is_noded_in_time(rt: HostRuntime) -> Result<(), Fail> {
+    let noded = node(rt.alloc(), &row_uses(rt.alloc(), 100_000)?)?;
+    assert_eq!(rt; noded.edges.len(), 300_001);
+    assert_eq!(rt; noded.odd.len(), 400_000);
+    Ok(())
+}
+
+// ---- callers of their own, which no file proves
+
+// Edges of which an arena can be built.
+fn noded_edges(alloc: Global, c: &Coverage) -> Result<Vec<Seg>, NoMemory>
+    requires { AllInRange c.now }
+    ensures planar { IfOk result (λ edges. IsPlanar edges.items) }
+    ensures distinct { IfOk result (λ edges. AreDistinct edges.items) }
+{
+    let uses = uses(alloc, c)?;
+    let noded = node(alloc, &uses)?;
+    Ok(noded.edges)
+}
+
+// Edges of which an arena can be built, and labels by the odd pairs.
+fn live_edges(alloc: Global, c: &Coverage) -> Result<LiveEdges, NoMemory>
+    requires { AllInRange c.now }
+    ensures planar { IfOk result (λ l. IsPlanar l.edges.items) }
+    ensures distinct { IfOk result (λ l. AreDistinct l.edges.items) }
+    ensures even { IfOk result (λ l. HasEvenEnds (odd_uses l.edges.items l.odd.items)) }
+{
+    let uses = uses(alloc, c)?;
+    let noded = node(alloc, &uses)?;
+    let live = live(alloc, &noded)?;
+    Ok(live)
+}
+
+// ---- the plain form: each use has a chain of its own, and each pair is counted
+
+fn expect_as_counted(rt: &impl Abort, alloc: Global, list: &[EdgeUse]) -> Result<(), Fail>
+    requires { All (λ u. IsSegInRange u.seg) list.now }
+{
+    let noded = node(alloc, list)?;
+    let snapped = snapped_one_by_one(alloc, list)?;
+    let edges = distinct_segments(alloc, &snapped)?;
+    assert_eq!(rt; noded.edges.as_slice(), edges.as_slice());
+    let odd = odd_by_count(alloc, &snapped, &edges)?;
+    assert_eq!(rt; uses_of_odd(alloc, &noded)?.as_slice(), odd.as_slice());
+    let live = live(alloc, &noded)?;
+    assert_eq!(rt;
+        live.edges.as_slice(),
+        distinct_segments(alloc, &odd)?.as_slice()
+    );
+    assert_eq!(rt; live.odd.len(), odd.len());
+    for (pair, want) in live.odd.iter().zip(&odd) {
+        assert_eq!(rt; pair.member, want.member);
+        assert!(rt; live.edges.get(pair.edge) == Some(&want.seg));
+    }
+    Ok(())
+}
+
+fn snapped_one_by_one(alloc: Global, list: &[EdgeUse]) -> Result<Vec<EdgeUse>, NoMemory>
+    requires { All (λ u. IsSegInRange u.seg) list.now }
+{
+    let hot = HotSet::build(alloc, list)?;
+    let mut snapped = Vec::new(alloc);
+    for u in list {
+        let chain = hot.chain(u.seg)?;
+        add_edges(&mut snapped, u.member, &chain)?;
+    }
+    Ok(snapped)
+}
+
+fn add_edges(uses: &mut Vec<EdgeUse>, member: u32, chain: &[Coord]) -> Result<(), NoMemory> {
+    for i in 1..chain.len() {
+        if let Some(seg) = Seg::between(chain[i - 1], chain[i]) {
+            uses.push(EdgeUse { member, seg })?;
+        }
+    }
+    Ok(())
+}
+
+fn distinct_segments(alloc: Global, list: &[EdgeUse]) -> Result<Vec<Seg>, NoMemory> {
+    let mut segs = list.iter().map(|u| u.seg).collect(alloc)?;
+    segs.sort_unstable();
+    segs.dedup();
+    Ok(segs)
+}
+
+// Of the three members in turn, the edges that the list has an odd number of times.
+fn odd_by_count(alloc: Global, list: &[EdgeUse], edges: &[Seg]) -> Result<Vec<EdgeUse>, NoMemory> {
+    let mut odd = Vec::new(alloc);
+    for member in 0..3 {
+        add_odd(&mut odd, member, list, edges)?;
+    }
+    Ok(odd)
+}
+
+fn add_odd(
+    odd: &mut Vec<EdgeUse>,
+    member: u32,
+    list: &[EdgeUse],
+    edges: &[Seg],
+) -> Result<(), NoMemory> {
+    for edge in edges {
+        let use_of = EdgeUse { member, seg: *edge };
+        if list.iter().filter(|u| **u == use_of).count() % 2 == 1 {
+            odd.push(use_of)?;
+        }
+    }
+    Ok(())
+}
+
+// ---- lists
+
+/// Numbers in an order that is always the same.
+#[derive(Drop)]
+struct Random {
+    state: u32,
+}
+
+impl Random {
+    fn below(&mut self, bound: u32) -> u32
+        requires { 0 < bound }
+        ensures { result < bound }
+    {
+        self.state = self.state % 65_537 * 75 % 65_537;
+        self.state % bound
+    }
+}
+
+// So many uses by three members of segments in a square of this extent, less those that would be points.
+fn random_uses(
+    alloc: Global,
+    extent: u32,
+    count: u32,
+    random: &mut Random,
+) -> Result<Vec<EdgeUse>, NoMemory>
+    requires some { 0 < extent }
+    requires small { extent < 1000 }
+    ensures { IfOk result (λ uses. All (λ u. IsSegInRange u.seg) uses.items) }
+{
+    let mut uses = Vec::new(alloc);
+    for _ in 0..count {
+        let lo_x = random.below(extent) as i32;
+        let lo_y = random.below(extent) as i32;
+        let hi_x = random.below(extent) as i32;
+        let hi_y = random.below(extent) as i32;
+        if let Some(seg) = between((lo_x, lo_y, hi_x, hi_y)) {
+            let member = random.below(3);
+            uses.push(EdgeUse { member, seg })?;
+        }
+    }
+    Ok(uses)
+}
+
+// The sides of so many unit squares in a row, each of a member of its own.
+fn row_uses(alloc: Global, count: u32) -> Result<Vec<EdgeUse>, NoMemory>
+    requires { count < 1000000 }
+    ensures { IfOk result (λ uses. All (λ u. IsSegInRange u.seg) uses.items) }
+{
+    let mut uses = Vec::new(alloc);
+    for side in 0..4 * count {
+        let member = side / 4;
+        let x = member as i32;
+        let ends = match side % 4 {
+            0 => (x, 0, x + 1, 0),
+            1 => (x + 1, 0, x + 1, 1),
+            2 => (x, 1, x + 1, 1),
+            _ => (x, 0, x, 1),
+        };
+        if let Some(seg) = between(ends) {
+            uses.push(EdgeUse { member, seg })?;
+        }
+    }
+    Ok(uses)
+}
+
+// A square of one member, from one x to another and as high as ten.
+fn square(alloc: Global, from: i32, to: i32) -> Result<Member, NoMemory> {
+    let corners = [(from, 0), (to, 0), (to, 10), (from, 10)].map(|(x, y)| Coord { x, y });
+    let ring = Ring {
+        points: Vec::from_slice(alloc, &corners)?,
+    };
+    let mut rings = Vec::new(alloc);
+    rings.push(ring)?;
+    let mut polys = Vec::new(alloc);
+    polys.push(Poly { rings })?;
+    Ok(Member { polys })
+}
+
+// The segment between two points in range, if they differ.
+fn between(ends: Ends) -> Option<Seg>
+    ensures { IfSome result IsSegInRange }
+{
+    let (lo_x, lo_y, hi_x, hi_y) = ends;
+    let seg = Seg::between(Coord { x: lo_x, y: lo_y }, Coord { x: hi_x, y: hi_y })?;
+    if seg.lo.is_in_range() && seg.hi.is_in_range() {
+        Some(seg)
+    } else {
+        None
+    }
+}
+
 // The uses have these noded edges and odd pairs, and so many live edges.
 fn expect_noded(
     rt: &impl Abort,
@@ -155,10 +387,5 @@ fn edge_uses(rt: &impl Abort, alloc: Global, uses: &[(u32, Ends)]) -> Result<Vec
 fn segment(rt: &impl Abort, ends: Ends) -> Seg
     ensures { IsSegInRange result }
 {
-    let (lo_x, lo_y, hi_x, hi_y) = ends;
-    let lo = Coord { x: lo_x, y: lo_y };
-    let hi = Coord { x: hi_x, y: hi_y };
-    let segment = Seg::between(lo, hi).expect(rt, "two different ends");
-    assert!(rt; segment.lo.is_in_range() && segment.hi.is_in_range());
-    segment
+    between(ends).expect(rt, "two different ends in range")
 }

@@ -4,6 +4,7 @@ use Rattle.std.proofs.lemmas.List.Sorted.{All-permutation}
 use Rattle.std.proofs.lemmas.Result.{IfOk-weaker}
 use Rattle.cov_types.specs.Range.{IsSegInRange}
 use Rattle.cov_types.specs.declared.edge_use.EdgeUse.{EdgeUse}
+use Rattle.snap_noder.proofs.LiveUses.{ascending_distinct}
 use Rattle.snap_noder.proofs.Snapping.{near_segments, is_noded, is_fully_noded, is_in_range, is_even}
 use Rattle.snap_noder.proofs.noding.node.Goals as goal
 
@@ -42,3 +43,6 @@ returns-clause-even c =
 
 pub returns-clause-half_unit : goal.returns-clause-half_unit
 returns-clause-half_unit c = IfOk-weaker c.edges_of.result _ _ (λ n are. near_segments c.args.list.now n.edges.items c.requires) c.edges_of.ensures
+
+pub returns-clause-distinct : goal.returns-clause-distinct
+returns-clause-distinct c = IfOk-weaker c.edges_of.result _ _ (λ n are. ascending_distinct n.edges.items are.ascending) c.edges_of.ensures

@@ -3,7 +3,7 @@ use Rattle.std.specs.Prelude.{IfOk}
 use Rattle.std.proofs.lemmas.Result.{IfOk-weaker}
 use Rattle.cov_types.specs.declared.edge_use.EdgeUse.{EdgeUse}
 use Rattle.arrangement.specs.Noding.{AreEdges}
-use Rattle.snap_noder.proofs.LiveUses.{even_odd}
+use Rattle.snap_noder.proofs.LiveUses.{ascending_distinct, even_odd}
 use Rattle.snap_noder.proofs.ParityLemmas.{edges_within, edges_noded}
 use Rattle.snap_noder.proofs.noding.plain.Goals as goal
 
@@ -22,3 +22,6 @@ returns-clause-in_range c = IfOk-weaker c.edges_of.result _ _ (λ n are. edges_w
 
 pub returns-clause-even : goal.returns-clause-even
 returns-clause-even c = IfOk-weaker c.edges_of.result _ _ (λ n are. even_odd c.args.list.now n.edges.items n.odd.items are) (are_edges c)
+
+pub returns-clause-distinct : goal.returns-clause-distinct
+returns-clause-distinct c = IfOk-weaker c.edges_of.result _ _ (λ n are. ascending_distinct n.edges.items are.ascending) (are_edges c)

@@ -1,4 +1,4 @@
-ghost use Rattle.std.specs.Prelude.{◌<◌, All, IfOk, IfSome};
+ghost use Rattle.std.specs.Prelude.{◌<◌, All, IfOk};
 ghost use Rattle.arrangement.specs.Noding.{odd_uses};
 ghost use Rattle.cov_types.specs.Coverage.{AllInRange};
 ghost use Rattle.cov_types.specs.Range.{IsSegInRange};
@@ -141,7 +141,8 @@ fn random_lists_are_noded_as_one_use_after_another(rt: HostRuntime) -> Result<()
     let cases = [(6, 0), (6, 1), (3, 30), (6, 40), (30, 40)];
     let mut random = Random { state: 1 };
     for (extent, count) in cases {
-        let list = random_uses(rt.alloc(), extent, count, &mut random)?;
+        let list = random_list(rt.alloc(), extent, count, &mut random)?;
+        let list = edge_uses(&rt, rt.alloc(), &list)?;
         expect_as_counted(&rt, rt.alloc(), &list)?;
     }
     Ok(())
@@ -149,7 +150,8 @@ fn random_lists_are_noded_as_one_use_after_another(rt: HostRuntime) -> Result<()
 
 #[test]
 fn a_row_of_many_squares_is_noded_in_time(rt: HostRuntime) -> Result<(), Fail> {
-    let noded = node(rt.alloc(), &row_uses(rt.alloc(), 100_000)?)?;
+    let list = row_list(rt.alloc(), 100_000)?;
+    let noded = node(rt.alloc(), &edge_uses(&rt, rt.alloc(), &list)?)?;
     assert_eq!(rt; noded.edges.len(), 300_001);
     assert_eq!(rt; noded.odd.len(), 400_000);
     Ok(())
@@ -227,7 +229,7 @@ fn add_edges(uses: &mut Vec<EdgeUse>, member: u32, chain: &[Coord]) -> Result<()
 }
 
 fn distinct_segments(alloc: Global, list: &[EdgeUse]) -> Result<Vec<Seg>, NoMemory> {
-    let mut segs = list.iter().map(|u| u.seg).collect(alloc)?;
+    let mut segs: Vec<Seg> = list.iter().map(|u| u.seg).collect(alloc)?;
     segs.sort_unstable();
     segs.dedup();
     Ok(segs)
@@ -275,51 +277,42 @@ impl Random {
     }
 }
 
-// So many uses by three members of segments in a square of this extent, less those that would be points.
-fn random_uses(
+// So many segments by their ends in a square of this extent, used by three members in turn.
+fn random_list(
     alloc: Global,
     extent: u32,
     count: u32,
     random: &mut Random,
-) -> Result<Vec<EdgeUse>, NoMemory>
+) -> Result<Vec<(u32, Ends)>, NoMemory>
     requires some { 0 < extent }
     requires small { extent < 1000 }
-    ensures { IfOk result (λ uses. All (λ u. IsSegInRange u.seg) uses.items) }
 {
-    let mut uses = Vec::new(alloc);
-    for _ in 0..count {
-        let lo_x = random.below(extent) as i32;
-        let lo_y = random.below(extent) as i32;
-        let hi_x = random.below(extent) as i32;
-        let hi_y = random.below(extent) as i32;
-        if let Some(seg) = between((lo_x, lo_y, hi_x, hi_y)) {
-            let member = random.below(3);
-            uses.push(EdgeUse { member, seg })?;
-        }
+    let mut list = Vec::new(alloc);
+    for i in 0..count {
+        let x = random.below(extent) as i32;
+        let y = random.below(extent) as i32;
+        let u = random.below(extent) as i32;
+        let v = random.below(extent) as i32;
+        // Never a point.
+        let u = if x == u && y == v { u + 1 } else { u };
+        list.push((i % 3, (x, y, u, v)))?;
     }
-    Ok(uses)
+    Ok(list)
 }
 
 // The sides of so many unit squares in a row, each of a member of its own.
-fn row_uses(alloc: Global, count: u32) -> Result<Vec<EdgeUse>, NoMemory>
+fn row_list(alloc: Global, count: u32) -> Result<Vec<(u32, Ends)>, NoMemory>
     requires { count < 1000000 }
-    ensures { IfOk result (λ uses. All (λ u. IsSegInRange u.seg) uses.items) }
 {
-    let mut uses = Vec::new(alloc);
-    for side in 0..4 * count {
-        let member = side / 4;
+    let mut list = Vec::new(alloc);
+    for member in 0..count {
         let x = member as i32;
-        let ends = match side % 4 {
-            0 => (x, 0, x + 1, 0),
-            1 => (x + 1, 0, x + 1, 1),
-            2 => (x, 1, x + 1, 1),
-            _ => (x, 0, x, 1),
-        };
-        if let Some(seg) = between(ends) {
-            uses.push(EdgeUse { member, seg })?;
-        }
+        list.push((member, (x, 0, x + 1, 0)))?;
+        list.push((member, (x + 1, 0, x + 1, 1)))?;
+        list.push((member, (x, 1, x + 1, 1)))?;
+        list.push((member, (x, 0, x, 1)))?;
     }
-    Ok(uses)
+    Ok(list)
 }
 
 // A square of one member, from one x to another and as high as ten.
@@ -333,19 +326,6 @@ fn square(alloc: Global, from: i32, to: i32) -> Result<Member, NoMemory> {
     let mut polys = Vec::new(alloc);
     polys.push(Poly { rings })?;
     Ok(Member { polys })
-}
-
-// The segment between two points in range, if they differ.
-fn between(ends: Ends) -> Option<Seg>
-    ensures { IfSome result IsSegInRange }
-{
-    let (lo_x, lo_y, hi_x, hi_y) = ends;
-    let seg = Seg::between(Coord { x: lo_x, y: lo_y }, Coord { x: hi_x, y: hi_y })?;
-    if seg.lo.is_in_range() && seg.hi.is_in_range() {
-        Some(seg)
-    } else {
-        None
-    }
 }
 
 // The uses have these noded edges and odd pairs, and so many live edges.
@@ -387,5 +367,10 @@ fn edge_uses(rt: &impl Abort, alloc: Global, uses: &[(u32, Ends)]) -> Result<Vec
 fn segment(rt: &impl Abort, ends: Ends) -> Seg
     ensures { IsSegInRange result }
 {
-    between(ends).expect(rt, "two different ends in range")
+    let (lo_x, lo_y, hi_x, hi_y) = ends;
+    let lo = Coord { x: lo_x, y: lo_y };
+    let hi = Coord { x: hi_x, y: hi_y };
+    let segment = Seg::between(lo, hi).expect(rt, "two different ends");
+    assert!(rt; segment.lo.is_in_range() && segment.hi.is_in_range());
+    segment
 }

@@ -36,9 +36,10 @@ in_box b e inside =
     let least_x = lesser e.lo.x e.hi.x in
     let greatest_x = greater e.lo.x e.hi.x in
     let least_y = lesser e.lo.y e.hi.y in
-    let greatest_y = greater e.lo.y e.hi.y in
-    ((omega (arith, lin, inside.left, least_x.0), omega (arith, lin, inside.right, greatest_x.1)),
-    ((omega (arith, lin, inside.bottom, least_y.0), omega (arith, lin, inside.bottom, least_y.1)), (omega (arith, lin, inside.top, greatest_y.0), omega (arith, lin, inside.top, greatest_y.1))))
+    let greatest_y = greater e.lo.y e.hi.y in (
+      (omega (arith, lin, inside.left, least_x.0), omega (arith, lin, inside.right, greatest_x.1)),
+      ((omega (arith, lin, inside.bottom, least_y.0), omega (arith, lin, inside.bottom, least_y.1)), (omega (arith, lin, inside.top, greatest_y.0), omega (arith, lin, inside.top, greatest_y.1))),
+    )
 
 double_le : (a b : ℤ) → a ≤ℤ b → (pos 2 *ℤ a) ≤ℤ (pos 2 *ℤ b)
 double_le a b h = omega (arith, lin, pos_times 2 a, pos_times 2 b)

@@ -32,9 +32,9 @@ pub record ArePlaced (uses : List EdgeUse) (n : ℕ) (entries : List Entry) : Ty
 -- between two entries of a segment there are none of others, and its members ascend
 pub record AreTogether (entries : List Entry) : Type 0 where
   pub between : (i j k : ℕ) (d : Entry) → i ≤ j → j ≤ k → k < length entries → (slice_index_or entries i d).seg ≡ (slice_index_or entries k d).seg
-    → (slice_index_or entries j d).seg ≡ (slice_index_or entries i d).seg
+      → (slice_index_or entries j d).seg ≡ (slice_index_or entries i d).seg
   pub ascending : (i j : ℕ) (d : Entry) → i ≤ j → j < length entries → (slice_index_or entries i d).seg ≡ (slice_index_or entries j d).seg
-    → (slice_index_or entries i d).member ≤ (slice_index_or entries j d).member
+      → (slice_index_or entries i d).member ≤ (slice_index_or entries j d).member
 
 -- what `cmp` answers of two entries
 abbrev pub entry_cmp : Entry → Entry → Ordering

@@ -1,5 +1,5 @@
 -- The entries of one segment.
-use Rattle.std.specs.Prelude.{◌≡◌, ℕ, ◌<◌, ◌≤◌, List, [], ◌∷◌, length, slice_index_or}
+use Rattle.std.specs.Prelude.{◌≡◌, ℕ, ◌+◌, ◌<◌, ◌≤◌, List, [], ◌∷◌, length, slice_index_or}
 use Rattle.cov_valid.specs.declared.entry.Entry.{Entry}
 use Rattle.cov_valid.specs.declared.group.Group.{Group}
 
@@ -14,3 +14,8 @@ pub record IsGroup (entries : List Entry) (group : Group) : Type 0 where
 abbrev pub AreGroupsInRow : ℕ → List Group → ℕ → Type 0
 AreGroupsInRow from [] to = from ≡ to
 AreGroupsInRow from (group ∷ groups) to = (group.from ≡ from) × (from < group.to) × AreGroupsInRow group.to groups to
+
+-- the members of the entries from one place to before another
+pub record AreMembers (entries : List Entry) (from to : ℕ) (members : List ℕ) : Type 0 where
+  pub count : from + length members ≡ to
+  pub each : (k : ℕ) (d : ℕ) (e : Entry) → k < length members → slice_index_or members k d ≡ (slice_index_or entries (from + k) e).member

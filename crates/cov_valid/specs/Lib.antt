@@ -1,8 +1,11 @@
+pub mod Among
 pub mod Contacts
 pub mod Entries
 pub mod Groups
 pub mod Holders
+pub mod Judged
 pub mod Kinds
 pub mod Levels
 pub mod Marks
 pub mod Parts
+pub mod RunIndex

@@ -1,52 +1,97 @@
-ghost use Rattle.std.specs.Prelude.{◌≡◌, ℕ, ◌<◌, IfOk, All, Some, slice_get};
+ghost use Rattle.std.specs.Prelude.{◌≡◌, ◌<◌, ◌≤◌, ◌-◌, ◌↔◌, OnOk, All, AllPairs, IsTrue, Some, length, slice_get};
+ghost use Rattle.box_tree.specs.Places.{places};
+ghost use Rattle.box_tree.specs.Probe.{is_above_point};
 ghost use Rattle.cov_types.specs.Range.{IsSegInRange};
-ghost use Rattle.cov_valid.specs.Holders.{AreHolders};
-ghost use Rattle.plane.specs.Segment.{midpoint, upper};
+ghost use Rattle.cov_valid.specs.Holders.{AreHolders, IsToggled};
+ghost use Rattle.cov_valid.specs.Levels.{twice_middle};
+ghost use Rattle.cov_valid.specs.RunIndex.{IsIndexed, IsInOrder};
+ghost use Rattle.plane.specs.Segment.{midpoint};
 
-use cov_types::{EdgeUse, NoMemory, Seg};
-use grid_pred::{over_mid, over_upper};
+use crate::placed::twice_middle;
+use crate::run::run_holds;
+use crate::run_index::RunIndex;
+use box_tree::Probe;
+use cov_types::{NoMemory, Outline, Seg};
 use std::alloc::Global;
 
-/// For each member, whether it holds the midpoint of the segment.
-pub fn holders_of_middle(
-    alloc: Global,
-    uses: &[EdgeUse],
-    members: usize,
-    s: Seg,
-) -> Result<Vec<bool>, NoMemory>
-    requires segments { All (λ u. IsSegInRange u.seg) uses.now }
-    requires members { All (λ u. u.member < members) uses.now }
-    requires in_range { IsSegInRange s }
-    ensures { IfOk result (λ v. AreHolders uses.now members (midpoint s) v.items) }
-{
-    let mut holders = vec![in alloc; false; members]?;
-    for u in uses {
-        if over_mid(u.seg, s) {
-            let member = u.member as usize;
-            holders[member] = !holders[member];
-        }
-    }
-    Ok(holders)
+/// The members that hold a midpoint, and room for the search that finds them. It keeps its memory from one search to the next.
+#[derive(Drop)]
+pub struct Holders {
+    pub members: Vec<u32>,
+    rings: Vec<usize>,
+    spare: Vec<usize>,
 }
 
-/// For each member, whether it holds the side point above the segment.
-pub fn holders_above(
-    alloc: Global,
-    uses: &[EdgeUse],
-    members: usize,
-    s: Seg,
-) -> Result<Vec<bool>, NoMemory>
-    requires segments { All (λ u. IsSegInRange u.seg) uses.now }
-    requires members { All (λ u. u.member < members) uses.now }
-    requires in_range { IsSegInRange s }
-    ensures { IfOk result (λ v. AreHolders uses.now members (upper s) v.items) }
-{
-    let mut holders = vec![in alloc; false; members]?;
-    for u in uses {
-        if over_upper(u.seg, s) {
-            let member = u.member as usize;
-            holders[member] = !holders[member];
+impl Holders {
+    /// No member.
+    pub fn new(alloc: Global) -> Holders {
+        Holders {
+            members: Vec::new(alloc),
+            rings: Vec::new(alloc),
+            spare: Vec::new(alloc),
         }
     }
-    Ok(holders)
+
+    /// The members that hold the midpoint of the segment, ascending. Only the rings whose boxes have a point of its column and one
+    /// above it are looked at.
+    pub fn find(&mut self, outline: &Outline, index: &RunIndex, s: Seg) -> Result<(), NoMemory>
+        requires in_order { IsInOrder outline.now }
+        requires indexed { IsIndexed outline.now index.now }
+        requires in_range { IsSegInRange s }
+        ensures { OnOk result (AreHolders outline.now.uses.items (midpoint s) self.new.members.items) }
+    {
+        let probe = Probe::Above(twice_middle(s));
+        index
+            .rings
+            .meeting_into(&probe, &mut self.rings, &mut self.spare)?;
+        members_into(outline, index, &self.rings, s, &mut self.members)
+    }
+}
+
+// The members that hold the midpoint of the segment, where the places are those of the rings whose boxes may be under it.
+fn members_into(
+    outline: &Outline,
+    index: &RunIndex,
+    rings: &[usize],
+    s: Seg,
+    members: &mut Vec<u32>,
+) -> Result<(), NoMemory>
+    requires in_order { IsInOrder outline.now }
+    requires indexed { IsIndexed outline.now index.now }
+    requires in_range { IsSegInRange s }
+    requires found { rings.now ≡ places (is_above_point (twice_middle s)) 0 index.now.rings }
+    ensures { OnOk result (AreHolders outline.now.uses.items (midpoint s) members.new.items) }
+{
+    members.clear();
+    for k in rings {
+        let run = outline.rings[*k];
+        if run_holds(outline, &index.levels, run, s) {
+            toggle(members, run.member)?;
+        }
+    }
+    Ok(())
+}
+
+// Puts a member at the end of the list where it is not there, and takes it away where it is.
+fn toggle(members: &mut Vec<u32>, member: u32) -> Result<(), NoMemory>
+    requires ascending { AllPairs (λ i j. i < j) members.old.items }
+    requires at_most { All (λ m. m ≤ member) members.old.items }
+    ensures { OnOk result (IsToggled members.old.items member members.new.items) }
+{
+    if is_last(members, member) {
+        let _ = members.pop();
+    } else {
+        members.push(member)?;
+    }
+    Ok(())
+}
+
+// Whether the list ends with the member.
+fn is_last(members: &[u32], member: u32) -> bool
+    ensures { IsTrue result ↔ (slice_get members.now (length members.now - 1) ≡ Some member) }
+{
+    match members.last() {
+        Some(last) => *last == member,
+        None => false,
+    }
 }

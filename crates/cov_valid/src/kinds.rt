@@ -1,122 +1,92 @@
-ghost use Rattle.std.specs.Prelude.{◌≡◌, ◌<◌, ◌^◌, ◌↔◌, IfOk, All, Contains, IsTrue, MatchOption, length, slice_get};
-ghost use Rattle.cov_types.specs.Range.{IsSegInRange};
-ghost use Rattle.cov_valid.specs.Kinds.{HasBadContact, IsSameSide, IsInside, IsFaultOf, IsFaultless};
-ghost use Rattle.plane.specs.Validity.{IsRepeated};
+ghost use Rattle.std.specs.Prelude.{◌≡◌, ℕ, ◌+◌, ◌≤◌, ◌<◌, IfOk, OnOk, Option, length, slice_index_or};
+ghost use Rattle.cov_valid.specs.Contacts.{AreContacts};
+ghost use Rattle.cov_valid.specs.Groups.{IsGroup};
+ghost use Rattle.cov_valid.specs.Judged.{AreGroups, AreJudged, AreSorted};
+ghost use Rattle.cov_valid.specs.Kinds.{HasBadContact};
+ghost use Rattle.cov_valid.specs.RunIndex.{IsIndexed, IsInOrder};
 
-use crate::holders::{holders_above, holders_of_middle};
+use crate::among::Sides;
+use crate::entry::Entry;
+use crate::group::Group;
+use crate::holders::Holders;
 use crate::mark::Kind;
-use cov_types::{EdgeUse, NoMemory, Seg};
-use grid_pred::meets_badly;
+use crate::run_index::RunIndex;
+use crate::users::users_into;
+use cov_types::{NoMemory, Outline};
 use std::alloc::Global;
 
-// Whether another segment meets this one badly.
-fn has_bad_contact(uses: &[EdgeUse], s: Seg) -> bool
-    requires segments { All (λ u. IsSegInRange u.seg) uses.now }
-    requires in_range { IsSegInRange s }
-    ensures { IsTrue result ↔ HasBadContact uses.now s }
-{
-    for other in uses {
-        if meets_badly(s, other.seg) {
-            return true;
-        }
-    }
-    false
-}
-
-// Whether the use stands at two places.
-fn is_repeated(uses: &[EdgeUse], edge: EdgeUse) -> bool
-    ensures { IsTrue result ↔ IsRepeated uses.now edge }
-{
-    uses.iter().filter(|v| **v == edge).count() > 1
-}
-
-// Whether another member has the segment and lies on the same side of it.
-fn is_same_side(
+/// The kinds of the entries' faults, in their order, where it is told of each group whether its segment is met badly.
+pub fn kinds_of(
     alloc: Global,
-    uses: &[EdgeUse],
-    members: usize,
-    edge: EdgeUse,
-) -> Result<bool, NoMemory>
-    requires segments { All (λ u. IsSegInRange u.seg) uses.now }
-    requires members { All (λ u. u.member < members) uses.now }
-    requires in_range { IsSegInRange edge.seg }
-    requires member { edge.member < members }
-    ensures { IfOk result (λ b. IsTrue b ↔ IsSameSide uses.now edge) }
+    outline: &Outline,
+    entries: &[Entry],
+    groups: &[Group],
+    met: &[bool],
+) -> Result<Vec<Option<Kind>>, NoMemory>
+    requires in_order { IsInOrder outline.now }
+    requires sorted { AreSorted outline.now.uses.items entries.now }
+    requires grouped { AreGroups entries.now groups.now }
+    requires contacts { AreContacts groups.now (length groups.now) met.now }
+    ensures { IfOk result (λ kinds. AreJudged outline.now.uses.items entries.now (length entries.now) kinds.items) }
 {
-    let above = holders_above(alloc, uses, members, edge.seg)?;
-    for v in uses {
-        if is_alike(&above, *v, edge) {
-            return Ok(true);
+    let index = RunIndex::build(alloc, outline)?;
+    let mut room = Room {
+        users: Vec::new(alloc),
+        holders: Holders::new(alloc),
+        sides: Sides::new(alloc),
+    };
+    let mut kinds = Vec::with_capacity(alloc, entries.len())?;
+    for (k, group) in groups.iter().enumerate() {
+        if met[k] {
+            add_meets(*group, &mut kinds)?;
+        } else {
+            add_group(outline, &index, entries, *group, &mut room, &mut kinds)?;
         }
     }
-    Ok(false)
+    Ok(kinds)
 }
 
-// Whether another member has the segment of the edge, and its entry is that of the edge's member.
-fn is_alike(entries: &[bool], other: EdgeUse, edge: EdgeUse) -> bool
-    requires other_in { other.member < length entries.now }
-    requires edge_in { edge.member < length entries.now }
-    ensures { IsTrue result ↔ (¬ (other.member ≡ edge.member) × (other.seg ≡ edge.seg) × (slice_get entries.now other.member ≡ slice_get entries.now edge.member)) }
-{
-    if other.member == edge.member {
-        return false;
-    }
-    if !other.seg.is_same(edge.seg) {
-        return false;
-    }
-    entries[other.member as usize] == entries[edge.member as usize]
+/// The users of a segment and the members that hold its midpoint.
+#[derive(Drop)]
+struct Room {
+    users: Vec<u32>,
+    holders: Holders,
+    sides: Sides,
 }
 
-// Whether a member that doesn't have the segment holds its midpoint.
-fn is_inside(alloc: Global, uses: &[EdgeUse], members: usize, s: Seg) -> Result<bool, NoMemory>
-    requires segments { All (λ u. IsSegInRange u.seg) uses.now }
-    requires members { All (λ u. u.member < members) uses.now }
-    requires count { members < 2 ^ 32 }
-    requires in_range { IsSegInRange s }
-    ensures { IfOk result (λ b. IsTrue b ↔ IsInside uses.now s) }
+// Every entry of a group whose segment is met badly is of one kind.
+fn add_meets(group: Group, kinds: &mut Vec<Option<Kind>>) -> Result<(), NoMemory>
+    requires { group.from ≤ group.to }
+    ensures count { OnOk result (length kinds.new.items + group.from ≡ length kinds.old.items + group.to) }
+    ensures kept { OnOk result ((k : ℕ) (o : Option Kind) → k < length kinds.old.items → slice_index_or kinds.new.items k o ≡ slice_index_or kinds.old.items k o) }
+    ensures meets { OnOk result ((k : ℕ) (o : Option Kind) → length kinds.old.items ≤ k → k < length kinds.new.items → slice_index_or kinds.new.items k o ≡ Some Kind.Meets) }
 {
-    let holders = holders_of_middle(alloc, uses, members, s)?;
-    for (member, holds) in holders.iter().enumerate() {
-        if *holds && !has_segment(uses, member as u32, s) {
-            return Ok(true);
-        }
+    for _ in group.from..group.to {
+        kinds.push(Some(Kind::Meets))?;
     }
-    Ok(false)
+    Ok(())
 }
 
-// Whether the member has the segment.
-fn has_segment(uses: &[EdgeUse], member: u32, seg: Seg) -> bool
-    ensures { IsTrue result ↔ Contains uses.now (record { member = member; seg = seg }) }
+// The kinds of the entries of a group whose segment nothing meets badly.
+fn add_group(
+    outline: &Outline,
+    index: &RunIndex,
+    entries: &[Entry],
+    group: Group,
+    room: &mut Room,
+    kinds: &mut Vec<Option<Kind>>,
+) -> Result<(), NoMemory>
+    requires in_order { IsInOrder outline.now }
+    requires indexed { IsIndexed outline.now index.now }
+    requires sorted { AreSorted outline.now.uses.items entries.now }
+    requires group { IsGroup entries.now group }
+    requires not_met { ¬ HasBadContact outline.now.uses.items group.seg }
+    requires so_far { AreJudged outline.now.uses.items entries.now group.from kinds.old.items }
+    ensures { OnOk result (AreJudged outline.now.uses.items entries.now group.to kinds.new.items) }
 {
-    let edge = EdgeUse { member, seg };
-    uses.iter().any(|v| v.is_same(edge))
-}
-
-/// The kind of fault of a use in the list, or None where it is not at fault.
-pub fn kind_of(
-    alloc: Global,
-    uses: &[EdgeUse],
-    members: usize,
-    edge: EdgeUse,
-) -> Result<Option<Kind>, NoMemory>
-    requires segments { All (λ u. IsSegInRange u.seg) uses.now }
-    requires members { All (λ u. u.member < members) uses.now }
-    requires count { members < 2 ^ 32 }
-    requires in_range { IsSegInRange edge.seg }
-    requires member { edge.member < members }
-    ensures { IfOk result (λ kind. MatchOption kind (IsFaultless uses.now edge) (IsFaultOf uses.now edge)) }
-{
-    if has_bad_contact(uses, edge.seg) {
-        return Ok(Some(Kind::Meets));
-    }
-    if is_repeated(uses, edge) {
-        return Ok(Some(Kind::Repeated));
-    }
-    if is_same_side(alloc, uses, members, edge)? {
-        return Ok(Some(Kind::SameSide));
-    }
-    if is_inside(alloc, uses, members, edge.seg)? {
-        return Ok(Some(Kind::Inside));
-    }
-    Ok(None)
+    users_into(entries, group, &mut room.users)?;
+    room.holders.find(outline, index, group.seg)?;
+    room.sides
+        .add_kinds(&room.users, &room.holders.members, kinds)?;
+    Ok(())
 }

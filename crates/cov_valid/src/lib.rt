@@ -3,6 +3,7 @@
 //! Its promise: `marks` lists exactly the marks of a coverage, by ascending place.
 #![tactic(auto)]
 
+mod among;
 mod contacts;
 mod entry;
 mod group;
@@ -13,9 +14,13 @@ mod laws;
 mod level;
 mod mark;
 mod placed;
+mod present;
 mod run;
+mod run_index;
+mod table;
 #[cfg(test)]
 mod tests;
+mod users;
 mod validator;
 
 pub use laws::marks_law;

@@ -1,5 +1,9 @@
+ghost use Rattle.std.specs.Prelude.{◌<◌, All, length};
+ghost use Rattle.cov_types.specs.Range.{IsSegInRange};
+
 use crate::{Kind, marks};
-use cov_types::{Coord, Coverage, Member, Poly, Ring, in_range};
+use cov_types::{Coord, Coverage, EdgeUse, LIMIT, Member, Poly, Ring, Seg, in_range, uses};
+use grid_pred::{meets_badly, over_mid, over_upper};
 use std::alloc::{AllocError, Global};
 use std::process::Abort;
 use std::test::Fail;
@@ -113,4 +117,212 @@ fn neighbours_that_share_a_whole_segment_have_no_mark(rt: HostRuntime) -> Result
     members.push(member(alloc, &[(10, 0), (20, 0), (20, 10), (10, 10)])?)?;
     assert!(rt; marked(alloc, &rt, members)?.is_empty());
     Ok(())
+}
+
+// The bottom edge of the range is a segment of both members. Its midpoint shares its sweep value with the upper left corner.
+#[test]
+fn a_midpoint_on_the_border_of_the_range_counts_a_vertex_once(rt: HostRuntime) -> Result<(), Fail> {
+    let alloc = rt.alloc();
+    let mut members = Vec::new(alloc);
+    members.push(member(alloc, &[(0, -LIMIT), (1, -LIMIT), (0, LIMIT)])?)?;
+    members.push(member(alloc, &[(0, -LIMIT), (1, -LIMIT), (1, LIMIT)])?)?;
+    let wanted = [
+        (0, 0, Kind::SameSide),
+        (0, 1, Kind::Meets),
+        (1, 3, Kind::SameSide),
+        (1, 5, Kind::Meets),
+    ];
+    assert_eq!(rt; marked(alloc, &rt, members)?.as_slice(), wanted.as_slice());
+    Ok(())
+}
+
+#[test]
+fn the_marks_are_those_of_the_definition_read_use_by_use(rt: HostRuntime) -> Result<(), Fail> {
+    let alloc = rt.alloc();
+    let mut random = Random { state: 1 };
+    let mut faultless = 0usize;
+    let mut kinds = [0usize; 4];
+    for _ in 0..400 {
+        let c = random.coverage(alloc)?;
+        assert!(rt; in_range(&c));
+        let list = uses(alloc, &c)?;
+        let found = marks(alloc, &c, 0)?;
+        let mut next = found.iter();
+        for (place, edge) in list.iter().enumerate() {
+            match plain_kind(&list, c.members.len() as u32, *edge) {
+                None => faultless = faultless.wrapping_add(1),
+                Some(kind) => {
+                    let mark = next.next().ok_or("a mark is missing")?;
+                    assert_eq!(rt; (mark.member, mark.place), (edge.member, place as u64));
+                    assert_eq!(rt; mark.kind, kind);
+                    let at = number_of(kind);
+                    kinds[at] = kinds[at].wrapping_add(1);
+                }
+            }
+        }
+        assert!(rt; next.next().is_none());
+    }
+    assert!(rt; faultless > 0);
+    assert!(rt; kinds.iter().all(|count| *count > 0));
+    Ok(())
+}
+
+fn number_of(kind: Kind) -> usize
+    ensures { result < 4 }
+{
+    match kind {
+        Kind::Meets => 0,
+        Kind::Repeated => 1,
+        Kind::SameSide => 2,
+        Kind::Inside => 3,
+    }
+}
+
+// The kind of a use, read from its definition.
+fn plain_kind(uses: &[EdgeUse], members: u32, edge: EdgeUse) -> Option<Kind>
+    requires segments { All (λ u. IsSegInRange u.seg) uses.now }
+    requires in_range { IsSegInRange edge.seg }
+{
+    if has_bad_contact(uses, edge.seg) {
+        return Some(Kind::Meets);
+    }
+    if uses.iter().filter(|v| **v == edge).count() > 1 {
+        return Some(Kind::Repeated);
+    }
+    if is_same_side(uses, edge) {
+        return Some(Kind::SameSide);
+    }
+    if is_inside(uses, members, edge.seg) {
+        return Some(Kind::Inside);
+    }
+    None
+}
+
+fn has_bad_contact(uses: &[EdgeUse], s: Seg) -> bool
+    requires segments { All (λ u. IsSegInRange u.seg) uses.now }
+    requires in_range { IsSegInRange s }
+{
+    for other in uses {
+        if meets_badly(s, other.seg) {
+            return true;
+        }
+    }
+    false
+}
+
+fn is_same_side(uses: &[EdgeUse], edge: EdgeUse) -> bool
+    requires segments { All (λ u. IsSegInRange u.seg) uses.now }
+    requires in_range { IsSegInRange edge.seg }
+{
+    let own = holds_above(uses, edge.member, edge.seg);
+    for v in uses {
+        if v.member != edge.member && v.seg == edge.seg {
+            if holds_above(uses, v.member, edge.seg) == own {
+                return true;
+            }
+        }
+    }
+    false
+}
+
+fn is_inside(uses: &[EdgeUse], members: u32, s: Seg) -> bool
+    requires segments { All (λ u. IsSegInRange u.seg) uses.now }
+    requires in_range { IsSegInRange s }
+{
+    for member in 0..members {
+        if holds_middle(uses, member, s) && !uses.iter().any(|v| *v == EdgeUse { member, seg: s }) {
+            return true;
+        }
+    }
+    false
+}
+
+fn holds_above(uses: &[EdgeUse], member: u32, s: Seg) -> bool
+    requires segments { All (λ u. IsSegInRange u.seg) uses.now }
+    requires in_range { IsSegInRange s }
+{
+    let mut holds = false;
+    for u in uses {
+        if over_upper(u.seg, s) {
+            holds = holds != (u.member == member);
+        }
+    }
+    holds
+}
+
+fn holds_middle(uses: &[EdgeUse], member: u32, s: Seg) -> bool
+    requires segments { All (λ u. IsSegInRange u.seg) uses.now }
+    requires in_range { IsSegInRange s }
+{
+    let mut holds = false;
+    for u in uses {
+        if over_mid(u.seg, s) {
+            holds = holds != (u.member == member);
+        }
+    }
+    holds
+}
+
+// A source of numbers that look random, and of small coverages: squares that share sides, a square about them, and triangles.
+#[derive(Drop)]
+struct Random {
+    state: u32,
+}
+
+impl Random {
+    fn below(&mut self, n: u32) -> u32
+        requires { 0 < n }
+        ensures { result < n }
+    {
+        self.state = self
+            .state
+            .wrapping_mul(1_664_525)
+            .wrapping_add(1_013_904_223);
+        self.state / 65536 % n
+    }
+
+    fn coverage(&mut self, alloc: Global) -> Result<Coverage, AllocError> {
+        let mut members = Vec::new(alloc);
+        for _ in 0..2 + self.below(3) {
+            let mut polys = Vec::new(alloc);
+            for _ in 0..1 + self.below(2) {
+                polys.push(self.poly(alloc)?)?;
+            }
+            members.push(Member { polys })?;
+        }
+        Ok(Coverage { members })
+    }
+
+    fn poly(&mut self, alloc: Global) -> Result<Poly, AllocError> {
+        let mut rings = Vec::new(alloc);
+        for _ in 0..1 + self.below(2) {
+            rings.push(self.ring(alloc)?)?;
+        }
+        Ok(Poly { rings })
+    }
+
+    fn ring(&mut self, alloc: Global) -> Result<Ring, AllocError> {
+        match self.below(8) {
+            0 => ring(alloc, &[(-1, -1), (5, -1), (5, 5), (-1, 5)]),
+            1 => self.triangle(alloc),
+            _ => {
+                let x = self.below(3) as i32;
+                let y = self.below(3) as i32;
+                let right = x.wrapping_add(1);
+                let top = y.wrapping_add(1);
+                ring(alloc, &[(x, y), (right, y), (right, top), (x, top)])
+            }
+        }
+    }
+
+    fn triangle(&mut self, alloc: Global) -> Result<Ring, AllocError> {
+        let mut points = Vec::new(alloc);
+        for _ in 0..3 {
+            points.push(Coord {
+                x: self.below(5) as i32,
+                y: self.below(5) as i32,
+            })?;
+        }
+        Ok(Ring { points })
+    }
 }

@@ -26,10 +26,9 @@ loop-k-preserved c =
     let groups = c.args.groups.now in
     let same : c.boxes-boxes.result.now ≡ boxes_of groups = c.boxes-boxes.ensures ∙ c.requires.boxed in
     let within : c.loop-k.k < length groups = omega arith in
-    let near : c.deref-in-loop-k.result.now ≡ places (is_touching c.index-boxes-k.result) 0 c.boxes-boxes.result.now = c.deref-in-loop-k.ensures.value ∙ c.in_ok-narrow_into.ensures in
-    (
+    let near : c.deref-in-loop-k.result.now ≡ places (is_touching c.index-boxes-k.result) 0 c.boxes-boxes.result.now = c.deref-in-loop-k.ensures.value ∙ c.in_ok-narrow_into.ensures in (
       c.loop-k.invariant.0,
       contacts_more groups c.loop-k.k c.loop-k.met.items c.push.new.self.items c.is_met_at.result c.in_ok-push.ensures.items
-      (met_here groups c.boxes-boxes.result.now c.deref-in-loop-k.result.now c.loop-k.k c.index-boxes-k.result c.index-groups-k.result c.is_met_at.result same within c.index-boxes-k.is near c.is_met_at.ensures)
-      c.loop-k.invariant.1,
+          (met_here groups c.boxes-boxes.result.now c.deref-in-loop-k.result.now c.loop-k.k c.index-boxes-k.result c.index-groups-k.result c.is_met_at.result same within c.index-boxes-k.is near c.is_met_at.ensures)
+          c.loop-k.invariant.1,
     )

@@ -10,5 +10,5 @@ loop-from-preserved c =
       omega (arith, c.loop-from.invariant.0, part.begins),
       part.ends,
       ap₂ differ c.loop-from.invariant.2 part.held
-      ∙ sym (part-joined c.args.outline.now.uses.items c.args.run.from c.loop-from.from c.part_from-part.result.to (midpoint c.args.s) c.loop-from.invariant.0 part.begins),
+          ∙ sym (part-joined c.args.outline.now.uses.items c.args.run.from c.loop-from.from c.part_from-part.result.to (midpoint c.args.s) c.loop-from.invariant.0 part.begins),
     )

@@ -3,19 +3,19 @@ use mathlib.Core.List.{[], ◌∷◌}
 use Rattle.std.proofs.Common.{◌≡◌, sym, ap, ℕ, ◌==◌, ◌&&◌, not, List, length, sum_by, Option}
 use Rattle.std.specs.Cmp.Lexicographic.{pointwise}
 use Rattle.std.specs.Prelude.{nat_eq}
-use Rattle.smallvec.specs.SmallVec.{SmallVec}
 use Rattle.arrangement.specs.Measure.{border, owned_border, is_member}
 use Rattle.arrangement.specs.Overlay.{Overlay, label_of}
 use Rattle.owner_label.specs.Labelled.{IsOverlay, owner_in}
-use Rattle.owner_label.specs.Lists.{sides_of, AreRegionLabels}
+use Rattle.owner_label.specs.Grouped.{places_of}
+use Rattle.owner_label.specs.Lists.{AreRegionLabels}
 use Rattle.owner_label.specs.Passes.{is_single, is_owned}
 use Rattle.owner_label.specs.Sided.{Sided, AreSided}
 use Rattle.owner_label.specs.Sides.{side_length}
 use Rattle.owner_label.proofs.Overlays.{labelled_of, number_is, table_label}
 use Rattle.owner_label.proofs.Sums.{border_is}
 
-module _ (s : Sided) (sided : AreSided s) (lists : List (SmallVec ℕ)) (labels : AreRegionLabels s lists) (o : Overlay) (overlay : IsOverlay (labelled_of s) o) (r member : ℕ)
-    (sides : List ℕ) (are : sides ≡ sides_of s r (length s.regions)) where
+module _ (s : Sided) (sided : AreSided s) (lists : List (List ℕ)) (labels : AreRegionLabels s lists) (o : Overlay) (overlay : IsOverlay (labelled_of s) o) (r member : ℕ)
+    (sides : List ℕ) (are : sides ≡ places_of s.regions r) where
   pub single_is : sum_by (side_length s (is_single lists member)) sides ≡ border o r member
   single_is =
       border_is s sided o overlay r (λ g. pointwise nat_eq (label_of o g) (member ∷ [])) (is_single lists member)

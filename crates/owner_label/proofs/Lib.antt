@@ -1,5 +1,7 @@
 pub mod Ascending
 pub mod Merging
+pub mod Grouping
+pub mod Tables
 pub mod Sides
 pub mod Toggles
 pub mod Labelling

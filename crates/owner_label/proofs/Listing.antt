@@ -1,20 +1,19 @@
--- Lists by number: one more list, and one more element in one of them.
+-- Elements of a list that was written, and of lists by key.
 use mathlib.Core.List.{[], ◌∷◌}
-use Rattle.std.proofs.Common.{◌≡◌, refl, sym, ◌∙◌, ap, subst, ℕ, zero, suc, ◌+◌, ◌<◌, ◌==◌, ◌↔◌, ◌⊎◌, Bool, true, false, cond, List, ◌++◌, map, set, filter, length, get_or, take, add-one, Contains, Some, slice_get, inl, inr, arith}
-use Rattle.std.specs.Global.{Vec}
+use Rattle.std.proofs.Common.{◌≡◌, refl, sym, ◌∙◌, ap, subst, ℕ, zero, suc, ◌+◌, ◌≤◌, ◌<◌, ◌==◌, ◌↔◌, ◌⊎◌, Bool, true, false, cond, List, ◌++◌, map, set, filter, length, get_or, take, add-one, Contains, Some, slice_get, inl, inr, arith}
+use Rattle.std.specs.Prelude.{All}
 use Rattle.std.proofs.Math.Seq.{take-suc}
-use Rattle.std.proofs.lemmas.Bool.{cases_eq, eqb-true, eq-eqb, ne_eqb}
-use Rattle.std.proofs.lemmas.List.{length-set, get_or-set_same, get_or-set_other, get_or_push, get_or_append_left, length_push, append-nil, map-append}
-use Rattle.std.proofs.lemmas.List.Elements.{filter-append}
-use Rattle.std.proofs.lemmas.Option.{slice_get-get_or, get_or_from_slice_get, slice_get_within, same_Some, none-some}
-use Rattle.smallvec.specs.SmallVec.{SmallVec}
+use Rattle.std.proofs.lemmas.Bool.{cases_eq, eqb-true, eq-eqb}
+use Rattle.std.proofs.lemmas.List.{length-set, length-map, get_or-map, get_or-set_same, get_or-set_other, get_or_push, get_or_append_left, length_push, map-append, take_all}
+use Rattle.std.proofs.lemmas.List.Elements.{filter-append, Contains-get_or}
+use Rattle.std.proofs.lemmas.Option.{slice_get-get_or, get_or_from_slice_get, slice_get_within, same_Some}
 use Rattle.arrangement.specs.declared.odd_use.OddUse.{OddUse}
-use Rattle.owner_label.specs.Members.{members_of}
+use Rattle.owner_label.specs.Members.{members_of, members_at, member_of, edges_of}
 use Rattle.cov_types.specs.declared.seg.Seg.{Seg}
 use Rattle.plane.specs.Point.{Point}
 use Rattle.plane.specs.Region.{IsSide, IsRegionOf}
 use Rattle.plane.specs.Label.{numbers_below}
-use Rattle.owner_label.specs.Lists.{sides_of, AreEdgeMembers, AreRegionSides}
+use Rattle.owner_label.specs.Grouped.{places_of, IsGrouped}
 use Rattle.owner_label.specs.Sided.{Sided, region_at, AreFirstRegions}
 use Rattle.owner_label.proofs.Ascending.{chosen_contains}
 
@@ -30,40 +29,6 @@ get-set xs i y k v at =
       | inr other ↦ inr (other, slice_get-get_or xs k v within ∙ ap (λ w. Some w) (sym (get_or-set_other xs i k y v other) ∙ is))
     ]
 
-pub get-push : {X : Type 0} (xs : List X) (y : X) (k : ℕ) (v : X) → slice_get (xs ++ y ∷ []) k ≡ Some v → ((k ≡ length xs) × (v ≡ y)) ⊎ (slice_get xs k ≡ Some v)
-get-push [] y zero v at = inl (refl, sym (same_Some y v at))
-get-push [] y (suc k) v at = absurd (none-some v at)
-get-push (x ∷ xs) y zero v at = inr at
-get-push (x ∷ xs) y (suc k) v at = elim (get-push xs y k v at) [ inl last ↦ inl (ap suc last.0, last.1) | inr old ↦ inr old ]
-
--- ---- empty lists
-
-pub members-new : (count : ℕ) (lists lists' : List (SmallVec ℕ)) (v : SmallVec ℕ) → v.items ≡ [] → lists' ≡ lists ++ v ∷ [] → AreEdgeMembers [] count lists → AreEdgeMembers [] (count + 1) lists'
-members-new count lists lists' v empty pushed are = subst (λ ls. AreEdgeMembers [] (count + 1) ls) (sym pushed) (record {
-  count = length_push lists v ∙ ap (λ n. n + 1) are.count;
-  each = λ k w at. elim (get-push lists v k w at) [ inl last ↦ ap (λ (u : SmallVec ℕ). u.items) last.1 ∙ empty | inr old ↦ are.each k w old ];
-})
-
--- so many lists, all of them empty
-pub record AreEmpty (n : ℕ) (lists : List (Vec ℕ)) : Type 0 where
-  pub count : length lists ≡ n
-  pub each : (r : ℕ) (v : Vec ℕ) → slice_get lists r ≡ Some v → v.items ≡ []
-
-pub empty-new : (n : ℕ) (lists lists' : List (Vec ℕ)) (v : Vec ℕ) → v.items ≡ [] → lists' ≡ lists ++ v ∷ [] → AreEmpty n lists → AreEmpty (n + 1) lists'
-empty-new n lists lists' v empty pushed are = subst (λ ls. AreEmpty (n + 1) ls) (sym pushed) (record {
-  count = length_push lists v ∙ ap (λ k. k + 1) are.count;
-  each = λ k w at. elim (get-push lists v k w at) [ inl last ↦ ap (λ (u : Vec ℕ). u.items) last.1 ∙ empty | inr old ↦ are.each k w old ];
-})
-
-pub empty_end : (n m : ℕ) (lists : List (Vec ℕ)) → m ≡ n → AreEmpty m lists → AreEmpty n lists
-empty_end n m lists same are = subst (λ k. AreEmpty k lists) same are
-
-pub sides-none : (n : ℕ) (lists : List (Vec ℕ)) → AreEmpty n lists → (s : Sided) → length s.regions ≡ n → AreRegionSides s 0 lists
-sides-none n lists are s long = record {
-  count = are.count ∙ sym long;
-  each = are.each;
-}
-
 -- ---- one more odd pair
 
 members_of-push : (odd : List OddUse) (o : OddUse) (k : ℕ) → members_of (odd ++ o ∷ []) k ≡ members_of odd k ++ members_of (o ∷ []) k
@@ -75,66 +40,54 @@ last_member : (o : OddUse) (k : ℕ) (b : Bool) → (o.edge == k) ≡ b → memb
 last_member o k true h = ap (λ t. map (λ (p : OddUse). p.member) (cond t (o ∷ []) [])) h
 last_member o k false h = ap (λ t. map (λ (p : OddUse). p.member) (cond t (o ∷ []) [])) h
 
-pub members-push : (odd : List OddUse) (o : OddUse) (count : ℕ) (lists : List (SmallVec ℕ)) (before after : SmallVec ℕ) → o.edge < length lists → before ≡ get_or lists o.edge before
-    → after.items ≡ before.items ++ o.member ∷ [] → AreEdgeMembers odd count lists → AreEdgeMembers (odd ++ o ∷ []) count (set lists o.edge after)
-members-push odd o count lists before after within here pushed are = record {
-  count = length-set lists o.edge after ∙ are.count;
-  each = λ k v at. elim (get-set lists o.edge after k v at) [
-    | inl written ↦ (
-        let old = are.each o.edge before (slice_get-get_or lists o.edge before within ∙ ap (λ (w : SmallVec ℕ). Some w) (sym here)) in
-        let last = last_member o o.edge true (eq-eqb o.edge o.edge refl) in
-        ap (λ (w : SmallVec ℕ). w.items) written.1 ∙ pushed ∙ (λ i. old i ++ sym last i) ∙ sym (members_of-push odd o o.edge) ∙ ap (λ j. members_of (odd ++ o ∷ []) j) (sym written.0)
-        )
-    | inr kept ↦ (
-        let last = last_member o k false (ne_eqb o.edge k (λ e. kept.0 (sym e))) in
-        are.each k v kept.1 ∙ sym (append-nil (members_of odd k)) ∙ ap (λ xs. members_of odd k ++ xs) (sym last) ∙ sym (members_of-push odd o k)
-        )
-  ];
-}
+-- the members of the odd pairs of an edge
+pub members_grouped : (odd : List OddUse) (k : ℕ) → members_at odd (places_of (edges_of odd) k) ≡ members_of odd k
+members_grouped odd k =
+    ap (λ n. members_at odd (filter its (numbers_below n))) (length-map odd (λ (o : OddUse). o.edge)) ∙ so_far (length odd) (omega arith)
+    ∙ ap (λ (os : List OddUse). members_of os k) (take_all (length odd) odd (omega arith))
+  where
+    its : ℕ → Bool
+    its i = get_or (edges_of odd) i 0 == k
 
-pub members-more : (odd : List OddUse) (i : ℕ) (d : OddUse) (count : ℕ) (lists : List (SmallVec ℕ)) (before after : SmallVec ℕ) → i < length odd → (get_or odd i d).edge < count
-    → before ≡ get_or lists (get_or odd i d).edge before → after.items ≡ before.items ++ (get_or odd i d).member ∷ []
-    → AreEdgeMembers (take i odd) count lists → AreEdgeMembers (take (i + 1) odd) count (set lists (get_or odd i d).edge after)
-members-more odd i d count lists before after inside within here pushed are =
-    rw (add-one, take-suc odd i d inside) (members-push (take i odd) (get_or odd i d) count lists before after (omega (arith, are.count)) here pushed are)
+    none : OddUse
+    none = record { member = 0; edge = 0 }
 
--- ---- one more side
+    last : (n : ℕ) → n < length odd → (b : Bool) → its n ≡ b → (get_or odd n none).edge ≡ get_or (edges_of odd) n 0 → members_at odd (filter its (n ∷ [])) ≡ members_of (get_or odd n none ∷ []) k
+    last n inside true h same =
+        ap (λ b. members_at odd (cond b (n ∷ []) [])) h ∙ ap (λ o. member_of o ∷ []) (slice_get-get_or odd n none inside)
+        ∙ sym (last_member (get_or odd n none) k true (ap (λ e. e == k) same ∙ h))
+    last n inside false h same =
+        ap (λ b. members_at odd (cond b (n ∷ []) [])) h ∙ sym (last_member (get_or odd n none) k false (ap (λ e. e == k) same ∙ h))
 
-sides_of-more : (s : Sided) (r n : ℕ) (b : Bool) → (region_at s n == r) ≡ b → sides_of s r (n + 1) ≡ sides_of s r n ++ cond b (n ∷ []) []
-sides_of-more s r n b h = rw add-one (filter-append (λ k. region_at s k == r) (numbers_below n) (n ∷ []) ∙ ap (λ t. sides_of s r n ++ cond t (n ∷ []) []) h)
+    so_far : (n : ℕ) → n ≤ length odd → members_at odd (filter its (numbers_below n)) ≡ members_of (take n odd) k
+    so_far zero h = refl
+    so_far (suc n) h =
+        let inside : n < length odd = omega arith in
+        ap (members_at odd) (filter-append its (numbers_below n) (n ∷ [])) ∙ map-append (λ i. member_of (slice_get odd i)) (filter its (numbers_below n)) (filter its (n ∷ []))
+        ∙ (λ i. so_far n (omega arith) i ++ last n inside (its n) refl (sym (get_or-map (λ (o : OddUse). o.edge) odd n none 0 inside)) i)
+        ∙ sym (members_of-push (take n odd) (get_or odd n none) k) ∙ ap (λ (os : List OddUse). members_of os k) (sym (take-suc odd n none inside))
 
-pub sides-push : (s : Sided) (n : ℕ) (lists : List (Vec ℕ)) (before after : Vec ℕ) → region_at s n < length lists → before ≡ get_or lists (region_at s n) before
-    → after.items ≡ before.items ++ n ∷ [] → AreRegionSides s n lists → AreRegionSides s (n + 1) (set lists (region_at s n) after)
-sides-push s n lists before after within here pushed are = record {
-  count = length-set lists (region_at s n) after ∙ are.count;
-  each = λ r v at. elim (get-set lists (region_at s n) after r v at) [
-    | inl written ↦ (
-        let old = are.each (region_at s n) before (slice_get-get_or lists (region_at s n) before within ∙ ap (λ (w : Vec ℕ). Some w) (sym here)) in
-        ap (λ (w : Vec ℕ). w.items) written.1 ∙ pushed ∙ ap (λ xs. xs ++ n ∷ []) (old ∙ ap (λ k. sides_of s k n) (sym written.0))
-        ∙ sym (sides_of-more s r n true (eq-eqb (region_at s n) r (sym written.0)))
-        )
-    | inr kept ↦ are.each r v kept.1 ∙ sym (append-nil (sides_of s r n)) ∙ sym (sides_of-more s r n false (ne_eqb (region_at s n) r (λ e. kept.0 (sym e))))
-  ];
-}
+-- ---- the places of a key
 
--- the sides of a region
-pub region_sides : (s : Sided) (first : ℕ) (lists : List (Vec ℕ)) → AreRegionSides s first lists → (r : ℕ) (v : Vec ℕ) → slice_get lists r ≡ Some v
-    → (n : ℕ) → Contains v.items n ↔ ((n < first) × (region_at s n ≡ r))
-region_sides s first lists are r v at n =
-    let items = are.each r v at in
-    let chosen = chosen_contains (λ k. region_at s k == r) first n in (
-      (λ c. (let h = chosen.0 (subst (λ xs. Contains xs n) items c) in (h.0, eqb-true (region_at s n) r h.1))),
-      (λ h. subst (λ xs. Contains xs n) (sym items) (chosen.1 (h.0, eq-eqb (region_at s n) r h.1))),
+pub group_is : (keys : List ℕ) (count : ℕ) (groups : List (List ℕ)) → IsGrouped keys count groups → (k : ℕ) (group : List ℕ) → slice_get groups k ≡ Some group → group ≡ places_of keys k
+group_is keys count groups are k group at =
+    same_Some group (places_of keys k) (sym at ∙ are.each k (omega (arith, slice_get_within groups k group at, are.long)))
+
+pub group_contains : (keys : List ℕ) (k n : ℕ) → Contains (places_of keys k) n ↔ ((n < length keys) × (get_or keys n 0 ≡ k))
+group_contains keys k n =
+    let chosen = chosen_contains (λ i. get_or keys i 0 == k) (length keys) n in (
+      (λ c. (let h = chosen.0 c in (h.0, eqb-true (get_or keys n 0) k h.1))),
+      (λ h. chosen.1 (h.0, eq-eqb (get_or keys n 0) k h.1)),
     )
 
-pub sides-more : (s : Sided) (n r : ℕ) (lists : List (Vec ℕ)) (before after : Vec ℕ) → r ≡ region_at s n → r < length s.regions → before ≡ get_or lists r before
-    → after.items ≡ before.items ++ n ∷ [] → AreRegionSides s n lists → AreRegionSides s (n + 1) (set lists r after)
-sides-more s n r lists before after same within here pushed are =
-    subst (λ k. AreRegionSides s (n + 1) (set lists k after)) (sym same)
-    (sides-push s n lists before after (omega (arith, are.count)) (here ∙ ap (λ k. get_or lists k before) same) pushed are)
+pub group_within : (keys : List ℕ) (k : ℕ) → All (λ n. n < length keys) (places_of keys k)
+group_within keys k i d inside = ((group_contains keys k (get_or (places_of keys k) i d)).0 (Contains-get_or (places_of keys k) i d inside)).0
 
-pub sides_end : (s : Sided) (n : ℕ) (lists : List (Vec ℕ)) → n ≡ length s.regions → AreRegionSides s n lists → AreRegionSides s (length s.regions) lists
-sides_end s n lists same are = subst (λ k. AreRegionSides s k lists) same are
+-- the sides of a region
+pub region_sides : (s : Sided) (lists : List (List ℕ)) → IsGrouped s.regions (length s.regions) lists → (r : ℕ) (sides : List ℕ) → slice_get lists r ≡ Some sides
+    → (n : ℕ) → Contains sides n ↔ ((n < length s.regions) × (region_at s n ≡ r))
+region_sides s lists are r sides at n =
+    subst (λ xs. Contains xs n ↔ ((n < length s.regions) × (region_at s n ≡ r))) (sym (group_is s.regions (length s.regions) lists are r sides at)) (group_contains s.regions r n)
 
 -- ---- the region of one more side
 

@@ -1,14 +1,12 @@
 -- The labels of regions as those of an overlay.
 use mathlib.Core.List.{[], ◌∷◌}
 use Rattle.std.proofs.Common.{slice_index, ◌≡◌, refl, sym, ◌∙◌, ap, subst, ℕ, zero, suc, ◌+◌, ◌*◌, ◌<◌, ◌≤◌, ◌%◌, ◌==◌, ◌&&◌, Bool, true, false, not, cond, ltb, List, length, get_or, count_by, Option, Some, None, slice_get, inl, inr, arith}
-use Rattle.std.specs.Global.{Vec}
 use Rattle.std.specs.Prelude.{All, flat_map, option_to_list}
 use Rattle.std.proofs.lemmas.Bool.{cases_lt, lt-ltb, le-ltb, ne_eqb, and_left, both_ways}
 use Rattle.std.proofs.lemmas.List.{append-nil}
 use Rattle.std.proofs.lemmas.List.Elements.{All-nil, All-cons, All-weaker, All-head, All-tail, Contains-get_or}
 use Rattle.std.proofs.lemmas.List.Sums.{sum_by-cons}
 use Rattle.std.proofs.lemmas.Option.{slice_get-get_or}
-use Rattle.smallvec.specs.SmallVec.{SmallVec}
 use Rattle.cov_types.specs.declared.edge_use.EdgeUse.{EdgeUse}
 use Rattle.cov_types.specs.declared.seg.Seg.{Seg}
 use Rattle.plane.specs.Label.{label_at}
@@ -23,12 +21,13 @@ use Rattle.arrangement.specs.Noding.{odd_uses}
 use Rattle.arrangement.specs.Overlay.{Overlay, IsRegion, label_of, AreBeside}
 use Rattle.arrangement.proofs.Numberings.{upper_side, lower_side}
 use Rattle.owner_label.specs.Labelled.{Labelled, IsOverlay}
-use Rattle.owner_label.specs.Lists.{sides_of, AreRegionLabels, AreRegionSides}
+use Rattle.owner_label.specs.Grouped.{places_of, IsGrouped}
+use Rattle.owner_label.specs.Lists.{AreRegionLabels}
 use Rattle.owner_label.specs.Members.{has, differs}
-use Rattle.owner_label.specs.Passes.{items_of}
+use Rattle.owner_label.specs.Passes.{label_or_empty}
 use Rattle.owner_label.specs.Sided.{Sided, AreSided, region_at, uses_of, IsLabelAt}
 use Rattle.owner_label.proofs.Ascending.{same_ascending, chosen_from, chosen_has}
-use Rattle.owner_label.proofs.Listing.{region_sides}
+use Rattle.owner_label.proofs.Listing.{group_is, region_sides}
 use Rattle.owner_label.proofs.Regions.{label_joined, side_within, outer_label}
 use Rattle.owner_label.proofs.Sides.{sides-length}
 use Rattle.owner_label.proofs.Toggles.{odd_uses-cons, member_below}
@@ -159,7 +158,7 @@ region_among edges walked arena side count r is_walked is_arena all inside is =
 
 -- ---- the label of a region in the table
 
-not_past : (xs : List (SmallVec ℕ)) (i : ℕ) → i < length xs → slice_get xs i ≡ None → ⊥
+not_past : (xs : List (List ℕ)) (i : ℕ) → i < length xs → slice_get xs i ≡ None → ⊥
 not_past [] i h is = absurd (omega arith)
 not_past (x ∷ xs) zero h is = cc
 not_past (x ∷ xs) (suc i) h is = not_past xs i (omega arith) is
@@ -167,40 +166,34 @@ not_past (x ∷ xs) (suc i) h is = not_past xs i (omega arith) is
 pub region_ready : (s : Sided) → AreSided s → (r : ℕ) → IsRegion s.edges r → region_at s r ≡ r
 region_ready s sided r is = one_region s.edges is.at (region_at s r) r (sided.numbered.each r is.at is.side) is.own
 
-module _ (s : Sided) (sided : AreSided s) (lists : List (SmallVec ℕ)) (labels : AreRegionLabels s lists) where
+module _ (s : Sided) (sided : AreSided s) (lists : List (List ℕ)) (labels : AreRegionLabels s lists) where
   -- the label of the region of a side
-  pub label_at_side : (n : ℕ) (p : Point) → IsSide s.edges n p → (v : SmallVec ℕ) → slice_get lists (region_at s n) ≡ Some v → IsLabelAt (uses_of s) p v.items
+  pub label_at_side : (n : ℕ) (p : Point) → IsSide s.edges n p → (v : List ℕ) → slice_get lists (region_at s n) ≡ Some v → IsLabelAt (uses_of s) p v
   label_at_side n p at v here = labels.each n (omega (arith, side_within s sided n p at, sided.numbered.count)) v here n p at refl
 
-  pub label_read : (n : ℕ) (p : Point) → IsSide s.edges n p → (r : ℕ) → r ≡ region_at s n → (v : SmallVec ℕ) → v ≡ get_or lists r v → IsLabelAt (uses_of s) p v.items
-  label_read n p at r same v here =
-      let region = (sided.numbered.each n p at).joined in
-      let within : r < length lists = omega (arith, side_within s sided (region_at s n) region.at region.side, sided.numbered.count, labels.count) in
-      label_at_side n p at v (ap (λ k. slice_get lists k) (sym same) ∙ slice_get-get_or lists r v within ∙ ap (λ w. Some w) (sym here))
+  pub label_read : (n : ℕ) (p : Point) → IsSide s.edges n p → (r : ℕ) → r ≡ region_at s n → (v : List ℕ) → slice_get lists r ≡ Some v → IsLabelAt (uses_of s) p v
+  label_read n p at r same v here = label_at_side n p at v (ap (λ k. slice_get lists k) (sym same) ∙ here)
 
   pub region_within : (r : ℕ) → IsRegion s.edges r → r < length lists
   region_within r is = omega (arith, side_within s sided r is.at is.side, sided.numbered.count, labels.count)
 
-  module _ (r : ℕ) (is : IsRegion s.edges r) (v : SmallVec ℕ) (here : v ≡ get_or lists r v) where
-    found : slice_get lists (region_at s r) ≡ Some v
-    found = ap (λ k. slice_get lists k) (region_ready s sided r is) ∙ slice_get-get_or lists r v (region_within r is) ∙ ap (λ w. Some w) (sym here)
+  module _ (r : ℕ) (is : IsRegion s.edges r) (v : List ℕ) (here : slice_get lists r ≡ Some v) where
+    label_here : IsLabelAt (uses_of s) is.at v
+    label_here = label_at_side r is.at is.side v (ap (λ k. slice_get lists k) (region_ready s sided r is) ∙ here)
 
-    label_here : IsLabelAt (uses_of s) is.at v.items
-    label_here = label_at_side r is.at is.side v found
+    pub label_value : (o : Overlay) → IsOverlay (labelled_of s) o → v ≡ label_of o r
+    label_value o overlay = label_is s sided o overlay is.at v label_here ∙ sym (label_of_is s sided o overlay r is.at is.side)
 
-    pub label_value : (o : Overlay) → IsOverlay (labelled_of s) o → v.items ≡ label_of o r
-    label_value o overlay = label_is s sided o overlay is.at v.items label_here ∙ sym (label_of_is s sided o overlay r is.at is.side)
+    pub label_points : (o : Overlay) (p : Point) → IsOverlay (labelled_of s) o → IsRegionOf s.edges p r → v ≡ label_at o.uses o.members p
+    label_points o p overlay region = label_is s sided o overlay p v (label_joined s sided is.at p v (same_region s.edges is.at p r is.own region) label_here)
 
-    pub label_points : (o : Overlay) (p : Point) → IsOverlay (labelled_of s) o → IsRegionOf s.edges p r → v.items ≡ label_at o.uses o.members p
-    label_points o p overlay region = label_is s sided o overlay p v.items (label_joined s sided is.at p v.items (same_region s.edges is.at p r is.own region) label_here)
-
-    pub label_outer : IsOuterRegion s.edges r → v.items ≡ []
+    pub label_outer : IsOuterRegion s.edges r → v ≡ []
     label_outer outer =
         let empty = outer_label s sided r outer.outer.at outer.outer.side outer.outer.outer r is.at is.side refl in
-        same_ascending 0 v.items [] label_here.ascending tt (λ m. label_here.exact m ∙ sym (empty.exact m))
+        same_ascending 0 v [] label_here.ascending tt (λ m. label_here.exact m ∙ sym (empty.exact m))
 
     -- it is not that of a region over an edge
-    pub label_differs : (o : Overlay) (other : ℕ) → IsOverlay (labelled_of s) o → AreBeside o r other → label_of o other ≡ v.items → ⊥
+    pub label_differs : (o : Overlay) (other : ℕ) → IsOverlay (labelled_of s) o → AreBeside o r other → label_of o other ≡ v → ⊥
     label_differs o other overlay beside same =
         let inside : beside.edge < length s.edges = omega (arith, beside.listed, ap length overlay.edges) in
         labels_apart s sided o overlay beside.edge inside
@@ -210,26 +203,25 @@ module _ (s : Sided) (sided : AreSided s) (lists : List (SmallVec ℕ)) (labels 
         ])
 
   -- the label in the table is that of the definition
-  pub table_label : (o : Overlay) → IsOverlay (labelled_of s) o → (n : ℕ) (p : Point) → IsSide s.edges n p → items_of (slice_get lists (region_at s n)) ≡ label_of o (slice_index o.numbers n)
+  pub table_label : (o : Overlay) → IsOverlay (labelled_of s) o → (n : ℕ) (p : Point) → IsSide s.edges n p → label_or_empty (slice_get lists (region_at s n)) ≡ label_of o (slice_index o.numbers n)
   table_label o overlay n p at = by (slice_get lists (region_at s n)) refl
     where
       inside : region_at s n < length lists
       inside = let region = (sided.numbered.each n p at).joined in omega (arith, side_within s sided (region_at s n) region.at region.side, sided.numbered.count, labels.count)
 
-      by : (found : Option (SmallVec ℕ)) → slice_get lists (region_at s n) ≡ found → items_of found ≡ label_of o (slice_index o.numbers n)
-      by (Some v) is = side_label s sided o overlay n p v.items at (label_at_side n p at v is)
+      by : (found : Option (List ℕ)) → slice_get lists (region_at s n) ≡ found → label_or_empty found ≡ label_of o (slice_index o.numbers n)
+      by (Some v) is = side_label s sided o overlay n p v at (label_at_side n p at v is)
       by None is = absurd (not_past lists (region_at s n) inside is)
 
 -- ---- the sides of a region in the table
 
-module _ (s : Sided) (sided : AreSided s) (lists : List (Vec ℕ)) (sides : AreRegionSides s (length s.regions) lists) (r : ℕ) (is : IsRegion s.edges r) where
-  pub sides_within : r < length lists
-  sides_within = omega (arith, side_within s sided r is.at is.side, sided.numbered.count, sides.count)
+module _ (s : Sided) (sided : AreSided s) (lists : List (List ℕ)) (sides : IsGrouped s.regions (length s.regions) lists) (r : ℕ) where
+  pub sides_within : IsRegion s.edges r → r < length lists
+  sides_within is = omega (arith, side_within s sided r is.at is.side, sided.numbered.count, sides.long)
 
-  pub sides_here : (v : Vec ℕ) → v ≡ get_or lists r v → v.items ≡ sides_of s r (length s.regions)
-  sides_here v here = sides.each r v (slice_get-get_or lists r v sides_within ∙ ap (λ w. Some w) (sym here))
+  module _ (v : List ℕ) (here : slice_get lists r ≡ Some v) where
+    pub sides_here : v ≡ places_of s.regions r
+    sides_here = group_is s.regions (length s.regions) lists sides r v here
 
-  pub sides_small : (v : Vec ℕ) → v ≡ get_or lists r v → All (λ n. n < 2 * length s.edges) v.items
-  sides_small v here k d within =
-      let listed = (region_sides s (length s.regions) lists sides r v (slice_get-get_or lists r v sides_within ∙ ap (λ w. Some w) (sym here)) (get_or v.items k d)).0 (Contains-get_or v.items k d within) in
-      omega (arith, listed.0, sided.numbered.count)
+    pub sides_small : All (λ n. n < 2 * length s.edges) v
+    sides_small k d within = let listed = (region_sides s lists sides r v here (get_or v k d)).0 (Contains-get_or v k d within) in omega (arith, listed.0, sided.numbered.count)

@@ -1,41 +1,35 @@
 -- Labels spread from region to region.
 use mathlib.Core.List.{[], ◌∷◌}
-use Rattle.std.proofs.Common.{◌≡◌, refl, sym, ◌∙◌, ap, subst, ℕ, zero, suc, ◌+◌, ◌*◌, ◌/◌, ◌<◌, ◌≤◌, ◌⊎◌, Bool, true, false, not, cond, true≢false, List, ◌++◌, set, length, get_or, take, add-one, count_by, Contains, Some, slice_get, inl, inr, arith}
+use Rattle.std.proofs.Common.{◌≡◌, refl, sym, ◌∙◌, ap, subst, ℕ, zero, suc, ◌+◌, ◌*◌, ◌/◌, ◌<◌, ◌≤◌, ◌⊎◌, Bool, true, false, not, cond, true≢false, List, ◌++◌, replicate, set, length, get_or, take, add-one, count_by, Contains, Some, slice_get, inl, inr, arith}
 use Rattle.std.proofs.Math.Seq.{take-suc}
 use Rattle.std.proofs.lemmas.Bool.{cases_eq, cases_lt}
-use Rattle.std.proofs.lemmas.List.{length-set, get_or_past, get_or-set_same, get_or-set_other, length_push, get_or_append_left}
-use Rattle.std.proofs.lemmas.List.Elements.{Contains-push, Contains-push_cases, Contains-append_left, Contains-get_or}
+use Rattle.std.proofs.lemmas.List.{length-set, length-map, set-get_or, get_or-map, get_or_default, get_or_past, get_or-set_same, get_or-set_other, length_push, get_or_append_left}
+use Rattle.std.proofs.lemmas.List.Elements.{All-weaker, Contains-push, Contains-push_cases, Contains-append_left, Contains-get_or}
 use Rattle.std.proofs.lemmas.List.Sums.{sum_by-set, count_by-le-length}
 use Rattle.std.proofs.lemmas.Option.{slice_get-get_or, slice_get_within, get_or_from_slice_get, same_Some}
-use Rattle.std.specs.Global.{Vec}
 use Rattle.std.specs.Prelude.{All}
-use Rattle.smallvec.specs.SmallVec.{SmallVec}
+use Rattle.arrangement.specs.declared.odd_use.OddUse.{OddUse}
 use Rattle.plane.specs.Point.{Point}
-use Rattle.plane.specs.Region.{IsSide}
+use Rattle.plane.specs.Region.{IsSide, IsOuterRegion}
 use Rattle.sector_laws.specs.Sector.{HalfEdge, left as side_left, twin}
 use Rattle.sector_laws.proofs.Numbers.{half_edge_side, one_number}
 use Rattle.region_laws.specs.Crossed.{IsCrossed}
 use Rattle.region_laws.proofs.Outwards.{crossed_same}
 use Rattle.region_laws.proofs.Numbered.{index, index_is, side_half_edge}
 use Rattle.owner_label.specs.declared.spread.Spread.{Spread}
-use Rattle.owner_label.specs.Lists.{AreEdgeMembers, AreRegionSides, AreRegionLabels}
-use Rattle.owner_label.specs.Members.{IsFrom, IsToggled, members_of}
+use Rattle.owner_label.specs.Grouped.{places_of, IsGrouped}
+use Rattle.owner_label.specs.Lists.{AreRegionLabels}
+use Rattle.owner_label.specs.Members.{IsFrom, IsToggled, IsToggledFrom, members_of, members_at, edges_of}
 use Rattle.owner_label.specs.Sided.{Sided, AreSided, across, region_at, uses_of, IsLabelAt, IsRegionLabel}
-use Rattle.owner_label.specs.Spread.{IsReached, IsSpread, Grows, AreCrossed, IsLeft, IsBegun}
-use Rattle.owner_label.proofs.Listing.{get-set, region_sides}
-use Rattle.owner_label.proofs.Regions.{side_point, side_within, joined_region, label_across, region_within}
-use Rattle.owner_label.proofs.Sides.{index-twin}
+use Rattle.owner_label.specs.Spread.{IsReached, IsReachedNow, IsSpread, Grows, AreCrossed, IsLeft, IsBegun}
+use Rattle.owner_label.proofs.Listing.{get-set, group_is, group_within, members_grouped, region_sides}
+use Rattle.owner_label.proofs.Regions.{side_point, side_within, joined_region, label_across, label_outer, region_within}
+use Rattle.owner_label.proofs.Sides.{across_within, index-twin}
 use Rattle.owner_label.proofs.Toggles.{members_ascend}
 
 -- ---- one more region is reached
 
--- the region is reached with its label, and put at the end of the queue
-pub record IsReachedNow (before : Spread) (r : ℕ) (label : SmallVec ℕ) (after : Spread) : Type 0 where
-  pub labels : after.labels.items ≡ set before.labels.items r label
-  pub reached : after.reached.items ≡ set before.reached.items r true
-  pub queue : after.queue.items ≡ before.queue.items ++ r ∷ []
-
-module _ (before after : Spread) (r : ℕ) (label : SmallVec ℕ) (now : IsReachedNow before r label after) (fresh : get_or before.reached.items r false ≡ false) (in_reached : r < length before.reached.items) where
+module _ (before after : Spread) (r : ℕ) (label : List ℕ) (now : IsReachedNow before r label after) (fresh : get_or before.reached.items r false ≡ false) (in_reached : r < length before.reached.items) where
   same_place : (k : ℕ) → get_or after.reached.items k false ≡ get_or (set before.reached.items r true) k false
   same_place k = ap (λ xs. get_or xs k false) now.reached
 
@@ -64,12 +58,12 @@ module _ (before after : Spread) (r : ℕ) (label : SmallVec ℕ) (now : IsReach
         ∙ ap (λ n. Some n) (ap (λ xs. get_or xs i k) now.queue ∙ get_or_append_left before.queue.items (r ∷ []) k i within ∙ get_or_from_slice_get before.queue.items i k k at);
   }
 
-  pub reach_spread : (s : Sided) → IsSpread s before → IsRegionLabel s r label.items → IsSpread s after
+  pub reach_spread : (s : Sided) → IsSpread s before → IsRegionLabel s r label → IsSpread s after
   reach_spread s is right = record {
-    labels = ap length now.labels ∙ length-set before.labels.items r label ∙ is.labels;
+    labels = ap length now.labels ∙ length-set before.labels r label ∙ is.labels;
     reached = ap length now.reached ∙ length-set before.reached.items r true ∙ is.reached;
-    right = λ k v h at. elim (get-set before.labels.items r label k v (ap (λ xs. slice_get xs k) (sym now.labels) ∙ at)) [
-      | inl here ↦ subst (λ w. IsRegionLabel s k w.items) (sym here.1) (subst (λ j. IsRegionLabel s j label.items) (sym here.0) right)
+    right = λ k v h at. elim (get-set before.labels r label k v (ap (λ xs. slice_get xs k) (sym now.labels) ∙ at)) [
+      | inl here ↦ subst (λ w. IsRegionLabel s k w) (sym here.1) (subst (λ j. IsRegionLabel s j label) (sym here.0) right)
       | inr kept ↦ elim (reached_cases k h) [
         | inl same ↦ absurd (kept.0 same)
         | inr old ↦ is.right k v old.1 kept.1
@@ -95,6 +89,23 @@ module _ (before after : Spread) (r : ℕ) (label : SmallVec ℕ) (now : IsReach
       one_more : (long short sum old sum' new : ℕ) → long ≡ short + 1 → short ≡ old → sum + new ≡ old + 1 → new ≡ 0 → sum' ≡ sum → long ≡ sum'
       one_more long short sum old sum' new a b c d e = omega arith
 
+-- the outer region is reached, where none was
+pub begun_all : (s : Sided) → AreSided s → (before after : Spread) (r count : ℕ) → IsSpread s before → before.labels ≡ replicate count [] → get_or before.reached.items r false ≡ false
+    → IsOuterRegion s.edges r → region_at s r ≡ r → IsReachedNow before r (get_or before.labels r []) after → IsSpread s after × IsBegun s after
+begun_all s sided before after r count is labels fresh outer own now =
+    let inside = side_within s sided r outer.outer.at outer.outer.side in
+    let in_reached : r < length before.reached.items = omega (arith, inside, is.reached, sided.numbered.count) in
+    let label = get_or before.labels r [] in
+    let none : label ≡ [] = ap (λ ls. get_or ls r []) labels ∙ empty count r [] in (
+      reach_spread before after r label now fresh in_reached s is (label_outer s sided r label outer own none),
+      inr (r, (inside, subst (λ k. IsReached after k) (sym own) (reached_here before after r label now fresh in_reached))),
+    )
+  where
+    empty : (n k : ℕ) (e : List ℕ) → get_or (replicate n e) k e ≡ e
+    empty zero k e = refl
+    empty (suc n) zero e = refl
+    empty (suc n) (suc k) e = empty n k e
+
 -- ---- growing
 
 pub grows-refl : (spread : Spread) → Grows spread spread
@@ -105,6 +116,10 @@ grows-trans a b c g h = record { reached = λ r k. h.reached r (g.reached r k); 
 
 pub crossed-none : (s : Sided) (spread : Spread) (sides : List ℕ) → AreCrossed s spread (take 0 sides)
 crossed-none s spread sides n c = absurd (omega (arith, c.1))
+
+pub crossed_one : (s : Sided) (spread : Spread) (n over : ℕ) → over ≡ region_at s (across n) → IsReached spread over → AreCrossed s spread (n ∷ [])
+crossed_one s spread n over is reached m (zero, within, same) = subst (λ k. IsReached spread (region_at s (across k))) same (subst (λ r. IsReached spread r) is reached)
+crossed_one s spread n over is reached m (suc k, within, same) = absurd (omega (arith, within))
 
 pub crossed-more : (s : Sided) (before after : Spread) (sides : List ℕ) (i : ℕ) → i < length sides → AreCrossed s before (take i sides) → Grows before after → AreCrossed s after (get_or sides i 0 ∷ [])
     → AreCrossed s after (take (i + 1) sides)
@@ -126,29 +141,68 @@ crossed_all s spread sides i past crossed = subst (λ xs. AreCrossed s spread xs
 -- ---- across a side
 
 module _ (s : Sided) (sided : AreSided s) (spread : Spread) (is : IsSpread s spread) (n : ℕ) (inside : n < 2 * length s.edges) (reached : IsReached spread (region_at s n))
-    (from : ℕ) (same : from ≡ region_at s n) (v : SmallVec ℕ) (here : v ≡ get_or spread.labels.items from v) where
-  label_from : (p : Point) → IsSide s.edges n p → IsLabelAt (uses_of s) p v.items
-  label_from p at =
-      let within : from < length spread.labels.items = (let h = region_within s sided n inside in omega (arith, is.labels, sided.numbered.count)) in
-      let got : slice_get spread.labels.items from ≡ Some v = slice_get-get_or spread.labels.items from v within ∙ ap (λ w. Some w) (sym here) in
-      is.right from v (subst (λ r. IsReached spread r) (sym same) reached) got n p at (sym same)
+    (from : ℕ) (same : from ≡ region_at s n) where
+  abbrev label : List ℕ
+  label = get_or spread.labels from []
 
-  pub label_ascends : IsFrom 0 v.items
+  label_from : (p : Point) → IsSide s.edges n p → IsLabelAt (uses_of s) p label
+  label_from p at =
+      let within : from < length spread.labels = (let h = region_within s sided n inside in omega (arith, is.labels, sided.numbered.count)) in
+      let got = slice_get-get_or spread.labels from [] within in
+      is.right from label (subst (λ r. IsReached spread r) (sym same) reached) got n p at (sym same)
+
+  pub label_ascends : IsFrom 0 label
   label_ascends = let (p, at) = side_point s sided n inside in (label_from p at).ascending
 
-  pub label_over : (w : SmallVec ℕ) (lists : List (SmallVec ℕ)) → AreEdgeMembers s.odd (length s.edges) lists → w ≡ get_or lists (n / 2) w → (after : List ℕ) → IsToggled v.items w.items after
-      → IsRegionLabel s (region_at s (across n)) after
-  label_over w lists are at_w after toggled =
+  pub label_over : (places : List ℕ) → places ≡ places_of (edges_of s.odd) (n / 2) → (after : List ℕ) → IsToggled label (members_at s.odd places) after → IsRegionLabel s (region_at s (across n)) after
+  label_over places are after toggled =
       let (p, at) = side_point s sided n inside in
-      let members = edge_members s lists are (n / 2) w (omega arith) at_w in
-      label_across s sided n p v.items after at (label_from p at) (subst (λ ms. IsToggled v.items ms after) members toggled)
-    where
-      edge_members : (s : Sided) (lists : List (SmallVec ℕ)) → AreEdgeMembers s.odd (length s.edges) lists → (k : ℕ) (w : SmallVec ℕ) → k < length s.edges → w ≡ get_or lists k w → w.items ≡ members_of s.odd k
-      edge_members s lists are k w within at_w = are.each k w (slice_get-get_or lists k w (omega (arith, are.count)) ∙ ap (λ u. Some u) (sym at_w))
+      label_across s sided n p label after at (label_from p at) (subst (λ ms. IsToggled label ms after) (ap (members_at s.odd) are ∙ members_grouped s.odd (n / 2)) toggled)
 
-pub members_from_lists : (s : Sided) → AreSided s → (lists : List (SmallVec ℕ)) → AreEdgeMembers s.odd (length s.edges) lists → (k : ℕ) (w : SmallVec ℕ) → k < length s.edges → w ≡ get_or lists k w → IsFrom 0 w.items
-members_from_lists s sided lists are k w within at_w =
-    subst (λ ms. IsFrom 0 ms) (sym (are.each k w (slice_get-get_or lists k w (omega (arith, are.count)) ∙ ap (λ u. Some u) (sym at_w)))) (members_ascend s.odd k sided.ascending)
+  -- the region across the side is reached
+  pub reach_over : (mid after : Spread) (over : ℕ) (places : List ℕ) → places ≡ places_of (edges_of s.odd) (n / 2) → over ≡ region_at s (across n) → get_or spread.reached.items over false ≡ false
+      → IsToggledFrom spread.labels over label (members_at s.odd places) mid.labels → mid.reached.items ≡ spread.reached.items → mid.queue.items ≡ spread.queue.items
+      → IsReachedNow mid over (get_or mid.labels over []) after → IsSpread s after × Grows spread after × IsReached after over
+  reach_over mid after over places are is_over fresh from_it same_reached same_queue now =
+      let whole : IsReachedNow spread over from_it.written after = record {
+        labels = now.labels ∙ set-get_or mid.labels over [] ∙ from_it.put;
+        reached = now.reached ∙ ap (λ xs. set xs over true) same_reached;
+        queue = now.queue ∙ ap (λ xs. xs ++ over ∷ []) same_queue;
+      } in
+      let in_reached : over < length spread.reached.items = omega (arith, is_over, region_within s sided (across n) (across_within n (length s.edges) inside), is.reached, sided.numbered.count) in
+      let right : IsRegionLabel s over from_it.written = subst (λ r. IsRegionLabel s r from_it.written) (sym is_over) (label_over places are from_it.written from_it.toggled) in (
+        reach_spread spread after over from_it.written whole fresh in_reached s is right,
+        reach_grows spread after over from_it.written whole fresh in_reached,
+        reached_here spread after over from_it.written whole fresh in_reached,
+      )
+
+-- a label that stays as it was
+pub reach_there : (before after : Spread) (r : ℕ) → IsReachedNow before r (get_or before.labels r []) after → after.labels ≡ before.labels
+reach_there before after r now = now.labels ∙ set-get_or before.labels r []
+
+-- the members of the odd pairs of an edge, as they are grouped
+pub pairs_ready : (s : Sided) → AreSided s → (pairs : List (List ℕ)) → IsGrouped (edges_of s.odd) (length s.edges) pairs → (k : ℕ) (places : List ℕ) → slice_get pairs k ≡ Some places
+    → (places ≡ places_of (edges_of s.odd) k) × All (λ n. n < length s.odd) places × IsFrom 0 (members_at s.odd places)
+pairs_ready s sided pairs are k places at =
+    let same = group_is (edges_of s.odd) (length s.edges) pairs are k places at in
+    let within : (n : ℕ) → n < length (edges_of s.odd) → n < length s.odd = λ n h. omega (arith, length-map s.odd (λ (o : OddUse). o.edge)) in (
+      same,
+      subst (λ xs. All (λ n. n < length s.odd) xs) (sym same) (All-weaker (λ n. n < length (edges_of s.odd)) (λ n. n < length s.odd) within (places_of (edges_of s.odd) k) (group_within (edges_of s.odd) k)),
+      subst (λ ms. IsFrom 0 ms) (sym (ap (members_at s.odd) same ∙ members_grouped s.odd k)) (members_ascend s.odd k sided.ascending),
+    )
+
+-- the edges of odd pairs are below their count
+pub edges_below : (odd : List OddUse) (edges : ℕ) → All (λ o. o.edge < edges) odd → All (λ k. k < edges) (edges_of odd)
+edges_below odd edges places k d within =
+    let inside : k < length odd = omega (arith, length-map odd (λ (o : OddUse). o.edge)) in
+    let o : OddUse = record { member = 0; edge = 0 } in
+    subst (λ e. e < edges) (sym (get_or-map (λ (p : OddUse). p.edge) odd k o d inside)) (places k o inside)
+
+-- and the regions of sides below that of the sides
+pub regions_below : (s : Sided) → AreSided s → (count : ℕ) → count ≡ 2 * length s.edges → All (λ k. k < count) s.regions
+regions_below s sided count all k d within =
+    let inside : k < 2 * length s.edges = omega (arith, within, sided.numbered.count) in
+    omega (arith, all, get_or_default s.regions k d 0 within, region_within s sided k inside)
 
 -- ---- the queue
 
@@ -174,16 +228,16 @@ begun_stays s before after grows begun = elim begun [
 ]
 
 -- one more region is left
-pub left-more : (s : Sided) (before after : Spread) (next r : ℕ) (sides : Vec ℕ) (lists : List (Vec ℕ)) → AreRegionSides s (length s.regions) lists → sides ≡ get_or lists r sides → r < length lists
+pub left-more : (s : Sided) (before after : Spread) (next r : ℕ) (sides : List ℕ) (lists : List (List ℕ)) → IsGrouped s.regions (length s.regions) lists → slice_get lists r ≡ Some sides
     → next < length before.queue.items → r ≡ get_or before.queue.items next r
-    → ((i k : ℕ) → i < next → slice_get before.queue.items i ≡ Some k → IsLeft s before k) → Grows before after → AreCrossed s after sides.items
+    → ((i k : ℕ) → i < next → slice_get before.queue.items i ≡ Some k → IsLeft s before k) → Grows before after → AreCrossed s after sides
     → (i k : ℕ) → i < next + 1 → slice_get after.queue.items i ≡ Some k → IsLeft s after k
-left-more s before after next r sides lists are at_sides in_lists within at_r left grows crossed i k less at n inside same =
+left-more s before after next r sides lists are at_sides within at_r left grows crossed i k less at n inside same =
     elim (cases_eq i next) [
       | inl here ↦ (
           let stays = grows.queue next r (slice_get-get_or before.queue.items next r within ∙ ap (λ j. Some j) (sym at_r)) in
           let is : k ≡ r = same_Some k r (sym at ∙ ap (λ j. slice_get after.queue.items j) here ∙ stays) in
-          crossed n ((region_sides s (length s.regions) lists are r sides (slice_get-get_or lists r sides in_lists ∙ ap (λ v. Some v) (sym at_sides)) n).1 (inside, same ∙ is))
+          crossed n ((region_sides s lists are r sides at_sides n).1 (inside, same ∙ is))
           )
       | inr other ↦ (
           let old : i < next = omega arith in
@@ -194,10 +248,10 @@ left-more s before after next r sides lists are at_sides in_lists within at_r le
     ]
 
 -- the sides of a region that is reached
-pub sides_ready : (s : Sided) → AreSided s → (spread : Spread) → IsSpread s spread → (r : ℕ) (sides : Vec ℕ) (lists : List (Vec ℕ)) → AreRegionSides s (length s.regions) lists
-    → sides ≡ get_or lists r sides → r < length lists → IsReached spread r → All (λ n. (n < 2 * length s.edges) × IsReached spread (region_at s n)) sides.items
-sides_ready s sided spread is r sides lists are at_sides in_lists reached k d within =
-    let each = (region_sides s (length s.regions) lists are r sides (slice_get-get_or lists r sides in_lists ∙ ap (λ v. Some v) (sym at_sides)) (get_or sides.items k d)).0 (Contains-get_or sides.items k d within) in
+pub sides_ready : (s : Sided) → AreSided s → (spread : Spread) (r : ℕ) (sides : List ℕ) (lists : List (List ℕ)) → IsGrouped s.regions (length s.regions) lists → slice_get lists r ≡ Some sides
+    → IsReached spread r → All (λ n. (n < 2 * length s.edges) × IsReached spread (region_at s n)) sides
+sides_ready s sided spread r sides lists are at_sides reached k d within =
+    let each = (region_sides s lists are r sides at_sides (get_or sides k d)).0 (Contains-get_or sides k d within) in
     (omega (arith, each.0, sided.numbered.count), subst (λ j. IsReached spread j) (sym each.1) reached)
 
 -- ---- at the end
@@ -252,7 +306,7 @@ module _ (s : Sided) (sided : AreSided s) (spread : Spread) (is : IsSpread s spr
             )
       ]
 
-  pub labels_right : IsBegun s spread → AreRegionLabels s spread.labels.items
+  pub labels_right : IsBegun s spread → AreRegionLabels s spread.labels
   labels_right begun = record {
     count = is.labels;
     each = λ n inside v at. is.right (region_at s n) v (all_reached begun n (omega (arith, sided.numbered.count))) at;

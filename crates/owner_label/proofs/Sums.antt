@@ -17,7 +17,7 @@ use Rattle.arrangement.specs.Measure.{trapezoid, area_gain, region_area2, is_bor
 use Rattle.arrangement.specs.Overlay.{Overlay, label_of}
 use Rattle.arrangement.proofs.Numberings.{upper_side, lower_side}
 use Rattle.owner_label.specs.Labelled.{IsOverlay}
-use Rattle.owner_label.specs.Lists.{sides_of}
+use Rattle.owner_label.specs.Grouped.{places_of}
 use Rattle.owner_label.specs.Sided.{Sided, AreSided, across, region_at}
 use Rattle.owner_label.specs.Sides.{side_trapezoid, side_area, length_of, side_length}
 use Rattle.owner_label.proofs.Overlays.{labelled_of, number_is, labels_apart}
@@ -140,7 +140,7 @@ module _ (s : Sided) (sided : AreSided s) (o : Overlay) (overlay : IsOverlay (la
       ∙ (λ i. cond (above_is k e here i == r) (sym (area_above s k e here) i) (pos 0) +ℤ cond (below_is k e here i == r) (sym (area_below s k e here) i) (pos 0))
 
   -- the doubled area of the region is what its sides add
-  pub area_is : (sides : List ℕ) → sides ≡ sides_of s r (length s.regions) → int_sum_by (side_area s) sides ≡ region_area2 o r
+  pub area_is : (sides : List ℕ) → sides ≡ places_of s.regions r → int_sum_by (side_area s) sides ≡ region_area2 o r
   area_is sides are =
       let all = int_by_sides (λ p. area_gain (slice_index o.numbers (2 * p.0 + 1) == r) (slice_index o.numbers (2 * p.0) == r) p.1) area_in 0 s.edges area_splits in
       let start : int_sum_by area_in (numbers_below (2 * 0)) ≡ pos 0 = refl in
@@ -190,7 +190,7 @@ module _ (s : Sided) (sided : AreSided s) (o : Overlay) (overlay : IsOverlay (la
       ∙ (λ i. cond (region_at s (2 * k) == r) (sym (length_above s test k e here) i) 0 + cond (region_at s (2 * k + 1) == r) (sym (length_below s test k e here) i) 0)
 
   -- the border of the region is the length of its sides that count
-  pub border_is : (sides : List ℕ) → sides ≡ sides_of s r (length s.regions) → sum_by (side_length s test) sides ≡ border_with o r passes
+  pub border_is : (sides : List ℕ) → sides ≡ places_of s.regions r → sum_by (side_length s test) sides ≡ border_with o r passes
   border_is sides are =
       let all = by_sides (λ p. cond (is_border o r passes p.0) (edge_length p.1) 0) length_in 0 s.edges length_splits in
       let start : sum_by length_in (numbers_below (2 * 0)) ≡ 0 = refl in

@@ -1,4 +1,6 @@
 pub mod Members
+pub mod Grouped
+pub mod Spans
 pub mod Sided
 pub mod Labelled
 pub mod Lists

@@ -1,6 +1,5 @@
 -- What is known while labels spread from region to region.
-use Rattle.std.specs.Prelude.{◌≡◌, ◌⊎◌, ℕ, ◌*◌, ◌<◌, true, false, List, [], length, Contains, count_by, Some, slice_get, slice_index_or}
-use Rattle.smallvec.specs.SmallVec.{SmallVec}
+use Rattle.std.specs.Prelude.{◌≡◌, ◌⊎◌, ℕ, ◌*◌, ◌<◌, true, false, List, [], ◌∷◌, ◌++◌, length, Contains, count_by, Some, slice_get, slice_set, slice_index_or}
 use Rattle.owner_label.specs.declared.spread.Spread.{Spread}
 use Rattle.owner_label.specs.Sided.{Sided, across, region_at, IsRegionLabel}
 
@@ -8,11 +7,17 @@ use Rattle.owner_label.specs.Sided.{Sided, across, region_at, IsRegionLabel}
 abbrev pub IsReached : Spread → ℕ → Type 0
 IsReached spread r = slice_index_or spread.reached.items r false ≡ true
 
+-- the region is reached with its label, and put at the end of the queue
+pub record IsReachedNow (before : Spread) (r : ℕ) (label : List ℕ) (after : Spread) : Type 0 where
+  pub labels : after.labels ≡ slice_set before.labels r label
+  pub reached : after.reached.items ≡ slice_set before.reached.items r true
+  pub queue : after.queue.items ≡ before.queue.items ++ r ∷ []
+
 -- the regions that were reached have their labels, and they are queued once each
 pub record IsSpread (s : Sided) (spread : Spread) : Type 0 where
-  pub labels : length spread.labels.items ≡ length s.regions
+  pub labels : length spread.labels ≡ length s.regions
   pub reached : length spread.reached.items ≡ length s.regions
-  pub right : (r : ℕ) (v : SmallVec ℕ) → IsReached spread r → slice_get spread.labels.items r ≡ Some v → IsRegionLabel s r v.items
+  pub right : (r : ℕ) (label : List ℕ) → IsReached spread r → slice_get spread.labels r ≡ Some label → IsRegionLabel s r label
   pub queued : (r : ℕ) → IsReached spread r → Contains spread.queue.items r
   pub only : (r : ℕ) → Contains spread.queue.items r → IsReached spread r
   pub once : length spread.queue.items ≡ count_by (λ b. b) spread.reached.items

@@ -12,13 +12,13 @@ ghost use Rattle.owner_label.specs.Lists.{AreRegionLabels};
 ghost use Rattle.owner_label.specs.Sided.{uses_of};
 ghost use Rattle.owner_label.specs.Sides.{side_area, pair_gain};
 
-use crate::label::Label;
+use crate::label_table::LabelTable;
 use crate::sided::SidedEdges;
 use arrangement::OddUse;
 use cov_types::Seg;
 
 /// The doubled area of a member, over its odd edges.
-pub fn area_of_member(map: &SidedEdges, labels: &[Label], member: u32) -> i128
+pub fn area_of_member(map: &SidedEdges, labels: &LabelTable, member: u32) -> i128
     requires labels { AreRegionLabels map.now labels.now }
     ensures { result ≡ member_area2 (uses_of map.now) member }
 {
@@ -54,7 +54,7 @@ fn odd_of(odd: &[OddUse], member: u32) -> &[OddUse]
 
 // What an odd pair adds to the doubled area of its member: the trapezoid of its edge where the member holds the lower side, less that
 // where it holds the upper side.
-fn gain(map: &SidedEdges, labels: &[Label], o: OddUse) -> i128
+fn gain(map: &SidedEdges, labels: &LabelTable, o: OddUse) -> i128
     requires within { o.edge < length map.now.edges }
     requires labels { AreRegionLabels map.now labels.now }
     ensures exact { (e : Seg) → slice_get map.now.edges o.edge ≡ Some e → result ≡ pair_gain (uses_of map.now) o.member o.member e }
@@ -71,12 +71,12 @@ fn gain(map: &SidedEdges, labels: &[Label], o: OddUse) -> i128
 }
 
 // Whether the member holds the side point of the side.
-fn holds(map: &SidedEdges, labels: &[Label], side: usize, member: u32) -> bool
+fn holds(map: &SidedEdges, labels: &LabelTable, side: usize, member: u32) -> bool
     requires within { side < 2 * length map.now.edges }
     requires labels { AreRegionLabels map.now labels.now }
     ensures { (p : Point) → IsSide map.now.edges side p → result ≡ member_holds (uses_of map.now) member p }
 {
-    labels[map.region(side)].contains(&member)
+    labels.label(map.region(side)).contains(&member)
 }
 
 // What a side adds to the doubled area of its region: the trapezoid of its edge, turned round on the upper side.

@@ -2,14 +2,14 @@ ghost use Rattle.std.specs.Prelude.{◌≡◌, ◌*◌, ◌/◌, ◌<◌, ◌^�
 ghost use Rattle.owner_label.specs.Passes.{is_single, is_owned};
 ghost use Rattle.owner_label.specs.Sides.{side_length, length_of};
 
-use crate::label::Label;
+use crate::label_table::LabelTable;
 use crate::sided::{SidedEdges, other_side};
 use grid_pred::edge_len;
 
 /// The length of those of the sides across which the region is labelled with the member alone, in 1/256 units.
 pub fn length_beside_single(
     map: &SidedEdges,
-    labels: &[Label],
+    labels: &LabelTable,
     sides: &[usize],
     member: u32,
 ) -> u128
@@ -27,7 +27,7 @@ pub fn length_beside_single(
 /// The length of those of the sides across which the region has a label and the member owns it, in 1/256 units.
 pub fn length_beside_owned(
     map: &SidedEdges,
-    labels: &[Label],
+    labels: &LabelTable,
     sides: &[usize],
     owners: &[Option<u32>],
     member: u32,
@@ -45,7 +45,7 @@ pub fn length_beside_owned(
 }
 
 // The length of the side, if the region across it is labelled with the member alone.
-fn length_if_single(map: &SidedEdges, labels: &[Label], side: usize, member: u32) -> u128
+fn length_if_single(map: &SidedEdges, labels: &LabelTable, side: usize, member: u32) -> u128
     requires within { side < 2 * length map.now.edges }
     requires labels { length labels.now ≡ 2 * length map.now.edges }
     ensures exact { result ≡ side_length map.now (is_single labels.now member) side }
@@ -53,7 +53,7 @@ fn length_if_single(map: &SidedEdges, labels: &[Label], side: usize, member: u32
 {
     let _edges = map.len();
     let over = map.region(other_side(side));
-    if labels[over].as_slice() == [member].as_slice() {
+    if labels.label(over) == [member].as_slice() {
         return length_of_side(map, side);
     }
     0
@@ -62,7 +62,7 @@ fn length_if_single(map: &SidedEdges, labels: &[Label], side: usize, member: u32
 // The length of the side, if the region across it has a label and the member owns it.
 fn length_if_owned(
     map: &SidedEdges,
-    labels: &[Label],
+    labels: &LabelTable,
     side: usize,
     owners: &[Option<u32>],
     member: u32,
@@ -75,7 +75,7 @@ fn length_if_owned(
 {
     let _edges = map.len();
     let over = map.region(other_side(side));
-    if labels[over].is_empty() {
+    if labels.label(over).is_empty() {
         return 0;
     }
     if owners[over] == Some(member) {

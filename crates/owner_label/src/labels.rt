@@ -10,8 +10,8 @@ ghost use Rattle.owner_label.specs.Labelled.{IsOverlay, owner_in};
 
 use crate::area::{area_of_member, area_of_sides};
 use crate::border::{length_beside_owned, length_beside_single};
-use crate::label::Label;
-use crate::lists::sides_by_region;
+use crate::grouped::Grouped;
+use crate::label_table::LabelTable;
 use crate::sided::SidedEdges;
 use crate::spread::labels_of_regions;
 use cov_types::NoMemory;
@@ -26,8 +26,9 @@ use std::marker::Model;
 pub struct Labels {
     map: SidedEdges,
     // By the number of the region; empty where a number is no region's.
-    labels: Vec<Label>,
-    sides: Vec<Vec<usize>>,
+    labels: LabelTable,
+    // By the number of the region.
+    sides: Grouped,
 }
 
 impl Model for Labels {
@@ -38,7 +39,7 @@ impl Model for Labels {
 
     ghost view = { λ l. record { edges = l.map.edges; odd = l.map.odd } };
 
-    ghost invariant = { λ l. AreLabels l.map l.labels.items l.sides.items };
+    ghost invariant = { λ l. AreLabels l.map l.labels l.sides };
 }
 
 impl Labels {
@@ -51,7 +52,7 @@ impl Labels {
         ensures { IfOk result (λ labels. labels ≡ record { edges = l.now.edges.items; odd = l.now.odd.items }) }
     {
         let map = SidedEdges::build(alloc, a, r, l)?;
-        let sides = sides_by_region(alloc, &map)?;
+        let sides = Grouped::build(alloc, map.regions(), 2 * map.len())?;
         let labels = labels_of_regions(alloc, &map, &sides, r.outer())?;
         Ok(Labels { map, labels, sides })
     }
@@ -69,7 +70,7 @@ impl Labels {
         // It differs from the label of each region over an edge.
         ensures sides { (o : Overlay) (other : ℕ) → IsOverlay self.now o → AreBeside o region other → ¬ (label_of o other ≡ result.now) }
     {
-        &self.labels[region]
+        self.labels.label(region)
     }
 
     /// The doubled area of a member, in square grid units, over its odd edges. Takes time in proportion to these, and to the
@@ -85,7 +86,7 @@ impl Labels {
         requires region { IsRegion self.now.edges region }
         ensures { (o : Overlay) → IsOverlay self.now o → result ≡ region_area2 o region }
     {
-        area_of_sides(&self.map, &self.sides[region])
+        area_of_sides(&self.map, self.sides.group(region))
     }
 
     /// The border of the region with a member, in 1/256 units: the length shared with the regions that are labelled with it alone. Takes
@@ -94,7 +95,7 @@ impl Labels {
         requires region { IsRegion self.now.edges region }
         ensures { (o : Overlay) → IsOverlay self.now o → result ≡ border o region member }
     {
-        length_beside_single(&self.map, &self.labels, &self.sides[region], member)
+        length_beside_single(&self.map, &self.labels, self.sides.group(region), member)
     }
 
     /// The owned border of the region with a member, in 1/256 units: the length shared with the regions that have a label and are owned
@@ -105,6 +106,12 @@ impl Labels {
         requires owners { length owners.now ≡ 2 * length self.now.edges }
         ensures { (o : Overlay) → IsOverlay self.now o → result ≡ owned_border o (owner_in owners.now) region member }
     {
-        length_beside_owned(&self.map, &self.labels, &self.sides[region], owners, member)
+        length_beside_owned(
+            &self.map,
+            &self.labels,
+            self.sides.group(region),
+            owners,
+            member,
+        )
     }
 }

@@ -11,14 +11,15 @@
 
 mod area;
 mod border;
-mod label;
+mod grouped;
+mod label_table;
 mod labels;
 mod laws;
-mod lists;
 mod sided;
 mod spread;
 #[cfg(test)]
 mod tests;
+mod toggle;
 
 pub use labels::Labels;
 pub use laws::label_law;

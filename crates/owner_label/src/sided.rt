@@ -83,6 +83,14 @@ impl SidedEdges {
         &self.odd
     }
 
+    /// The region of each side.
+    pub fn regions(&self) -> &[usize]
+        ensures regions { result.now ≡ self.now.regions }
+        ensures sided { AreSided self.now }
+    {
+        &self.regions
+    }
+
     /// The region of the side.
     pub fn region(&self, side: usize) -> usize
         requires within { side < 2 * length self.now.edges }

@@ -9,6 +9,10 @@
 mod borders;
 mod files;
 #[cfg(test)]
+mod hostile;
+#[cfg(test)]
+mod rows;
+#[cfg(test)]
 mod tests;
 
 pub use files::{BEFORE, shelf_of};

@@ -6,7 +6,8 @@ use std::alloc::{AllocError, Global};
 use std::process::Abort;
 use std::test;
 
-const ROOM: usize = 4_194_304;
+// The room of a file, and the most bytes that one call reads or writes.
+const ROOM: usize = 67_108_864;
 
 // A square, and a triangle whose tip touches the middle of the square's side.
 const TOUCH: &str =
@@ -55,6 +56,23 @@ pub(crate) fn expect_answers(
         let came = answer(alloc, line, &mut files)?;
         assert_eq!(rt; came, *expected, "{case}");
         expect_files(rt, &files, input, output, case);
+    }
+    Ok(())
+}
+
+// Each operation refuses the input so, and leaves both files as they were.
+pub(crate) fn expect_refusal(
+    rt: &impl Abort,
+    alloc: Global,
+    input: &[u8],
+    expected: Outcome,
+) -> Result<(), test::Fail> {
+    for line in ["validate in out", "node in out", "regions in out"] {
+        let mut files = shelf_of(alloc, input, &[], ROOM, ROOM)?;
+        let came = answer(alloc, line, &mut files)?;
+        assert_eq!(rt; came, expected, "{line}");
+        assert!(rt; files.held("in") == Some(input), "in: {line}");
+        assert!(rt; holds(&files, "out", BEFORE), "out: {line}");
     }
     Ok(())
 }
@@ -267,6 +285,13 @@ fn regions_lists_each_region_with_its_label_and_doubled_area(
             "0 outer - - -\n1 single 0 800 -\n7 gap - 72 -\n13 single 2 128 -\n19 single 1 800 -\n",
         ),
         (
+            "a frame of 216 units round a gap that fills the middle of the plane",
+            "POLYGON ((-16777216 -16777216, 16777216 -16777216, 16777216 16777216, -16777216 16777216, -16777216 -16777216), \
+             (-16777000 -16777000, -16777000 16777000, 16777000 16777000, 16777000 -16777000, -16777000 -16777000))",
+            Outcome::Done,
+            "0 outer - - -\n1 single 0 57981685248 -\n7 gap - 2251741832000000 -\n",
+        ),
+        (
             "a hole of one member alone is a gap",
             "POLYGON ((0 0, 20 0, 20 20, 0 20, 0 0), (9 9, 9 11, 11 11, 11 9, 9 9))",
             Outcome::Done,
@@ -347,10 +372,7 @@ fn each_fault_of_a_text_is_answered_at_its_place(rt: HostRuntime) -> Result<(), 
             TextFault::RingOpen { ring: 0 },
         ),
     ] {
-        let mut files = shelf_of(rt.alloc(), input.as_bytes(), &[], ROOM, ROOM)?;
-        let came = answer(rt.alloc(), "validate in out", &mut files)?;
-        assert_eq!(rt; came, Outcome::BadText(fault), "{input}");
-        expect_files(&rt, &files, input, BEFORE, input);
+        expect_refusal(&rt, rt.alloc(), input.as_bytes(), Outcome::BadText(fault))?;
     }
     Ok(())
 }

@@ -6,17 +6,18 @@ use Rattle.cov_io.specs.Contents.{Contents, SameFiles, HoldsNow, HoldsPrefix}
 use Rattle.cov_io.specs.Count.{Rose}
 use Rattle.cov_io.specs.Frame.{KeepsOutput, KeepsInput}
 use Rattle.cov_io.specs.State.{State, IsTelling}
-use Rattle.cover_cli.specs.Answers.{is_success, is_refusal, is_touching, HoldsCause, IsAnswer}
+use Rattle.cover_cli.specs.Answers.{is_success, is_refusal, is_marked, is_touching, Writes, IsOnlyText, HoldsCause, IsAnswer}
 use Rattle.cover_cli.specs.Input.{AreInputs}
 use Rattle.cover_cli.specs.Made.{Makes, Refuses}
 use Rattle.cover_cli.specs.Refusal.{IsRefusedFor, IsUnread}
-use Rattle.cover_cli.specs.Words.{Operation, inputs_of, output_of}
+use Rattle.cover_cli.specs.Words.{Operation, is_validate, inputs_of, output_of}
 use Rattle.cover_cli.specs.Written.{IsWritten, IsWrittenWhole, IsWrittenInPart}
 use Rattle.cover_cli.specs.declared.outcome.Outcome.{Outcome}
 use Rattle.cover_cli.specs.declared.outcome.Outcome.TheVariants.{Done, Marked, Usage, ReadFault, WriteFault, TooLong, BadText, NoMemory}
 use Rattle.cover_cli.specs.declared.making.Made.{Made}
-use Rattle.cover_cli.proofs.Causes.{one_refusal, refuses_refusal, not_both, makes_success, differs, refusal_no_success, success_no_refusal, untouching_no_success}
+use Rattle.cover_cli.proofs.Causes.{one_refusal, refuses_refusal, not_both, makes_success, makes_marked, makes_some, differs, refusal_no_success, refusal_no_touch, success_touches, marked_success, success_no_refusal, untouching_no_success}
 use Rattle.cover_cli.proofs.Inputs.{same_inputs, none_too_long, promised_after}
+use Rattle.cover_cli.proofs.OneText.{one_text}
 
 -- ---- what was read excludes other causes
 
@@ -39,7 +40,10 @@ without_memory : (operation : Operation) (old new : State) → new.read_faults �
 without_memory operation old new reads kept = record {
   usage = λ h. cc;
   written = λ told success. cc;
-  closed = λ success. cc;
+  marked = λ marks. cc;
+  some = λ h. cc;
+  closed = λ touching. cc;
+  current = λ h. kept.present;
   read_fault = λ h. cc;
   no_read_fault = λ h. reads;
   write_fault = λ h. cc;
@@ -61,7 +65,10 @@ pub unread : (operation : Operation) (old new : State) (o : Outcome) → IsUnrea
 unread operation old new ReadFault cause kept promised = record {
   usage = λ h. cc;
   written = λ told success. cc;
-  closed = λ success. cc;
+  marked = λ marks. cc;
+  some = λ h. cc;
+  closed = λ touching. cc;
+  current = λ h. kept.present;
   read_fault = λ h. cause;
   no_read_fault = λ h. absurd (h refl);
   write_fault = λ h. cc;
@@ -79,7 +86,10 @@ unread operation old new ReadFault cause kept promised = record {
 unread operation old new TooLong cause kept promised = record {
   usage = λ h. cc;
   written = λ told success. cc;
-  closed = λ success. cc;
+  marked = λ marks. cc;
+  some = λ h. cc;
+  closed = λ touching. cc;
+  current = λ h. kept.present;
   read_fault = λ h. cc;
   no_read_fault = λ h. cause.0;
   write_fault = λ h. cc;
@@ -110,7 +120,10 @@ refused_for operation old new inputs o read reads kept refuses =
     record {
       usage = differs is_refusal o Usage refusal refl;
       written = λ told success. absurd (none success);
-      closed = λ success. absurd (none success);
+      marked = λ marks. absurd (none (marked_success o marks));
+      some = differs is_refusal o (Marked 0) refusal refl;
+      closed = λ touching. (let e : true ≡ false = sym touching ∙ refusal_no_touch o refusal in cc);
+      current = λ h. kept.present;
       read_fault = λ h. absurd (differs is_refusal o ReadFault refusal refl h);
       no_read_fault = λ h. reads;
       write_fault = λ h. absurd (differs is_refusal o WriteFault refusal refl h);
@@ -147,6 +160,13 @@ module _ (operation : Operation) (old mid new : State) (inputs : List (List ℕ)
   still_told : IsTrue old.tells_files → IsTrue mid.tells_files
   still_told told = kept.tells.files ∙ told
 
+  -- on what the files hold the operation writes what was made, and nothing else
+  writes : IsTrue old.tells_files → Writes operation old made.outcome made.text.items
+  writes told = record { inputs = inputs; read = read told; makes = makes }
+
+  only : IsTrue old.tells_files → IsOnlyText operation old made.outcome made.text.items
+  only told p other second = one_text operation old p made.outcome other made.text.items second (writes told)
+
   -- the text was written whole
   written_whole : o ≡ made.outcome → IsWrittenWhole (output_of operation) made.text.items mid new → new.has_output ≡ false → KeepsInput mid new → IsAnswer operation old new o
   written_whole is whole closed input =
@@ -155,10 +175,14 @@ module _ (operation : Operation) (old mid new : State) (inputs : List (List ℕ)
         usage = differs is_success o Usage ok refl;
         written = λ told success. record {
           text = made.text.items;
-          writes = record { inputs = inputs; read = read told; makes = subst (λ (p : Outcome). Makes operation inputs p made.text.items) (sym is) makes };
+          writes = subst (λ (p : Outcome). Writes operation old p made.text.items) (sym is) (writes told);
+          only = subst (λ (p : Outcome). IsOnlyText operation old p made.text.items) (sym is) (only told);
           held = held_from (output_of operation) made.text.items old.files mid.files new.files (kept.files told) (whole.held (still_told told));
         };
-        closed = λ success. closed;
+        marked = λ marks. makes_marked operation inputs made.outcome made.text.items makes (ap is_marked (sym is) ∙ marks);
+        some = λ h. makes_some operation inputs made.outcome made.text.items makes (sym is ∙ h);
+        closed = λ touching. closed;
+        current = λ h. (let e : true ≡ false = sym (success_touches o ok) ∙ h in cc);
         read_fault = λ h. absurd (differs is_success o ReadFault ok refl h);
         no_read_fault = λ h. input.faults ∙ reads;
         write_fault = λ h. absurd (differs is_success o WriteFault ok refl h);
@@ -175,12 +199,15 @@ module _ (operation : Operation) (old mid new : State) (inputs : List (List ℕ)
       }
 
   -- the text was written in part
-  written_in_part : IsTelling old → o ≡ WriteFault → IsWrittenInPart (output_of operation) made.text.items mid new → KeepsInput mid new → IsAnswer operation old new o
-  written_in_part telling is part input =
+  written_in_part : IsTelling old → o ≡ WriteFault → IsWrittenInPart (output_of operation) made.text.items mid new → new.has_output ≡ false → KeepsInput mid new → IsAnswer operation old new o
+  written_in_part telling is part closed input =
       record {
         usage = λ h. cc;
         written = λ told success. (let e : false ≡ true = sym (ap is_success is) ∙ success in cc);
-        closed = λ success. (let e : false ≡ true = sym (ap is_success is) ∙ success in cc);
+        marked = λ marks. (let e : false ≡ true = sym (ap is_marked is) ∙ marks in cc);
+        some = λ h. (let e : WriteFault ≡ Marked 0 = sym is ∙ h in cc);
+        closed = λ touching. closed;
+        current = λ h. (let e : true ≡ false = sym (ap is_touching is) ∙ h in cc);
         read_fault = λ h. cc;
         no_read_fault = λ h. input.faults ∙ reads;
         write_fault = λ h. subst (λ (n : ℕ). Rose n new.write_faults) kept.faults part.faults;
@@ -193,14 +220,15 @@ module _ (operation : Operation) (old mid new : State) (inputs : List (List ℕ)
         readable = λ p h. cc;
         writable = λ p fits h.
             (let told : IsTrue old.tells_files = telling.files p.room in
-            let short : length made.text.items ≤ old.room = fits made.outcome made.text.items (record { inputs = inputs; read = read told; makes = makes }) in
+            let short : length made.text.items ≤ old.room = fits made.outcome made.text.items (writes told) in
             let same : mid.room ≡ old.room = kept.tells.bytes p.room in
             part.unpromised (promised_after (output_of operation) old mid telling kept p) (omega arith));
         untouched = λ told h. (let e : true ≡ false = sym (ap is_touching is) ∙ h in cc);
         left = λ told h. record {
           outcome = made.outcome;
           text = made.text.items;
-          writes = record { inputs = inputs; read = read told; makes = makes };
+          writes = writes told;
+          only = only told;
           held = prefix_from (output_of operation) made.text.items old.files mid.files new.files (kept.files told) (part.held (still_told told));
         };
       }
@@ -210,5 +238,5 @@ module _ (operation : Operation) (old mid new : State) (inputs : List (List ℕ)
   answered telling w =
       elim w.cases as (λ _. IsAnswer operation old new o) [
         | inl p ↦ written_whole p.0 p.1 w.closed w.input
-        | inr p ↦ written_in_part telling p.0 p.1 w.input
+        | inr p ↦ written_in_part telling p.0 p.1 w.closed w.input
       ]

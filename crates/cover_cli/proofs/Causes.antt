@@ -1,12 +1,12 @@
 -- Causes of refusals: each input has one cause at most, and none where a text is made of it.
 use Rattle.std.proofs.Common.{◌≡◌, ◌≢◌, ℕ, zero, suc, List, [], ◌∷◌, Bool, true, false, IsTrue, refl, ap, ◌∙◌, sym, inl, inr}
 use Rattle.cov_types.specs.declared.coord.Coord.{Coord}
-use Rattle.cover_cli.specs.Answers.{is_success, is_refusal, is_touching}
+use Rattle.cover_cli.specs.Answers.{is_success, is_refusal, is_marked, is_touching}
 use Rattle.cover_cli.specs.Made.{IsOneAnd, Makes, Refuses}
 use Rattle.cover_cli.specs.Refusal.{outcome_of_text, IsRefusedFor}
 use Rattle.cover_cli.specs.Text.{IsReadAnd, RefusesText}
 use Rattle.cover_cli.specs.Validate.{marking}
-use Rattle.cover_cli.specs.Words.{Operation, Validate, Node, Regions}
+use Rattle.cover_cli.specs.Words.{Operation, Validate, Node, Regions, is_validate}
 use Rattle.cover_cli.specs.declared.outcome.Outcome.{Outcome}
 use Rattle.cover_cli.specs.declared.outcome.Outcome.TheVariants.{Done, Marked, Usage, ReadFault, WriteFault, TooLong, BadText, NoMemory}
 use Rattle.geo_text.proofs.Verdicts.{one_fault}
@@ -82,6 +82,22 @@ makes_success (Validate from to) inputs o text = of_one inputs _ (IsTrue (is_suc
 makes_success (Node from to) inputs o text = of_one inputs _ (IsTrue (is_success o)) (λ input makes. ap is_success makes.holds.done)
 makes_success (Regions from to) inputs o text = of_one inputs _ (IsTrue (is_success o)) (λ input makes. ap is_success makes.holds.done)
 
+-- only validate answers marks
+pub makes_marked : (operation : Operation) (inputs : List (List ℕ)) (o : Outcome) (text : List ℕ) → Makes operation inputs o text → IsTrue (is_marked o) → IsTrue (is_validate operation)
+makes_marked (Validate from to) inputs o text makes marks = refl
+makes_marked (Node from to) inputs o text makes marks = of_one inputs _ (IsTrue false) (λ input noding. sym (ap is_marked noding.holds.done) ∙ marks) makes
+makes_marked (Regions from to) inputs o text makes marks = of_one inputs _ (IsTrue false) (λ input listing. sym (ap is_marked listing.holds.done) ∙ marks) makes
+
+marking_some : (edges : ℕ) → marking edges ≢ Marked 0
+marking_some zero h = cc
+marking_some (suc edges) h = cc
+
+-- and none answers that no segments are marked
+pub makes_some : (operation : Operation) (inputs : List (List ℕ)) (o : Outcome) (text : List ℕ) → Makes operation inputs o text → o ≢ Marked 0
+makes_some (Validate from to) inputs o text makes h = of_one inputs _ ⊥ (λ input valid. marking_some _ (sym valid.holds.counted ∙ h)) makes
+makes_some (Node from to) inputs o text makes h = of_one inputs _ ⊥ (λ input noding. (let e : Done ≡ Marked 0 = sym noding.holds.done ∙ h in cc)) makes
+makes_some (Regions from to) inputs o text makes h = of_one inputs _ ⊥ (λ input listing. (let e : Done ≡ Marked 0 = sym listing.holds.done ∙ h in cc)) makes
+
 -- ---- the kinds of answers
 
 -- an answer of one kind is none of another
@@ -92,6 +108,20 @@ pub refusal_no_success : (o : Outcome) → IsTrue (is_refusal o) → is_success 
 refusal_no_success Done refusal = cc
 refusal_no_success (Marked edges) refusal = cc
 refusal_no_success _ refusal = refl
+
+-- a refusal of what was read touches no output, and a success does
+pub refusal_no_touch : (o : Outcome) → IsTrue (is_refusal o) → is_touching o ≡ false
+refusal_no_touch (BadText fault) refusal = refl
+refusal_no_touch _ refusal = cc
+
+pub success_touches : (o : Outcome) → IsTrue (is_success o) → IsTrue (is_touching o)
+success_touches Done success = refl
+success_touches (Marked edges) success = refl
+success_touches _ success = cc
+
+pub marked_success : (o : Outcome) → IsTrue (is_marked o) → IsTrue (is_success o)
+marked_success (Marked edges) marks = refl
+marked_success _ marks = cc
 
 pub success_no_refusal : (o : Outcome) → IsTrue (is_success o) → is_refusal o ≡ false
 success_no_refusal (BadText fault) success = cc

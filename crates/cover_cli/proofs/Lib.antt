@@ -5,5 +5,6 @@ pub mod Reading
 pub mod Listing
 pub mod Answering
 pub mod OneText
+pub mod OneAnswer
 pub mod RegionRows
 pub mod Overlays

@@ -8,7 +8,7 @@ use Rattle.cover_cli.specs.declared.outcome.Outcome.{Outcome}
 use Rattle.cover_cli.specs.declared.outcome.Outcome.TheVariants.{Done, Marked, Usage, ReadFault, WriteFault, TooLong, BadText, NoMemory}
 use Rattle.cover_cli.specs.Input.{HoldsTooMuch, AreInputs}
 use Rattle.cover_cli.specs.Made.{Makes, Refuses}
-use Rattle.cover_cli.specs.Words.{Operation, inputs_of, output_of}
+use Rattle.cover_cli.specs.Words.{Operation, is_validate, inputs_of, output_of}
 
 -- ---- the kinds of answers
 
@@ -23,6 +23,11 @@ abbrev pub is_refusal : Outcome → Bool
 is_refusal (BadText fault) = true
 is_refusal _ = false
 
+-- segments are listed that are at fault
+abbrev pub is_marked : Outcome → Bool
+is_marked (Marked edges) = true
+is_marked _ = false
+
 -- the output may have been touched
 abbrev pub is_touching : Outcome → Bool
 is_touching WriteFault = true
@@ -35,6 +40,10 @@ pub record Writes (operation : Operation) (s : State) (outcome : Outcome) (text 
   pub inputs : List (List ℕ)
   pub read : AreInputs s (inputs_of operation) inputs
   pub makes : Makes operation inputs outcome text
+
+-- no other text may be written on what the files hold, and no other success answered
+abbrev pub IsOnlyText : Operation → State → Outcome → List ℕ → Type 0
+IsOnlyText operation s outcome text = (other_outcome : Outcome) (other : List ℕ) → Writes operation s other_outcome other → (other_outcome ≡ outcome) × (other ≡ text)
 
 -- what the files hold is a cause for the operation to refuse it with this outcome
 pub record HoldsCause (operation : Operation) (s : State) (refusal : Outcome) : Type 0 where
@@ -50,17 +59,19 @@ pub record HoldsNoCause (operation : Operation) (s : State) : Type 0 where
 
 -- ---- what the files hold afterwards
 
--- the output holds the operation's whole text, and every other file is as it was
+-- the output holds the operation's whole text, the only one that it may write, and every other file is as it was
 pub record HoldsText (operation : Operation) (old new : State) (outcome : Outcome) : Type 0 where
   pub text : List ℕ
   pub writes : Writes operation old outcome text
+  pub only : IsOnlyText operation old outcome text
   pub held : HoldsNow (output_of operation) text old.files new.files
 
--- the output is as before or holds the first bytes of the operation's text, and every other file is as it was
+-- the output is as before or holds the first bytes of the only text that the operation may write, and every other file is as it was
 pub record HoldsPart (operation : Operation) (old new : State) : Type 0 where
   pub outcome : Outcome
   pub text : List ℕ
   pub writes : Writes operation old outcome text
+  pub only : IsOnlyText operation old outcome text
   pub held : HoldsPrefix (output_of operation) text old.files new.files
 
 -- ---- answers
@@ -80,9 +91,14 @@ FitsRoom operation s = (outcome : Outcome) (text : List ℕ) → Writes operatio
 -- the answer of an operation whose words were accepted: when it comes, and what it leaves. What is said of contents holds where they are told
 pub record IsAnswer (operation : Operation) (old new : State) (answer : Outcome) : Type 0 where
   pub usage : answer ≢ Usage
-  -- a success: the whole text is in the output, and there is no current output
+  -- a success: the whole text is in the output, and nothing else could be
   pub written : IsTrue old.tells_files → IsTrue (is_success answer) → HoldsText operation old new answer
-  pub closed : IsTrue (is_success answer) → new.has_output ≡ false
+  -- marked segments are answered by validate alone, and where there are some
+  pub marked : IsTrue (is_marked answer) → IsTrue (is_validate operation)
+  pub some : answer ≢ Marked 0
+  -- once the output was created, there is no current output; before that, the current output stays
+  pub closed : IsTrue (is_touching answer) → new.has_output ≡ false
+  pub current : is_touching answer ≡ false → new.has_output ≡ old.has_output
   -- a fault comes only where its count rose, and otherwise the count is as it was
   pub read_fault : answer ≡ ReadFault → Rose old.read_faults new.read_faults
   pub no_read_fault : answer ≢ ReadFault → new.read_faults ≡ old.read_faults

@@ -1,5 +1,5 @@
 -- The words that the program takes.
-use Rattle.std.specs.Prelude.{ℕ, Bool, true, not, ◌&&◌, ◌==◌, List, [], ◌∷◌, Option, Some, None, if◌then◌else◌, codes}
+use Rattle.std.specs.Prelude.{ℕ, Bool, true, false, not, ◌&&◌, ◌==◌, List, [], ◌∷◌, Option, Some, None, if◌then◌else◌, codes}
 use Rattle.std.specs.Str.{bytes_eq}
 
 -- an operation, with the names of the files that it works on
@@ -7,6 +7,11 @@ pub data Operation : Type 0 where
   Validate : List ℕ → List ℕ → Operation
   Node : List ℕ → List ℕ → Operation
   Regions : List ℕ → List ℕ → Operation
+
+-- whether segments at fault are looked for
+abbrev pub is_validate : Operation → Bool
+is_validate (Validate from to) = true
+is_validate _ = false
 
 -- the names of the files that the operation reads, in the order in which it reads them
 abbrev pub inputs_of : Operation → List (List ℕ)

@@ -1,8 +1,16 @@
-ghost use Rattle.cover_cli.specs.Laws.{OneTextLaw, OneRefusalLaw, RefusedLaw};
+ghost use Rattle.cover_cli.specs.Laws.{OneTextLaw, OneRefusalLaw, RefusedLaw, OneAnswerLaw, CompleteLaw, NoFaultLaw};
 
 /// What the files hold gives an operation one text to write, or one refusal, and not both. A call does nothing.
 pub fn written_law()
     ensures text { OneTextLaw }
     ensures refusal { OneRefusalLaw }
     ensures either { RefusedLaw }
+{}
+
+/// What `cover` answers, and the bytes that it writes, are a function of the words and of what the inputs hold, faults
+/// and want of memory aside; and these come only where something failed. A call does nothing.
+pub fn answer_law()
+    ensures one { OneAnswerLaw }
+    ensures complete { CompleteLaw }
+    ensures faultless { NoFaultLaw }
 {}

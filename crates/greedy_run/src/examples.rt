@@ -1,11 +1,12 @@
-ghost use Rattle.greedy_run.specs.Borders.{BorderExamples};
+ghost use Rattle.greedy_run.specs.Borders.{BorderExamples, SideExamples};
 ghost use Rattle.greedy_run.specs.Examples.{StateExamples};
 ghost use Rattle.greedy_run.specs.Runs.{RunExamples};
 ghost use Rattle.greedy_run.specs.Valid.{ValidExamples};
 
 /// Examples with numbers, by computation. A call does nothing.
 pub fn vectors()
-    ensures { StateExamples }
+    ensures states { StateExamples }
+    ensures sides { SideExamples }
 {}
 
 /// Small instances of the definitions that do not compute. A call does nothing.

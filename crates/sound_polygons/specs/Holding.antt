@@ -8,10 +8,8 @@ use Rattle.plane.specs.Joined.{IsOff}
 use Rattle.plane.specs.Parity.{member_holds}
 use Rattle.plane.specs.Point.{Point}
 use Rattle.plane.specs.Region.{IsRegionOf}
-use Rattle.arrangement.specs.declared.odd_use.OddUse.{OddUse}
-use Rattle.arrangement.specs.Noding.{segments, IsNoded}
-use Rattle.arrangement.specs.Overlay.{Overlay, IsSnappedOverlay}
-use Rattle.region_owners.specs.Owner.{Rule, AreOwners}
+use Rattle.arrangement.specs.Noding.{segments}
+use Rattle.arrangement.specs.Overlay.{Overlay}
 
 -- the owner holds p and no other member does, or none where there is no owner
 abbrev pub IsHeldBy : List EdgeUse → Option ℕ → Point → Type 0
@@ -21,18 +19,6 @@ IsHeldBy uses owner p = (member : ℕ) → (member_holds uses member p ≡ true)
 pub record HoldsByOwner (noded : List Seg) (o : Overlay) (owners : ℕ → Option ℕ) (out : Members) : Type 0 where
   pub within : (p : Point) → IsOff noded p → (r : ℕ) → IsRegionOf o.edges p r → IsHeldBy (uses_of out) (owners r) p
   pub without : (p : Point) → IsOff noded p → ((r : ℕ) → ¬ IsRegionOf o.edges p r) → IsHeldBy (uses_of out) None p
-
--- so out holds points as the coverage cleaned by the rule from this state at the gap width w
-pub record HoldsByRule {State : Type 0} (members : Members) (rule : Rule State) (state : State) (w : ℕ) (out : Members) : Type 0 where
-  pub noded : List Seg
-  pub odd : List OddUse
-  pub are_noded : IsNoded (uses_of members) noded odd
-  pub overlay : Overlay
-  pub is_overlay : IsSnappedOverlay (uses_of members) (length members) overlay
-  pub owners : ℕ → Option ℕ
-  pub are_owners : AreOwners rule state overlay w owners
-  pub count : length out ≡ length members
-  pub holds : HoldsByOwner noded overlay owners out
 
 -- out is one member that holds each point off the segments exactly where some member of the coverage does
 pub record IsUnionOf (members out : Members) : Type 0 where

@@ -2,11 +2,11 @@
 use Rattle.std.proofs.Common.{refl}
 use Rattle.plane.specs.Ray.{sweep}
 use Rattle.plane.specs.Segment.{side}
-use Rattle.greedy_run.specs.Borders.{BorderExamples, SideExamples}
+use Rattle.greedy_run.specs.Borders.{NeighbourExamples, SideExamples}
 use Rattle.greedy_run.proofs.Blocked.{triangle_lines, stays_as_it_is, nothing_to_remove}
 use Rattle.greedy_run.proofs.Borders.{low_node, bent, neighbour_lines, border_inner, left_not_inner}
 
-pub border_examples : BorderExamples
+pub border_examples : NeighbourExamples
 border_examples = record {
   node = low_node;
   no_node = bent;

@@ -58,7 +58,7 @@ pub record SideExamples : Type 0 where
   pub right_of_right : right_member (uses_of neighbours) 2 right_line ≡ None
 
 -- three lines lead between the two nodes, and the middle one alone is inner; each point of the triangle is blocked by the opposite side
-pub record BorderExamples : Type 0 where
+pub record NeighbourExamples : Type 0 where
   pub node : IsNode neighbour_edges (grid 10 0)
   pub no_node : ¬ IsNode neighbour_edges (grid 11 5)
   pub lines : AreLines neighbour_edges (left_line ∷ inner_line ∷ right_line ∷ [])

@@ -1,4 +1,4 @@
-ghost use Rattle.greedy_run.specs.Borders.{BorderExamples, SideExamples};
+ghost use Rattle.greedy_run.specs.Borders.{NeighbourExamples, SideExamples};
 ghost use Rattle.greedy_run.specs.Examples.{StateExamples};
 ghost use Rattle.greedy_run.specs.Runs.{RunExamples};
 ghost use Rattle.greedy_run.specs.Valid.{ValidExamples};
@@ -12,6 +12,6 @@ pub fn vectors()
 /// Small instances of the definitions that do not compute. A call does nothing.
 pub fn instances()
     ensures run { RunExamples }
-    ensures borders { BorderExamples }
+    ensures borders { NeighbourExamples }
     ensures valid { ValidExamples }
 {}

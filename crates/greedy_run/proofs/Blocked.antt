@@ -21,7 +21,7 @@ use Rattle.arrangement.specs.Noding.{segments, IsOdd, is_odd_before, AreEdges}
 use Rattle.arrangement.proofs.OddUses.{some_passes}
 use Rattle.arrangement.proofs.Short.{AllPairs-from_recursion, segs_apart, segs_in}
 use Rattle.greedy_run.specs.Lines.{degree, steps, IsAlongEdge, IsPathAlong, IsNode, IsLine, AreLines}
-use Rattle.greedy_run.specs.Run.{current_edges, point_before, point_after, Simplification, IsFinalState, IsSimplified}
+use Rattle.greedy_run.specs.Run.{current_edges, point_before, point_after, Simplification, IsFinalState, IsSimplified, IsExhausted}
 use Rattle.greedy_run.specs.Borders.{triangle, triangle_edges, triangle_line}
 use Rattle.greedy_run.proofs.OneLine.{covering}
 use Rattle.greedy_run.proofs.Spots.{of_line}
@@ -161,4 +161,11 @@ stays_as_it_is = record {
   removed = [];
   final = nothing_removable;
   without = refl;
+}
+
+pub nothing_to_remove : IsExhausted triangle 1000 false
+nothing_to_remove = record {
+  s = what;
+  of = record { by_uses = refl; odd = three_pairs; are_edges = the_edges; by_tolerance = refl; by_flag = refl };
+  done = nothing_removable.done;
 }

@@ -16,3 +16,4 @@ pub mod Listed
 pub mod Ended
 pub mod Loops
 pub mod Walks
+pub mod Holders

@@ -1,6 +1,6 @@
 -- The run goes one way.
 use mathlib.Core.List.{[], ◌∷◌}
-use Rattle.std.proofs.Common.{◌≡◌, refl, sym, ◌∙◌, ap, subst, ℕ, ◌*◌, ◌<◌, ◌≤◌, Bool, List, IsTrue, inl, inr, arith}
+use Rattle.std.proofs.Common.{◌≡◌, refl, sym, ◌∙◌, ap, subst, ℕ, ◌*◌, ◌<◌, ◌≤◌, Bool, true, false, cond, List, map, IsTrue, inl, inr, arith}
 use Rattle.std.specs.Prelude.{length, Contains, Some, slice_get, unwrap_or}
 use Rattle.std.specs.Ordering.{is_lt}
 use Rattle.std.proofs.lemmas.Bool.{cases_order}
@@ -11,7 +11,7 @@ use Rattle.cov_types.specs.Coverage.{Members}
 use Rattle.cov_types.specs.Uses.{uses_of}
 use Rattle.arrangement.proofs.OneNoding.{same_ordered, same_edges}
 use Rattle.greedy_run.specs.Lines.{AreLines}
-use Rattle.greedy_run.specs.Run.{Spot, point_at, Simplification, IsTriangleAt, current_points, current_edges, IsInner, IsRemovable, IsNextPoint, IsRunState, IsFinalState, coverage_without, IsSimplified}
+use Rattle.greedy_run.specs.Run.{Spot, point_at, Simplification, IsTriangleAt, current_points, current_edges, IsInner, IsRemovable, IsNextPoint, IsRunState, IsFinalState, current, is_one_point, ring_without, coverage_without, IsSimplificationOf, IsSimplified, IsExhausted}
 use Rattle.arrangement.proofs.PointOrders.{points_both_ways}
 use Rattle.greedy_run.proofs.Orders.{spots_same}
 
@@ -118,10 +118,53 @@ final_moved s t same removed h = record {
   done = λ spot r. h.done spot (removable_moved t s (alike_back s t same) removed spot r);
 }
 
+-- what simplifies a coverage is alike
+alike : (members : Members) (tolerance : ℕ) (inner_only : Bool) (s t : Simplification) → IsSimplificationOf members tolerance inner_only s → IsSimplificationOf members tolerance inner_only t → AreAlike s t
+alike members tolerance inner_only s t h k =
+    let edges = same_edges (uses_of members) s.edges t.edges h.odd k.odd h.are_edges k.are_edges in
+    record {
+      uses = h.by_uses ∙ sym k.by_uses;
+      lines = one_list t.edges s.lines t.lines (subst (λ es. AreLines es s.lines) edges s.are_lines) t.are_lines;
+      tolerance = h.by_tolerance ∙ sym k.by_tolerance;
+      inner_only = h.by_flag ∙ sym k.by_flag;
+    }
+
 pub one_simplified : (members : Members) (tolerance : ℕ) (inner_only : Bool) (out other : Members) → IsSimplified members tolerance inner_only out → IsSimplified members tolerance inner_only other → out ≡ other
 one_simplified members tolerance inner_only out other h k =
-    let edges = same_edges (uses_of members) h.s.edges k.s.edges h.of.odd k.of.odd h.of.are_edges k.of.are_edges in
-    let lines = one_list k.s.edges h.s.lines k.s.lines (subst (λ es. AreLines es h.s.lines) edges h.s.are_lines) k.s.are_lines in
-    let same : AreAlike h.s k.s = record { uses = h.of.by_uses ∙ sym k.of.by_uses; lines = lines; tolerance = h.of.by_tolerance ∙ sym k.of.by_tolerance; inner_only = h.of.by_flag ∙ sym k.of.by_flag } in
+    let same = alike members tolerance inner_only h.s k.s h.of k.of in
     let removed = one_last k.s h.removed k.removed (final_moved h.s k.s same h.removed h.final) k.final in
     h.without ∙ ap (λ r. coverage_without r members) removed ∙ sym k.without
+
+-- ---- nothing is removable
+
+pub nothing_left : (members : Members) (tolerance : ℕ) (inner_only : Bool) → IsExhausted members tolerance inner_only
+    → (s : Simplification) → IsSimplificationOf members tolerance inner_only s → (spot : Spot) → ¬ IsRemovable s [] spot
+nothing_left members tolerance inner_only h s of spot r = h.done spot (removable_moved s h.s (alike members tolerance inner_only s h.s of h.of) [] spot r)
+
+-- without no points a coverage is itself
+all_kept : (points : List Coord) → current [] points ≡ points
+all_kept [] = refl
+all_kept (p ∷ points) = ap (λ ps. p ∷ ps) (all_kept points)
+
+ring_kept : (points : List Coord) → ring_without [] points ≡ points
+ring_kept points = by (is_one_point points)
+  where
+    by : (b : Bool) → cond b points (current [] points) ≡ points
+    by true = refl
+    by false = all_kept points
+
+map_kept : {X : Type 0} (f : X → X) → ((x : X) → f x ≡ x) → (xs : List X) → map f xs ≡ xs
+map_kept f h [] = refl
+map_kept f h (x ∷ xs) = λ i. h x i ∷ map_kept f h xs i
+
+none_removed : (members : Members) → coverage_without [] members ≡ members
+none_removed members = map_kept (λ polys. map (λ rings. map (ring_without []) rings) polys) (map_kept (λ rings. map (ring_without []) rings) (map_kept (ring_without []) ring_kept)) members
+
+pub own_simplification : (members : Members) (tolerance : ℕ) (inner_only : Bool) → IsExhausted members tolerance inner_only → IsSimplified members tolerance inner_only members
+own_simplification members tolerance inner_only h = record {
+  s = h.s;
+  of = h.of;
+  removed = [];
+  final = record { run = tt; done = h.done };
+  without = sym (none_removed members);
+}

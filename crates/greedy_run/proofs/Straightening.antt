@@ -22,8 +22,9 @@ use Rattle.plane.specs.Examples.{grid}
 use Rattle.plane.specs.Segment.{turn_of}
 use Rattle.plane.specs.Snapping.{chain_edges}
 use Rattle.greedy_run.specs.Lines.{degree, steps, IsAlongEdge, IsPathAlong, IsNode, IsLine, AreLines}
-use Rattle.greedy_run.specs.Run.{current_edges, point_before, point_after, is_removed, Spot, spot_cmp, Triangle, IsInTriangle, IsTriangleAt, IsRemovable, IsNextPoint, IsFinalState}
+use Rattle.greedy_run.specs.Run.{current_edges, point_before, point_after, is_removed, Spot, spot_cmp, Triangle, IsInTriangle, IsTriangleAt, IsRemovable, IsNextPoint, IsFinalState, IsSimplificationOf}
 use Rattle.greedy_run.proofs.OneLine.{covering}
+use Rattle.greedy_run.proofs.OneRun.{nothing_left}
 use Rattle.greedy_run.proofs.Spots.{of_line}
 use Rattle.arrangement.specs.Examples.{at, pairs}
 use Rattle.greedy_run.specs.Examples.{round_line}
@@ -168,16 +169,16 @@ middle_alone (suc (suc (suc (suc (suc zero))))) a b c size e f g is small = absu
 middle_alone (suc (suc (suc (suc (suc (suc k)))))) a b c size e f g is small = absurd (none-some b f)
 
 -- and after it nothing
-nothing_left : (place : ℕ) (a b c : Coord) (size : ℕ) → point_before (at 5 0) round_line place ≡ Some a → slice_get round_line place ≡ Some b → is_removed (at 5 0) b ≡ false → point_after (at 5 0) round_line place ≡ Some c
+nothing_left_at : (place : ℕ) (a b c : Coord) (size : ℕ) → point_before (at 5 0) round_line place ≡ Some a → slice_get round_line place ≡ Some b → is_removed (at 5 0) b ≡ false → point_after (at 5 0) round_line place ≡ Some c
     → unsigned_abs (turn_of a b c) ≡ size → size ≤ 0 → ⊥
 unfolding turn_of
-nothing_left zero a b c size e f there g is small = none-some a e
-nothing_left (suc zero) a b c size e f there g is small = too_large (grid 0 0) (grid 0 10) (grid 10 10) a b c size (omega arith) e f g is small
-nothing_left (suc (suc zero)) a b c size e f there g is small = too_large (grid 0 10) (grid 10 10) (grid 10 0) a b c size (omega arith) e f g is small
-nothing_left (suc (suc (suc zero))) a b c size e f there g is small = too_large (grid 10 10) (grid 10 0) (grid 0 0) a b c size (omega arith) e f g is small
-nothing_left (suc (suc (suc (suc zero)))) a b c size e f there g is small = true≢false (ap (is_removed (at 5 0)) (some_is _ _ f) ∙ there)
-nothing_left (suc (suc (suc (suc (suc zero))))) a b c size e f there g is small = none-some c g
-nothing_left (suc (suc (suc (suc (suc (suc k)))))) a b c size e f there g is small = none-some b f
+nothing_left_at zero a b c size e f there g is small = none-some a e
+nothing_left_at (suc zero) a b c size e f there g is small = too_large (grid 0 0) (grid 0 10) (grid 10 10) a b c size (omega arith) e f g is small
+nothing_left_at (suc (suc zero)) a b c size e f there g is small = too_large (grid 0 10) (grid 10 10) (grid 10 0) a b c size (omega arith) e f g is small
+nothing_left_at (suc (suc (suc zero))) a b c size e f there g is small = too_large (grid 10 10) (grid 10 0) (grid 0 0) a b c size (omega arith) e f g is small
+nothing_left_at (suc (suc (suc (suc zero)))) a b c size e f there g is small = true≢false (ap (is_removed (at 5 0)) (some_is _ _ f) ∙ there)
+nothing_left_at (suc (suc (suc (suc (suc zero))))) a b c size e f there g is small = none-some c g
+nothing_left_at (suc (suc (suc (suc (suc (suc k)))))) a b c size e f there g is small = none-some b f
 
 -- ---- the middle of the bottom can be removed
 
@@ -284,7 +285,7 @@ run_ends = record {
   run = (tt, middle_next);
   done = λ spot h. (
       let at = of_line round_line (at 5 0) spot h.t h.triangle in
-      nothing_left spot.place h.t.a h.t.b h.t.c spot.size at.before at.here at.there at.after h.sized h.small);
+      nothing_left_at spot.place h.t.a h.t.b h.t.c spot.size at.before at.here at.there at.after h.sized h.small);
 }
 
 -- ---- the coverage
@@ -325,6 +326,9 @@ the_edges = record {
   };
 }
 
+abbrev so_simplified : IsSimplificationOf bent_square 0 false (straightening the_lines)
+so_simplified = record { by_uses = refl; odd = five_pairs; are_edges = the_edges; by_tolerance = refl; by_flag = refl }
+
 pub run_examples : RunExamples
 run_examples = record {
   node = least_node;
@@ -336,9 +340,10 @@ run_examples = record {
   final = run_ends;
   simplified = record {
     s = straightening the_lines;
-    of = record { by_uses = refl; odd = five_pairs; are_edges = the_edges; by_tolerance = refl; by_flag = refl };
+    of = so_simplified;
     removed = at 5 0;
     final = run_ends;
     without = refl;
   };
+  not_exhausted = λ h. nothing_left bent_square 0 false h (straightening the_lines) so_simplified middle middle_removable;
 }

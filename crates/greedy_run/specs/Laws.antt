@@ -1,14 +1,19 @@
 -- The laws that make the definitions of lines and of the run believable.
-use Rattle.std.specs.Prelude.{◌≡◌, ℕ, ◌+◌, ◌≤◌, ◌↔◌, Bool, false, IsTrue, List, length, All, AllPairs, Contains, Some, slice_get}
-use Rattle.std.specs.Ordering.{is_lt}
+use Rattle.std.specs.Prelude.{◌≡◌, ℕ, ◌+◌, ◌<◌, ◌≤◌, ◌↔◌, Bool, true, false, List, [], length, All, Contains, Some, slice_get}
 use Rattle.cov_types.specs.declared.coord.Coord.{Coord}
+use Rattle.cov_types.specs.declared.edge_use.EdgeUse.{EdgeUse}
 use Rattle.cov_types.specs.declared.seg.Seg.{Seg}
-use Rattle.cov_types.specs.Coord.{is_before, points_cmp}
+use Rattle.cov_types.specs.Coord.{is_before}
 use Rattle.cov_types.specs.Coverage.{Members}
+use Rattle.plane.specs.Joined.{IsOff}
+use Rattle.plane.specs.Parity.{member_holds}
+use Rattle.plane.specs.Point.{Point}
 use Rattle.plane.specs.Snapping.{chain_edges}
-use Rattle.arrangement.specs.Noding.{IsAscending}
-use Rattle.greedy_run.specs.Lines.{degree, IsLeastOfLoop, IsNode, IsLine, AreLines, IsTrail, IsLoop, IsWalked}
-use Rattle.greedy_run.specs.Run.{IsLastBefore, IsFirstAfter, point_before, point_after, Simplification, Spot, IsRemovable, IsNextPoint, IsFinalState, IsSimplified}
+use Rattle.plane.specs.Validity.{IsValid}
+use Rattle.arrangement.specs.Noding.{IsAscending, segments}
+use Rattle.greedy_run.specs.Lines.{degree, IsLeastOfLoop, IsNode, IsLine, PathsAscend, AreLines, IsTrail, IsLoop, IsWalked}
+use Rattle.greedy_run.specs.Run.{IsLastBefore, IsFirstAfter, point_before, point_after, Simplification, Spot, IsRemovable, IsNextPoint, IsFinalState, IsSimplificationOf, IsSimplified, IsExhausted}
+use Rattle.greedy_run.specs.Sides.{holder}
 
 -- edges have one list of lines
 abbrev pub LinesLaw : Type 0
@@ -21,7 +26,7 @@ CommonEdgeLaw = (edges : List Seg) (points others : List Coord) → IsLine edges
 
 -- each of the ascending lists is a line, and each edge is one of theirs
 pub record AreCovering (edges : List Seg) (lines : List (List Coord)) : Type 0 where
-  pub ascending : AllPairs (λ l m. IsTrue (is_lt (points_cmp l m))) lines
+  pub ascending : PathsAscend lines
   pub each : All (IsLine edges) lines
   pub every : (e : Seg) → Contains edges e → (points : List Coord) × (Contains lines points × Contains (chain_edges points) e)
 
@@ -96,3 +101,19 @@ FinalStateLaw = (s : Simplification) (removed others : List Coord) → IsFinalSt
 -- so at most one coverage is a given one, simplified
 abbrev pub SimplifiedLaw : Type 0
 SimplifiedLaw = (members : Members) (tolerance : ℕ) (inner_only : Bool) (out other : Members) → IsSimplified members tolerance inner_only out → IsSimplified members tolerance inner_only other → out ≡ other
+
+-- a coverage from which nothing is removable is its own simplification
+abbrev pub ExhaustedLaw : Type 0
+ExhaustedLaw = (members : Members) (tolerance : ℕ) (inner_only : Bool) → IsExhausted members tolerance inner_only → IsSimplified members tolerance inner_only members
+
+-- and from its lines nothing is, however they are listed
+abbrev pub NothingLeftLaw : Type 0
+NothingLeftLaw = (members : Members) (tolerance : ℕ) (inner_only : Bool) → IsExhausted members tolerance inner_only
+    → (s : Simplification) → IsSimplificationOf members tolerance inner_only s → (spot : Spot) → ¬ IsRemovable s [] spot
+
+-- ---- sides
+
+-- in a valid coverage a point off the segments has one holder, which is the member that holds it
+abbrev pub HolderLaw : Type 0
+HolderLaw = (uses : List EdgeUse) → IsValid uses → (members : ℕ) → All (λ u. u.member < members) uses → (p : Point) → IsOff (segments uses) p
+    → (i : ℕ) → (holder uses members p ≡ Some i) ↔ (member_holds uses i p ≡ true)

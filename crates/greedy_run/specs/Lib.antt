@@ -1,5 +1,6 @@
 pub mod Lines
 pub mod Run
+pub mod Sides
 pub mod Laws
 pub mod Examples
 pub mod Runs

@@ -42,9 +42,13 @@ pub record IsLine (edges : List Seg) (points : List Coord) : Type 0 where
   pub between : (k : ℕ) (p : Coord) → 0 < k → k + 1 < length points → slice_get points k ≡ Some p → ¬ IsNode edges p
   pub direction : IsTrue (is_le (points_cmp points (reverse points)))
 
+-- each list of points comes before those after it
+abbrev pub PathsAscend : List (List Coord) → Type 0
+PathsAscend lists = AllPairs (λ l m. IsTrue (is_lt (points_cmp l m))) lists
+
 -- all lines, numbered in lexicographic order
 pub record AreLines (edges : List Seg) (lines : List (List Coord)) : Type 0 where
-  pub ascending : AllPairs (λ l m. IsTrue (is_lt (points_cmp l m))) lines
+  pub ascending : PathsAscend lines
   pub exact : (points : List Coord) → Contains lines points ↔ IsLine edges points
 
 -- ---- walking along a line

@@ -175,3 +175,9 @@ pub record IsSimplified (members : Members) (tolerance : ℕ) (inner_only : Bool
   pub removed : List Coord
   pub final : IsFinalState s removed
   pub without : out ≡ coverage_without removed members
+
+-- nothing is removable from the coverage: no point of its own lines
+pub record IsExhausted (members : Members) (tolerance : ℕ) (inner_only : Bool) : Type 0 where
+  pub s : Simplification
+  pub of : IsSimplificationOf members tolerance inner_only s
+  pub done : (spot : Spot) → ¬ IsRemovable s [] spot

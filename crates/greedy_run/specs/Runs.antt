@@ -7,7 +7,7 @@ use Rattle.plane.specs.Examples.{grid}
 use Rattle.arrangement.specs.Examples.{at, edge}
 use Rattle.greedy_run.specs.Examples.{round_line}
 use Rattle.greedy_run.specs.Lines.{IsNode, AreLines}
-use Rattle.greedy_run.specs.Run.{Simplification, IsRemovable, IsNextPoint, IsFinalState, IsSimplified}
+use Rattle.greedy_run.specs.Run.{Simplification, IsRemovable, IsNextPoint, IsFinalState, IsSimplified, IsExhausted}
 
 -- its edges
 abbrev pub five_edges : List Seg
@@ -42,3 +42,4 @@ pub record RunExamples : Type 0 where
   pub next : IsNextPoint (straightening lines) [] (grid 5 0)
   pub final : IsFinalState (straightening lines) (at 5 0)
   pub simplified : IsSimplified bent_square 0 false plain_square
+  pub not_exhausted : ¬ IsExhausted bent_square 0 false

@@ -1,4 +1,4 @@
-ghost use Rattle.greedy_run.specs.Laws.{LinesLaw, CommonEdgeLaw, CoveringLaw, PlaceLaw, EdgeLineLaw, VertexLineLaw, TrailLaw, WalkLaw, LoopLaw, BeforeLaw, AfterLaw, NoNodeLaw, NextPointLaw, FinalStateLaw, SimplifiedLaw};
+ghost use Rattle.greedy_run.specs.Laws.{LinesLaw, CommonEdgeLaw, CoveringLaw, PlaceLaw, EdgeLineLaw, VertexLineLaw, TrailLaw, WalkLaw, LoopLaw, BeforeLaw, AfterLaw, NoNodeLaw, NextPointLaw, FinalStateLaw, SimplifiedLaw, ExhaustedLaw, NothingLeftLaw, HolderLaw};
 
 /// Edges have one list of lines, and two lines with a common edge or a common vertex that is no node are one. A call does nothing.
 pub fn lines_law()
@@ -33,4 +33,15 @@ pub fn run_law()
     ensures next { NextPointLaw }
     ensures last { FinalStateLaw }
     ensures simplified { SimplifiedLaw }
+{}
+
+/// A coverage from which nothing is removable is its own simplification. A call does nothing.
+pub fn exhausted_law()
+    ensures own { ExhaustedLaw }
+    ensures nothing { NothingLeftLaw }
+{}
+
+/// In a valid coverage a point off the segments has one holder. A call does nothing.
+pub fn holder_law()
+    ensures { HolderLaw }
 {}

@@ -7,7 +7,7 @@
 //! The files of `specs/`, lowest first:
 //!
 //! - `Lines`: nodes, and lines from node to node.
-//! - `Run`: states, neighbours, removable points, the greedy run, and the coverage of a state.
+//! - `Run`: states, neighbours, removable points, the greedy run, and the coverage of a state. `Sides`: the members beside a line.
 //! - `Laws`; `Examples`; `Runs`: the instance of a run; `Borders`: two neighbours and a triangle; `Valid`: valid coverages.
 //!
 //! A crate above takes a lemma by `use Rattle.greedy_run.proofs.FILE.{NAME}` in its `proofs/`. The files:
@@ -22,7 +22,8 @@
 //!   (`vertex_line`), and the laws of walks (`walk_done`, `least_of_loop`).
 //! - `Kept`: the neighbours of a place are what filtering gives (`before_is`, `after_is`). `NoNodes`: a removable point is no node.
 //! - `OneRun`: one list of lines (`one_list`), one next point (`one_next`), one last state (`one_last`), one coverage
-//!   (`one_simplified`).
+//!   (`one_simplified`), and a coverage from which nothing is removable is its own (`own_simplification`). `Holders`: in a valid
+//!   coverage a point off the segments has one holder (`holder_is`).
 //! - `Computed`, `Spots`, `Straightening`, `Borders`, `Blocked`, `BorderExamples`, `Halves`: the examples and instances.
 #![tactic(auto)]
 
@@ -30,4 +31,4 @@ mod examples;
 mod laws;
 
 pub use examples::{instances, vectors};
-pub use laws::{line_law, lines_law, neighbour_law, run_law, walk_law};
+pub use laws::{exhausted_law, holder_law, line_law, lines_law, neighbour_law, run_law, walk_law};

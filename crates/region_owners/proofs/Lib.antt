@@ -12,3 +12,5 @@ pub mod RegionBox
 pub mod Searched
 pub mod SquareBox
 pub mod Frame
+pub mod StillNear
+pub mod NearestOwn

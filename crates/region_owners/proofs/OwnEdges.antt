@@ -51,10 +51,10 @@ outer_is edges p r own out = record {
 -- ---- the weights of distinct edges, and sums of them
 
 module _ (passes : HalfEdge → Bool) where
-  abbrev jump : Seg → ℤ
+  abbrev pub jump : Seg → ℤ
   jump e = side_weight passes (record { edge = e; forwards = false }) -ℤ side_weight passes (record { edge = e; forwards = true })
 
-  weighed_edges : (edges : List Seg) → edges_of (weigh_sides passes edges) ≡ edges
+  pub weighed_edges : (edges : List Seg) → edges_of (weigh_sides passes edges) ≡ edges
   weighed_edges [] = refl
   weighed_edges (e ∷ es) = ap (λ t. e ∷ t) (weighed_edges es)
 
@@ -115,7 +115,7 @@ module _ (passes : HalfEdge → Bool) where
         | inr weighs ↦ record { edge = e; among = contains_here e es; over = over; weighs = weighs }
       ]
 
-  one_passes : (e : Seg) → (jump e ≡ pos 0 → ⊥) → (passes (record { edge = e; forwards = true }) ≡ true) ⊎ (passes (record { edge = e; forwards = false }) ≡ true)
+  pub one_passes : (e : Seg) → (jump e ≡ pos 0 → ⊥) → (passes (record { edge = e; forwards = true }) ≡ true) ⊎ (passes (record { edge = e; forwards = false }) ≡ true)
   one_passes e weighs = elim (true_or_false (passes (record { edge = e; forwards = true }))) [
     | inl up ↦ inl up
     | inr not_up ↦ elim (true_or_false (passes (record { edge = e; forwards = false }))) [
@@ -136,7 +136,7 @@ not_over_far e range = false_from_ne_true (is_over e far_point) (λ t. (let over
 -- ---- the edges of one region
 
 module _ (edges : List Seg) (planar : IsPlanar edges) (distinct : AreDistinct edges) (r : ℕ) (inner : ¬ IsOuterRegion edges r) where
-  in_range : (e : Seg) → Contains edges e → IsSegInRange e
+  pub in_range : (e : Seg) → Contains edges e → IsSegInRange e
   in_range e c = All-contains IsSegInRange edges e planar.in_range c
 
   pub edge_under : (p : Point) → IsRegionOf edges p r → (e : Seg) × (IsEdgeOf edges r e × IsTrue (is_under e p) × IsRegionOf edges (upper e) r)
@@ -156,7 +156,7 @@ module _ (edges : List Seg) (planar : IsPlanar edges) (distinct : AreDistinct ed
     number h = slice_index numbers (index edges h)
 
     -- the region is on the left of the half-edge
-    abbrev passes : HalfEdge → Bool
+    abbrev pub passes : HalfEdge → Bool
     passes h = number h == r
 
     number_is : (h : HalfEdge) → Contains edges h.edge → IsRegionOf edges (left h) (number h)
@@ -165,7 +165,7 @@ module _ (edges : List Seg) (planar : IsPlanar edges) (distinct : AreDistinct ed
     own_passes : (h : HalfEdge) → Contains edges h.edge → IsRegionOf edges (left h) r → passes h ≡ true
     own_passes h c own = (Decides-eqb (number h) r).1 (one_region edges (left h) (number h) r (number_is h c) own)
 
-    passes_own : (h : HalfEdge) → Contains edges h.edge → passes h ≡ true → IsRegionOf edges (left h) r
+    pub passes_own : (h : HalfEdge) → Contains edges h.edge → passes h ≡ true → IsRegionOf edges (left h) r
     passes_own h c t = subst (λ n. IsRegionOf edges (left h) n) ((Decides-eqb (number h) r).0 t) (number_is h c)
 
     passes_joined : (h g : HalfEdge) → Contains edges h.edge → Contains edges g.edge → Joined edges (left h) (left g) → passes h ≡ passes g
@@ -175,11 +175,11 @@ module _ (edges : List Seg) (planar : IsPlanar edges) (distinct : AreDistinct ed
     outer_fails : (h : HalfEdge) → Contains edges h.edge → IsOuter edges (left h) → passes h ≡ false
     outer_fails h c out = false_from_ne_true (passes h) (λ t. inner (outer_is edges (left h) r (passes_own h c t) out))
 
-    passes_next : (h g : HalfEdge) → IsNext edges h g → passes h ≡ passes g
+    pub passes_next : (h g : HalfEdge) → IsNext edges h g → passes h ≡ passes g
     passes_next h g next = passes_joined h g next.among next.leaves.among (next_joined edges planar h g next)
 
     -- what the edges of the region over a point weigh
-    abbrev sum_at : Point → ℤ
+    abbrev pub sum_at : Point → ℤ
     sum_at p = crossing_sum (weigh_sides passes edges) p
 
     sum_joined : (p q : Point) → Joined edges p q → sum_at p ≡ sum_at q
@@ -232,10 +232,10 @@ module _ (edges : List Seg) (planar : IsPlanar edges) (distinct : AreDistinct ed
           );
     }
 
-    own_sum : (h : HalfEdge) → Contains edges h.edge → IsOwnSum h
+    pub own_sum : (h : HalfEdge) → Contains edges h.edge → IsOwnSum h
     own_sum h c = of_all edges planar IsOwnSum own_sum_comes_up h c
 
-    sum_within : (p : Point) → IsRegionOf edges p r → sum_at p ≡ pos 1
+    pub sum_within : (p : Point) → IsRegionOf edges p r → sum_at p ≡ pos 1
     sum_within p own =
         let found = edge_under p own in
         let e = found.0 in

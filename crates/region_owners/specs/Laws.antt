@@ -13,7 +13,7 @@ use Rattle.arrangement.specs.Measure.{owned_border}
 use Rattle.arrangement.specs.Overlay.{Overlay, IsRegion, label_of}
 use Rattle.region_owners.specs.declared.candidate.Candidate.{Candidate}
 use Rattle.region_owners.specs.Box.{IsEdgeOf, IsInBoxOf}
-use Rattle.region_owners.specs.Gap.{IsGap, HasRoom, IsClearance, IsNarrow}
+use Rattle.region_owners.specs.Gap.{IsGap, HasRoom, HasRoomWithin, IsClearance, IsNarrow}
 use Rattle.region_owners.specs.Owner.{Rule, rule_by, IsLawful, least_index, greatest_area, least_area, longest_border, label_owner, neighbour_of, IsNarrowGap, IsOwner, AreOwners}
 use Rattle.region_owners.specs.Candidates.{candidates_of}
 
@@ -52,6 +52,24 @@ pub record IsWithRoom (edges : List Seg) (r w : ℕ) (q : Coord) : Type 0 where
 abbrev pub ClearanceExistsLaw : Type 0
 ClearanceExistsLaw = (edges : List Seg) → IsPlanar edges → AreDistinct edges → (r : ℕ) → ¬ IsOuterRegion edges r
     → (has_room : Coord → ℕ → Bool) → ((q : Coord) (w : ℕ) → IsTrue (has_room q w) ↔ IsWithRoom edges r w q) → (w : ℕ) × IsClearance edges r w
+
+-- ---- room among the edges of a region
+
+-- only its own edges can be nearest to a grid point of the region: where these leave room round it, all edges do
+abbrev pub OwnRoomLaw : Type 0
+OwnRoomLaw = (edges : List Seg) → IsPlanar edges → AreDistinct edges → (r : ℕ) → ¬ IsOuterRegion edges r → (q : Coord) (w : ℕ) → IsRegionOf edges (at_coord q) r
+    → ((e : Seg) → IsEdgeOf edges r e → HasRoom q w e) → (e : Seg) → Contains edges e → HasRoom q w e
+
+-- some grid point of the region, in the box of its edges, has room w from each of them
+pub record HasOwnRoomWithin (edges : List Seg) (r w : ℕ) : Type 0 where
+  pub at : Coord
+  pub within : IsRegionOf edges (at_coord at) r
+  pub in_box : IsInBoxOf edges r (at_coord at)
+  pub room : (e : Seg) → IsEdgeOf edges r e → HasRoom at w e
+
+-- so room is searched for in this box, and measured from these edges
+abbrev pub OwnSearchLaw : Type 0
+OwnSearchLaw = (edges : List Seg) → IsPlanar edges → AreDistinct edges → (r : ℕ) → ¬ IsOuterRegion edges r → (w : ℕ) → HasRoomWithin edges r w ↔ HasOwnRoomWithin edges r w
 
 -- ---- owners
 

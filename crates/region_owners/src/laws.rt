@@ -1,4 +1,4 @@
-ghost use Rattle.region_owners.specs.Laws.{ClearanceLaw, NarrowLaw, EdgeUnderLaw, EdgeOverLaw, BoxLaw, ClearanceExistsLaw, PickLaw, AreLawful, CandidateLaw, LabelOwnerLaw, NeighbourLaw, OwnerLaw, OwnerBelowLaw, OwnersLaw, NoWidthLaw};
+ghost use Rattle.region_owners.specs.Laws.{ClearanceLaw, NarrowLaw, EdgeUnderLaw, EdgeOverLaw, BoxLaw, ClearanceExistsLaw, OwnRoomLaw, OwnSearchLaw, PickLaw, AreLawful, CandidateLaw, LabelOwnerLaw, NeighbourLaw, OwnerLaw, OwnerBelowLaw, OwnersLaw, NoWidthLaw};
 
 /// A region has one clearance at most, and is narrow where that is passed. A call does nothing.
 pub fn clearance_law()
@@ -12,6 +12,12 @@ pub fn box_law()
     ensures over { EdgeOverLaw }
     ensures inside { BoxLaw }
     ensures clearance { ClearanceExistsLaw }
+{}
+
+/// Only a region's own edges can be nearest to a point of it, so room is searched for among these, in their box. A call does nothing.
+pub fn room_law()
+    ensures room { OwnRoomLaw }
+    ensures search { OwnSearchLaw }
 {}
 
 /// What the four rules pick. A call does nothing.

@@ -17,6 +17,8 @@
 //! - `OwnEdges`: a region that is not outer has an edge of its own under and over each of its points (`edge_under`, `edge_over`), by
 //!   what its edges over a point weigh, which is 1 in the region. `RegionBox`: so its points are in the box of its edges (`in_box`).
 //!   `Searched`: and it has a clearance (`clearance_exists`).
+//! - `StillNear`: a point on the way to a near one is as near (`not_past`). `NearestOwn`: so only a region's own edges can be nearest to
+//!   a point of it (`room_by_own`, `own_search`): a way to another edge that meets none of these would leave the region by none.
 //! - `Clearances`: one clearance (`clearance_unique`), and narrow by it (`narrow_is`).
 //! - `Picks`: the first best place (`first_best_is`), whole numbers rank by a key (`ints_rank`), what the four rules pick (`picks`).
 //!   `Held`: the candidates ascend (`ordered`), the four rules are lawful (`lawful`), and a region that is held has an owner
@@ -34,4 +36,6 @@ mod laws;
 pub use candidate::Candidate;
 pub use examples::{instances, vectors};
 pub use facts::Facts;
-pub use laws::{box_law, candidate_law, clearance_law, lawful_law, owned_law, owner_law, pick_law};
+pub use laws::{
+    box_law, candidate_law, clearance_law, lawful_law, owned_law, owner_law, pick_law, room_law,
+};

@@ -9,3 +9,4 @@ pub mod NextWays
 pub mod Rotated
 pub mod OnePolygon
 pub mod OneCleaned
+pub mod SquareHolding

@@ -20,15 +20,19 @@ abbrev pub shell_of : List (List Coord) → List Coord
 shell_of [] = []
 shell_of (shell ∷ holes) = shell
 
+-- the ring comes before the other, by their lists of points
+abbrev pub is_ring_before : List Coord → List Coord → Bool
+is_ring_before g h = is_lt (points_cmp g h)
+
 -- each ring begins at its least point, and the holes ascend
 pub record IsPolyCanonical (rings : List (List Coord)) : Type 0 where
   pub first_least : All BeginsAtLeast rings
-  pub holes : AllPairs (λ g h. IsTrue (is_lt (points_cmp g h))) (drop 1 rings)
+  pub holes : AllPairs (λ g h. IsTrue (is_ring_before g h)) (drop 1 rings)
 
 -- the polygons are canonical, and ascend by their shells
 pub record IsMemberCanonical (polys : List (List (List Coord))) : Type 0 where
   pub each : All IsPolyCanonical polys
-  pub shells : AllPairs (λ a b. IsTrue (is_lt (points_cmp (shell_of a) (shell_of b)))) polys
+  pub shells : AllPairs (λ a b. IsTrue (is_ring_before (shell_of a) (shell_of b))) polys
 
 -- ---- polygons of owners
 

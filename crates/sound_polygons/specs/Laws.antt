@@ -19,12 +19,12 @@ pub record IsPartEquivalence (o : Overlay) (owners : ℕ → Option ℕ) (i : �
   pub on : (r s t : ℕ) → InOnePart o owners i r s → InOnePart o owners i s t → InOnePart o owners i r t
 
 -- and it is so for every owner of every overlay
-abbrev pub PartLaw : Type 0
-PartLaw = (o : Overlay) (owners : ℕ → Option ℕ) (i : ℕ) → IsPartEquivalence o owners i
+abbrev pub SamePartLaw : Type 0
+SamePartLaw = (o : Overlay) (owners : ℕ → Option ℕ) (i : ℕ) → IsPartEquivalence o owners i
 
 -- each region that a member owns is in a part, whose regions a test tells
-abbrev pub PartsLaw : Type 0
-PartsLaw = (o : Overlay) (owners : ℕ → Option ℕ) (i r : ℕ) → owners r ≡ Some i → (inside : ℕ → Bool) × IsPartOf o owners i r inside
+abbrev pub PartExistsLaw : Type 0
+PartExistsLaw = (o : Overlay) (owners : ℕ → Option ℕ) (i r : ℕ) → owners r ≡ Some i → (inside : ℕ → Bool) × IsPartOf o owners i r inside
 
 -- ---- angles
 

@@ -1,6 +1,6 @@
 ghost use Rattle.sound_polygons.specs.Examples.{OverlapExamples, MoatExamples, NotchedExamples, AngleExamples};
 ghost use Rattle.sound_polygons.specs.Instances.{PolygonExamples};
-ghost use Rattle.sound_polygons.specs.Square.{SquareExamples};
+ghost use Rattle.sound_polygons.specs.Square.{SquareExamples, HoldingExamples};
 
 /// Examples with numbers, by computation. A call does nothing.
 pub fn vectors()
@@ -13,5 +13,6 @@ pub fn vectors()
 /// Small instances of the definitions that do not compute. A call does nothing.
 pub fn instances()
     ensures square { SquareExamples }
+    ensures holding { HoldingExamples }
     ensures polygons { PolygonExamples }
 {}

@@ -1,9 +1,9 @@
-ghost use Rattle.sound_polygons.specs.Laws.{PartLaw, PartsLaw, AngleLaw, PolygonLaw, BuiltLaw, CleanedLaw};
+ghost use Rattle.sound_polygons.specs.Laws.{SamePartLaw, PartExistsLaw, AngleLaw, PolygonLaw, BuiltLaw, CleanedLaw};
 
 /// The parts of an owner are disjoint, and each region that it owns is in one. A call does nothing.
 pub fn part_law()
-    ensures disjoint { PartLaw }
-    ensures exist { PartsLaw }
+    ensures disjoint { SamePartLaw }
+    ensures exist { PartExistsLaw }
 {}
 
 /// The angles at a vertex are the sectors between half-edges. A call does nothing.

@@ -8,7 +8,7 @@
 //! The files of `specs/`, lowest first:
 //!
 //! - `Parts`: edge-connected parts, simple rings, angles, and polygons that are sound for a part.
-//! - `Cleaned`: the polygons of owners, the canonical order, and the cleaned coverage.
+//! - `Cleaned`: the polygons of owners, the canonical order, and the cleaned coverage. `Holding`: which points the answers hold.
 //! - `Laws`; `Examples`; `Square`: the instances over one square; `Instances`: those of parts and polygons.
 //!
 //! A crate above takes a lemma by `use Rattle.sound_polygons.proofs.FILE.{NAME}` in its `proofs/`. The files:
@@ -19,7 +19,7 @@
 //!   have one coverage that is built of them (`one_built`), and a coverage is cleaned in one way (`one_cleaned`).
 //! - `Ways`: lists that are one list in another order, by a test (`reordered`, `ways_reordered`).
 //! - `Angles`: the angle between two half-edges that leave a vertex is the sector between them (`angle_is_sector`).
-//! - `Computed`, `SquareCleaned`, `Polygons`: the examples and instances.
+//! - `Computed`, `SquareCleaned`, `SquareHolding`, `Polygons`: the examples and instances.
 #![tactic(auto)]
 
 mod examples;

@@ -1,29 +1,36 @@
 -- The members that hold a midpoint, run by run.
-use Rattle.std.proofs.Common.{◌≡◌, refl, sym, ◌∙◌, ap, ap₂, subst, ℕ, zero, suc, ◌+◌, ◌-◌, ◌*◌, ◌%◌, ◌<◌, ◌≤◌, ◌==◌, ◌↔◌, Bool, true, false, not, ◌&&◌, cond, List, [], ◌∷◌, ◌++◌, length, get_or, take, drop, All, Contains, count_by, arith, inl, inr, length-take, length-drop}
+use Rattle.std.proofs.Common.{◌≡◌, refl, sym, ◌∙◌, ap, ap₂, subst, ℕ, zero, suc, ◌+◌, ◌-◌, ◌*◌, ◌%◌, ◌<◌, ◌≤◌, ◌==◌, ◌↔◌, Bool, true, false, not, ◌&&◌, cond, List, [], ◌∷◌, ◌++◌, length, get_or, take, drop, All, Contains, count_by, arith, inl, inr, length-take, length-drop, ℤ, pos, int_le, int_lt, ◌+ℤ◌, ◌*ℤ◌, ◌≤ℤ◌, ◌<ℤ◌}
+use Rattle.std.specs.Int.{int_min, int_max}
 use Rattle.std.specs.Prelude.{AllPairs, slice_range}
-use Rattle.std.proofs.lemmas.Bool.{and_from, and_left, and_right, false≢true, cases_eq, eq-eqb, ne_eqb}
+use Rattle.std.proofs.lemmas.Bool.{and_from, and_parts, cases_Bool, and_left, and_right, false≢true, cases_eq, eq-eqb, ne_eqb}
 use Rattle.std.proofs.lemmas.List.{get_or-take, get_or-drop, get_or_default, get_or_append_left, get_or_push, length_push}
 use Rattle.std.proofs.lemmas.List.Elements.{All-weaker}
 use Rattle.std.proofs.lemmas.List.Sums.{sum_by_push, sum_by-cons}
 use Rattle.box_tree.proofs.PlaceLaws.{place_below, places_ascend}
 use Rattle.box_tree.specs.Places.{places}
 use Rattle.box_tree.specs.Probe.{is_above_point}
-use Rattle.box_tree.specs.Rect.{IsInside, box_of_segment}
+use Rattle.box_tree.proofs.Touching.{is_touching-is}
+use Rattle.box_tree.specs.Rect.{IsInside, box_of_segment, is_touching}
 use Rattle.box_tree.specs.declared.rect.Rect.{Rect}
 use Rattle.cov_types.specs.Range.{IsSegInRange}
 use Rattle.cov_types.specs.Rings.{IsRing}
+use Rattle.cov_types.specs.declared.coord.Coord.{Coord}
 use Rattle.cov_types.specs.declared.edge_use.EdgeUse.{EdgeUse}
 use Rattle.cov_types.specs.declared.outline.Outline.{Outline}
 use Rattle.cov_types.specs.declared.ring_run.RingRun.{RingRun}
 use Rattle.cov_types.specs.declared.seg.Seg.{Seg}
-use Rattle.cov_valid.proofs.Stabs.{AreIn, beside_holds}
+use Rattle.cov_valid.proofs.Boxes.{lesser, greater}
+use Rattle.cov_valid.proofs.Stabs.{AreIn, beside_holds, higher_in}
 use Rattle.cov_valid.specs.Holders.{AreHolders, IsToggled}
 use Rattle.cov_valid.specs.Levels.{IsAbout, twice_middle}
 use Rattle.cov_valid.specs.RunIndex.{AreRingBoxes, IsInOrder}
+use Rattle.integer_laws.proofs.Compare.{int_le_is, int_lt_is, not_int_lt_is}
+use Rattle.integer_laws.proofs.Ring.{lin, pos_times}
 use Rattle.parity_laws.proofs.Members.{member_runs}
-use Rattle.parity_laws.proofs.Parts.{odd_sum, odd_one}
+use Rattle.parity_laws.proofs.Parts.{odd_sum, odd_one, run-higher}
 use Rattle.parity_laws.specs.Paths.{differ}
 use Rattle.parity_laws.specs.Runs.{run_holds, runs_hold}
+use Rattle.plane.proofs.Sweeps.{rises-in_range}
 use Rattle.plane.specs.Parity.{member_holds}
 use Rattle.plane.specs.Point.{Point}
 use Rattle.plane.specs.Segment.{midpoint}
@@ -176,6 +183,12 @@ found_count test q at n (box ∷ boxes) (run ∷ runs) long same none =
 
 -- ---- the rings whose boxes are found
 
+half_below : (least a b high : ℤ) → (least ≤ℤ a) × (least ≤ℤ b) → (a +ℤ b) ≤ℤ (pos 2 *ℤ high) → least ≤ℤ high
+half_below least a b high h sum = omega (arith, lin, h.0, h.1, sum, pos_times 2 high)
+
+half_above : (greatest a b low : ℤ) → (a ≤ℤ greatest) × (b ≤ℤ greatest) → (pos 2 *ℤ low) ≤ℤ (a +ℤ b) → low ≤ℤ greatest
+half_above greatest a b low h sum = omega (arith, lin, h.0, h.1, sum, pos_times 2 low)
+
 -- the uses of a run are within its box
 about_in : (uses : List EdgeUse) (from to : ℕ) (b : Rect) → IsAbout (slice_range uses from to) b → to ≤ length uses → AreIn uses from to b
 about_in uses from to b about within k u low high =
@@ -192,9 +205,44 @@ beside_run : (uses : List EdgeUse) (run : RingRun) (b : Rect) (s : Seg) → All 
 beside_run uses run b s in_range hs within about beside =
     sym (beside_holds uses run.from run.to b s in_range hs within (about_in uses run.from run.to b about within) beside)
 
+-- a box that has a point of the midpoint's column above it, and is not wholly above, touches the segment's box
+touching_from : (b : Rect) (s : Seg) → is_above_point (twice_middle s) b ≡ true → (pos 2 *ℤ b.lo.y) ≤ℤ (s.lo.y +ℤ s.hi.y) → is_touching (box_of_segment s) b ≡ true
+touching_from b s above low =
+    let column : Bool = int_le (pos 2 *ℤ b.lo.x) (s.lo.x +ℤ s.hi.x) && int_le (s.lo.x +ℤ s.hi.x) (pos 2 *ℤ b.hi.x) in
+    let parts = and_parts column (int_lt (s.lo.y +ℤ s.hi.y) (pos 2 *ℤ b.hi.y)) above in
+    let sides = and_parts (int_le (pos 2 *ℤ b.lo.x) (s.lo.x +ℤ s.hi.x)) (int_le (s.lo.x +ℤ s.hi.x) (pos 2 *ℤ b.hi.x)) parts.0 in
+    let left : (pos 2 *ℤ b.lo.x) ≤ℤ (s.lo.x +ℤ s.hi.x) = (int_le_is (pos 2 *ℤ b.lo.x) (s.lo.x +ℤ s.hi.x)).0 sides.0 in
+    let right : (s.lo.x +ℤ s.hi.x) ≤ℤ (pos 2 *ℤ b.hi.x) = (int_le_is (s.lo.x +ℤ s.hi.x) (pos 2 *ℤ b.hi.x)).0 sides.1 in
+    let top : (s.lo.y +ℤ s.hi.y) <ℤ (pos 2 *ℤ b.hi.y) = (int_lt_is (s.lo.y +ℤ s.hi.y) (pos 2 *ℤ b.hi.y)).0 parts.1 in
+    (is_touching-is (box_of_segment s) b).1
+    (record {
+      left = half_below (int_min s.lo.x s.hi.x) s.lo.x s.hi.x b.hi.x (lesser s.lo.x s.hi.x) right;
+      right = half_above (int_max s.lo.x s.hi.x) s.lo.x s.hi.x b.lo.x (greater s.lo.x s.hi.x) left;
+      below = half_below (int_min s.lo.y s.hi.y) s.lo.y s.hi.y b.hi.y (lesser s.lo.y s.hi.y) (omega (arith, lin, top));
+      above = half_above (int_max s.lo.y s.hi.y) s.lo.y s.hi.y b.lo.y (greater s.lo.y s.hi.y) low;
+    })
+
+-- a ring whose box does not touch the segment's does not hold its midpoint
+apart_run : (uses : List EdgeUse) (starts : List Coord) (run : RingRun) (b : Rect) (s : Seg) → All (λ u. IsSegInRange u.seg) uses → IsSegInRange s → IsRing uses starts run → IsAbout (slice_range uses run.from run.to) b
+    → is_touching (box_of_segment s) b ≡ false → run_holds uses (midpoint s) run ≡ false
+apart_run uses starts run b s in_range hs ring about apart =
+    elim (cases_Bool (is_above_point (twice_middle s) b)) [
+      | inl above ↦ elim (cases_Bool (int_lt (s.lo.y +ℤ s.hi.y) (pos 2 *ℤ b.lo.y))) [
+        | inl higher ↦
+            let lower : (s.lo.y +ℤ s.hi.y) <ℤ (pos 2 *ℤ b.lo.y) = (int_lt_is (s.lo.y +ℤ s.hi.y) (pos 2 *ℤ b.lo.y)).0 higher in
+            let inside : AreIn uses run.from run.to b = about_in uses run.from run.to b about ring.uses_end in
+            run-higher uses starts run (midpoint s) ring
+            (λ k u l h. (rises-in_range (get_or uses k u).seg (in_range k u (omega (arith, h, ring.uses_end))), higher_in b (get_or uses k u).seg s (inside k u l h) lower))
+        | inr not_higher ↦
+            let low : (pos 2 *ℤ b.lo.y) ≤ℤ (s.lo.y +ℤ s.hi.y) = (not_int_lt_is (s.lo.y +ℤ s.hi.y) (pos 2 *ℤ b.lo.y)).0 (ap not not_higher) in
+            absurd (false≢true (sym apart ∙ touching_from b s above low))
+      ]
+      | inr beside ↦ beside_run uses run b s in_range hs ring.uses_end about beside
+    ]
+
 -- the members that hold the midpoint by the runs that are found are those that hold it
 pub holders_all : (outline : Outline) (boxes : List Rect) (s : Seg) (found holders : List ℕ) → IsInOrder outline → AreRingBoxes outline.uses.items outline.rings.items boxes → IsSegInRange s
-    → found ≡ places (is_above_point (twice_middle s)) 0 boxes → AreHeldAt outline.uses.items (midpoint s) outline.rings.items found holders → AreHolders outline.uses.items (midpoint s) holders
+    → found ≡ places (is_touching (box_of_segment s)) 0 boxes → AreHeldAt outline.uses.items (midpoint s) outline.rings.items found holders → AreHolders outline.uses.items (midpoint s) holders
 holders_all outline boxes s found holders in_order are_boxes hs e are =
     let uses = outline.uses.items in
     let runs = outline.rings.items in
@@ -202,12 +250,12 @@ holders_all outline boxes s found holders in_order are_boxes hs e are =
       ascending = are.ascending;
       exact = λ member.
           let q : RingRun → Bool = λ r. counts_for uses p member r in
-          let counted : count_by (λ k. q (run_at runs k)) (places (is_above_point (twice_middle s)) 0 boxes) ≡ count_by q runs =
-          found_count (is_above_point (twice_middle s)) q (run_at runs) 0 boxes runs are_boxes.count
+          let counted : count_by (λ k. q (run_at runs k)) (places (is_touching (box_of_segment s)) 0 boxes) ≡ count_by q runs =
+          found_count (is_touching (box_of_segment s)) q (run_at runs) 0 boxes runs are_boxes.count
           (λ j d h. ap (run_at runs) (zero_plus j) ∙ get_or_default runs j no_run d h)
-          (λ j d b h beside.
+          (λ j d b h apart.
           and_right ((get_or runs j d).member == member) (run_holds uses p (get_or runs j d))
-          (beside_run uses (get_or runs j d) (get_or boxes j b) s in_order.in_range hs (in_order.round j d h).uses_end (are_boxes.about j d b h) beside)) in
+          (apart_run uses outline.starts.items (get_or runs j d) (get_or boxes j b) s in_order.in_range hs (in_order.round j d h) (are_boxes.about j d b h) apart)) in
           let same : odd_at uses p runs member found ≡ member_holds uses member p =
           ap (λ ks. odd_at uses p runs member ks) e ∙ ap (λ n. n % 2 == 1) counted ∙ sym (member_runs uses outline.starts.items runs member p in_order.in_row in_order.round) in
           (λ h. sym same ∙ (are.odd member).0 h, λ h. (are.odd member).1 (same ∙ h));

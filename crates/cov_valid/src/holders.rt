@@ -1,16 +1,14 @@
 ghost use Rattle.std.specs.Prelude.{◌≡◌, ◌<◌, ◌≤◌, ◌-◌, ◌↔◌, OnOk, All, AllPairs, IsTrue, Some, length, slice_get};
 ghost use Rattle.box_tree.specs.Places.{places};
-ghost use Rattle.box_tree.specs.Probe.{is_above_point};
+ghost use Rattle.box_tree.specs.Rect.{box_of_segment, is_touching};
 ghost use Rattle.cov_types.specs.Range.{IsSegInRange};
 ghost use Rattle.cov_valid.specs.Holders.{AreHolders, IsToggled};
-ghost use Rattle.cov_valid.specs.Levels.{twice_middle};
 ghost use Rattle.cov_valid.specs.RunIndex.{IsIndexed, IsInOrder};
 ghost use Rattle.plane.specs.Segment.{midpoint};
 
-use crate::placed::twice_middle;
 use crate::run::run_holds;
 use crate::run_index::RunIndex;
-use box_tree::Probe;
+use box_tree::{Probe, Rect};
 use cov_types::{NoMemory, Outline, Seg};
 use std::alloc::Global;
 
@@ -32,15 +30,15 @@ impl Holders {
         }
     }
 
-    /// The members that hold the midpoint of the segment, ascending. Only the rings whose boxes have a point of its column and one
-    /// above it are looked at.
+    /// The members that hold the midpoint of the segment, ascending. Only the rings whose boxes touch that of the segment are looked
+    /// at: no other ring is round the midpoint.
     pub fn find(&mut self, outline: &Outline, index: &RunIndex, s: Seg) -> Result<(), NoMemory>
         requires in_order { IsInOrder outline.now }
         requires indexed { IsIndexed outline.now index.now }
         requires in_range { IsSegInRange s }
         ensures { OnOk result (AreHolders outline.now.uses.items (midpoint s) self.new.members.items) }
     {
-        let probe = Probe::Above(twice_middle(s));
+        let probe = Probe::Box(Rect::of_segment(s));
         index
             .rings
             .meeting_into(&probe, &mut self.rings, &mut self.spare)?;
@@ -48,7 +46,7 @@ impl Holders {
     }
 }
 
-// The members that hold the midpoint of the segment, where the places are those of the rings whose boxes may be under it.
+// The members that hold the midpoint of the segment, where the places are those of the rings whose boxes touch that of the segment.
 fn members_into(
     outline: &Outline,
     index: &RunIndex,
@@ -59,7 +57,7 @@ fn members_into(
     requires in_order { IsInOrder outline.now }
     requires indexed { IsIndexed outline.now index.now }
     requires in_range { IsSegInRange s }
-    requires found { rings.now ≡ places (is_above_point (twice_middle s)) 0 index.now.rings }
+    requires found { rings.now ≡ places (is_touching (box_of_segment s)) 0 index.now.rings }
     ensures { OnOk result (AreHolders outline.now.uses.items (midpoint s) members.new.items) }
 {
     members.clear();

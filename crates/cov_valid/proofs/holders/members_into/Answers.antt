@@ -1,13 +1,12 @@
 use Rattle.std.proofs.Common.{◌≡◌, ◌<◌, ◌≤◌, ◌+◌, ◌++◌, ◌∷◌, [], ℕ, All, List, Vec, Global, length, get_or, take, refl, sym, ap, ◌∙◌, subst, arith}
 use Rattle.std.proofs.lemmas.List.{get_or_default, take_more, take_all}
-use Rattle.box_tree.specs.Probe.{is_above_point}
+use Rattle.box_tree.specs.Rect.{box_of_segment, is_touching}
 use Rattle.cov_types.specs.Rings.{IsRing}
 use Rattle.cov_types.specs.declared.ring_run.RingRun.{RingRun}
 use Rattle.cov_valid.proofs.Runs.{AreHeldAt, run_at, no_run, held_none, held_kept, held_toggled, holders_all, found_within, members_below}
 use Rattle.cov_valid.proofs.holders.members_into.Goals as goal
 use Rattle.cov_valid.proofs.holders.members_into.Goals.{then-run_holds+in_ok-toggle, else-run_holds}
 use Rattle.cov_valid.specs.Holders.{IsToggled}
-use Rattle.cov_valid.specs.Levels.{twice_middle}
 use Rattle.parity_laws.specs.Runs.{run_holds}
 use Rattle.plane.specs.Segment.{midpoint}
 
@@ -18,7 +17,7 @@ pub index-run-requires : goal.index-run-requires
 index-run-requires c =
     let rings = c.args.outline.now.rings in
     let within : get_or c.args.rings.now c.loop-k.k-index 0 < length rings.items =
-    found_within (is_above_point (twice_middle c.args.s)) c.args.index.now.rings rings.items c.args.rings.now c.loop-k.k-index 0 c.requires.found c.requires.indexed.boxes.count c.loop-k-test.true in
+    found_within (is_touching (box_of_segment c.args.s)) c.args.index.now.rings rings.items c.args.rings.now c.loop-k.k-index 0 c.requires.found c.requires.indexed.boxes.count c.loop-k-test.true in
     omega (arith, within)
 
 pub run_holds-requires-clause-ring : goal.run_holds-requires-clause-ring
@@ -26,7 +25,7 @@ run_holds-requires-clause-ring c =
     let outline = c.args.outline.now in
     let k : ℕ = get_or c.args.rings.now c.loop-k.k-index 0 in
     let within : k < length outline.rings.items =
-    found_within (is_above_point (twice_middle c.args.s)) c.args.index.now.rings outline.rings.items c.args.rings.now c.loop-k.k-index 0 c.requires.found c.requires.indexed.boxes.count c.loop-k-test.true in
+    found_within (is_touching (box_of_segment c.args.s)) c.args.index.now.rings outline.rings.items c.args.rings.now c.loop-k.k-index 0 c.requires.found c.requires.indexed.boxes.count c.loop-k-test.true in
     subst (IsRing outline.uses.items outline.starts.items) (sym c.index-run.ensures) (c.requires.in_order.round k c.index-run.result.now within)
 
 pub toggle-requires-clause-ascending : goal.toggle-requires-clause-ascending
@@ -36,7 +35,7 @@ pub toggle-requires-clause-at_most : goal.toggle-requires-clause-at_most
 toggle-requires-clause-at_most c =
     let runs = c.args.outline.now.rings.items in
     let k : ℕ = get_or c.args.rings.now c.loop-k.k-index 0 in
-    let test = is_above_point (twice_middle c.args.s) in
+    let test = is_touching (box_of_segment c.args.s) in
     let within : k < length runs = found_within test c.args.index.now.rings runs c.args.rings.now c.loop-k.k-index 0 c.requires.found c.requires.indexed.boxes.count c.loop-k-test.true in
     let run_is : run_at runs k ≡ c.index-run.result.now = get_or_default runs k no_run c.index-run.result.now within ∙ sym c.index-run.ensures in
     subst (λ (r : RingRun). All (λ (m : ℕ). m ≤ r.member) c.loop-k.members.items) run_is
@@ -51,7 +50,7 @@ loop-k-preserved c =
     let found = c.args.rings.now in
     let i = c.loop-k.k-index in
     let k : ℕ = get_or found i 0 in
-    let within : k < length runs = found_within (is_above_point (twice_middle c.args.s)) c.args.index.now.rings runs found i 0 c.requires.found c.requires.indexed.boxes.count c.loop-k-test.true in
+    let within : k < length runs = found_within (is_touching (box_of_segment c.args.s)) c.args.index.now.rings runs found i 0 c.requires.found c.requires.indexed.boxes.count c.loop-k-test.true in
     let run_is : run_at runs k ≡ c.index-run.result.now = get_or_default runs k no_run c.index-run.result.now within ∙ sym c.index-run.ensures in
     let told : run_holds uses p (run_at runs k) ≡ c.run_holds.result = ap (run_holds uses p) run_is ∙ sym c.run_holds.ensures in
     let step : AreHeldAt uses p runs (take i found ++ k ∷ []) c.if-run_holds.members.items =

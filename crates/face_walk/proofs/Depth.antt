@@ -1,13 +1,13 @@
 -- The columns and the rows of an edge under a point, and how far down the ray meets it.
 use mathlib.Core.List.{[], ◌∷◌}
 use Rattle.std.proofs.Common.{◌≡◌, refl, sym, ◌∙◌, ap, subst, ℕ, ◌+◌, ◌*◌, ◌/◌, ◌<◌, ◌≤◌, ◌^◌, unsigned_abs, ℤ, pos, neg_ℤ, ◌+ℤ◌, ◌-ℤ◌, ◌*ℤ◌, ◌<ℤ◌, ◌≤ℤ◌, IsTrue, inl, arith, lit<, lit≤}
-use mir.Syntax.{w32, w64}
+use mir.Syntax.{w64}
 use Rattle.grid_pred.proofs.Small.{read, read_within}
 use Rattle.integer_laws.proofs.Bound.{IsWithin, within_more}
 use Rattle.integer_laws.proofs.Cast.{pos_le, pos_lt, unsigned_abs_nonneg}
 use Rattle.integer_laws.proofs.Compare.{le_of_lt}
 use Rattle.integer_laws.proofs.Order.{by_le_two, by_lt_two, cancel_lt, cancel_le_right}
-use Rattle.integer_laws.proofs.Ring.{lin, mul_one, mul_zero, zero_mul, pos_times, Term, Var, Lit, ◌⊕◌, ◌⊖◌, ◌⊗◌}
+use Rattle.integer_laws.proofs.Ring.{lin, mul_one, zero_mul, pos_times, Term, Var, Lit, ◌⊕◌, ◌⊖◌, ◌⊗◌}
 use Rattle.integer_laws.proofs.Sign.{positive_times_positive}
 use Rattle.cov_types.specs.declared.coord.Coord.{Coord}
 use Rattle.cov_types.specs.declared.seg.Seg.{Seg}
@@ -17,7 +17,7 @@ use Rattle.plane.specs.Ray.{sweep}
 use Rattle.plane.specs.Segment.{side}
 use Rattle.plane.proofs.Sweeps.{rises-in_range}
 use Rattle.region_laws.specs.Below.{is_under, sweep_rise, IsNearer}
-use Rattle.region_laws.proofs.Edge.{IsUnder, under-is}
+use Rattle.region_laws.proofs.Edge.{under-is}
 use Rattle.face_walk.specs.Boxes.{IsRowsDown}
 
 -- ---- over plain variables: the ends (0, 1) and (2, 3) of an edge, a point (4, 5) and a row 6

@@ -1,6 +1,6 @@
 -- The search for the nearest edge below a point: what its boxes rule out, and how its places and boxes are made.
 use mathlib.Core.List.{List, [], ◌∷◌, ◌++◌}
-use Rattle.std.proofs.Common.{◌≡◌, refl, sym, ◌∙◌, ap, subst, ℕ, ◌+◌, ◌<◌, ◌≤◌, ℤ, pos, neg_ℤ, ◌-ℤ◌, ◌≤ℤ◌, ◌<ℤ◌, length, get_or, map, Contains, Option, Some, None, slice_get, All, IsTrue, IsPermutation, inl, inr, false, true≢false, ◌&&◌, int_le, int_lt, arith}
+use Rattle.std.proofs.Common.{◌≡◌, sym, ◌∙◌, ap, subst, ℕ, ◌+◌, ◌<◌, ℤ, neg_ℤ, ◌-ℤ◌, ◌≤ℤ◌, ◌<ℤ◌, length, map, Contains, Option, Some, None, slice_get, IsPermutation, inl, inr, false, true≢false, ◌&&◌, int_le, int_lt, arith}
 use Rattle.std.proofs.lemmas.Bool.{cases_lt, and_from}
 use Rattle.std.proofs.lemmas.List.{map-append}
 use Rattle.std.proofs.lemmas.List.Elements.{All-nil, All-push, Contains-push, Contains-append_left}
@@ -11,11 +11,9 @@ use Rattle.integer_laws.proofs.Ring.{lin}
 use Rattle.cov_types.specs.declared.coord.TheConstants.{LIMIT}
 use Rattle.cov_types.specs.declared.coord.Coord.{Coord}
 use Rattle.cov_types.specs.declared.seg.Seg.{Seg}
-use Rattle.cov_types.specs.Range.{IsInRange, IsSegInRange}
 use Rattle.half_edge.proofs.Tables.{IsTable, table-none, table-push, some_at}
 use Rattle.plane.specs.Point.{at_coord}
 use Rattle.sector_laws.specs.Sector.{IsPlanar}
-use Rattle.region_laws.specs.Below.{is_under}
 use Rattle.box_tree.specs.Rect.{IsInside, box_of_segment}
 use Rattle.box_tree.specs.declared.rect.Rect.{Rect}
 use Rattle.box_tree.proofs.CommonPoint.{least_first, least_second, greatest_first, greatest_second}

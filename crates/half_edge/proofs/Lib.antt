@@ -8,6 +8,8 @@ pub mod Ascending
 pub mod Opening
 pub mod Numbering
 pub mod InOrder
+pub mod Chains
+pub mod ByVertex
 pub mod Latest
 pub mod Round
 pub mod Linking

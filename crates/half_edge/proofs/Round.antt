@@ -8,7 +8,6 @@ use Rattle.cov_types.specs.declared.seg.Seg.{Seg}
 use Rattle.sector_laws.specs.Direction.{direction_cmp}
 use Rattle.sector_laws.proofs.AtVertex.{at_vertex}
 use Rattle.half_edge.proofs.Counts.{number_within}
-use Rattle.half_edge.proofs.InOrder.{in_order}
 use Rattle.half_edge.proofs.Latest.{IsBefore}
 use Rattle.half_edge.specs.Departures.{IsDeparture, AreDepartures, AreInOrder}
 use Rattle.half_edge.specs.Directed.{half_edge_to}
@@ -82,8 +81,8 @@ module _ (edges : List Seg) (planar : IsPlanar edges) (distinct : AreDistinct ed
   not_before : (i j : ℕ) (d e : Departure) → i ≤ j → slice_get list i ≡ Some d → slice_get list j ≡ Some e → origin (half d) ≡ origin (half e) → is_before_by_angle (half e) (half d) ≡ false
   not_before i j d e le at_d at_e met =
       at_vertex (half e) (half d) (sym met)
-      ∙ subst (λ (x : Departure). is_lt (direction_cmp (half x) (half d)) ≡ false) (get_or_from_slice_get list j e d at_e)
-      (subst (λ (x : Departure). is_lt (direction_cmp (half (get_or list j d)) (half x)) ≡ false) (get_or_from_slice_get list i d d at_d) (in_order list sorted i j d le (slice_get_within list j e at_e)))
+      ∙ sorted i j d e le at_d at_e
+      ((all.numbered d e (i, slice_get_within list i d at_d, get_or_from_slice_get list i d d at_d) (j, slice_get_within list j e at_e, get_or_from_slice_get list j e e at_e)).1 met)
 
   -- and what stands before it comes before
   before_at : (i j : ℕ) (d e : Departure) → i < j → slice_get list i ≡ Some d → slice_get list j ≡ Some e → origin (half d) ≡ origin (half e) → is_before_by_angle (half d) (half e) ≡ true

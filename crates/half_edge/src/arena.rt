@@ -33,8 +33,8 @@ impl Model for Arena {
 }
 
 impl Arena {
-    /// The arena of the edges, in n log n time and linear memory: it numbers the vertices by hashing, sorts the half-edges by direction,
-    /// and links those that leave one vertex in that order.
+    /// The arena of the edges, in n log n time and linear memory: it numbers the vertices by hashing, sorts the half-edges that
+    /// leave each vertex by direction, and links them in that order.
     pub fn build(alloc: Global, edges: Vec<Seg>) -> Result<Arena, NoMemory>
         requires planar { IsPlanar edges.items }
         requires distinct { AreDistinct edges.items }

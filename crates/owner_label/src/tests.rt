@@ -21,6 +21,7 @@ type Points<'a> = &'a [(i32, i32)];
 type Row<'a> = (usize, &'a [u32], Option<i128>);
 
 /// What the labels of some members are to be.
+#[derive(Clone, Copy)]
 struct Expected<'a> {
     /// All regions.
     rows: &'a [Row<'a>],

@@ -13,6 +13,9 @@ use Rattle.crossing_laws.proofs.Located.{one_region}
 use Rattle.sector_laws.specs.Sector.{IsPlanar, AreDistinct}
 use Rattle.arrangement.specs.declared.odd_use.OddUse.{OddUse}
 use Rattle.arrangement.specs.Noding.{odd_uses}
+use Rattle.owner_label.specs.Grouped.{IsGrouped}
+use Rattle.owner_label.specs.Labelled.{Labelled}
+use Rattle.owner_label.specs.Lists.{AreRegionLabels, sided_of, AreLabels}
 use Rattle.owner_label.specs.Members.{has, members_of}
 use Rattle.owner_label.specs.Sided.{Sided, AreSided, region_at, IsOuterOf, AreFirstRegions}
 use Rattle.owner_label.proofs.Ascending.{has_first}
@@ -44,19 +47,13 @@ built edges odd regions count planar distinct ascending places used even all are
   numbered = record { count = are.long ∙ all; each = λ n p at. are.each n p (omega (arith, slice_get_within (side_points edges) n p at, sides-length edges)) at };
 }
 
--- a list that was empty, after another one was put behind it
-pub copied : {X : Type 0} (after before part items : List X) → after ≡ before ++ part → before ≡ [] → part ≡ items → after ≡ items
-copied after before part items put empty same = put ∙ (λ i. empty i ++ same i)
-
--- the same of copies
-pub built_from : (edges copy arena walked : List Seg) (odd odd_copy : List OddUse) (regions : List ℕ) (count : ℕ) → copy ≡ edges → odd_copy ≡ odd → arena ≡ edges → walked ≡ arena
+-- the same of the edges of an arena
+pub built_from : (edges arena walked : List Seg) (odd : List OddUse) (regions : List ℕ) (count : ℕ) → arena ≡ edges → walked ≡ arena
     → IsPlanar arena → AreDistinct arena → AreOddAscending odd → All (λ o. o.edge < length edges) odd → ((k : ℕ) → k < length edges → IsTrue (list_any (λ o. o.edge == k) odd))
-    → HasEvenEnds (odd_uses edges odd) → count ≡ 2 * length arena → AreFirstRegions walked count regions → AreSided (record { edges = copy; odd = odd_copy; regions = regions })
-built_from edges copy arena walked odd odd_copy regions count same_edges same_odd is_arena is_walked planar distinct ascending places used even all are =
-    subst (λ es. AreSided (record { edges = es; odd = odd_copy; regions = regions })) (sym same_edges)
-    (subst (λ os. AreSided (record { edges = edges; odd = os; regions = regions })) (sym same_odd)
-    (built edges odd regions count (subst (λ es. IsPlanar es) is_arena planar) (subst (λ es. AreDistinct es) is_arena distinct) ascending places used even
-    (all ∙ ap (λ es. 2 * length es) is_arena) (subst (λ es. AreFirstRegions es count regions) (is_walked ∙ is_arena) are)))
+    → HasEvenEnds (odd_uses edges odd) → count ≡ 2 * length arena → AreFirstRegions walked count regions → AreSided (record { edges = edges; odd = odd; regions = regions })
+built_from edges arena walked odd regions count is_arena is_walked planar distinct ascending places used even all are =
+    built edges odd regions count (subst (λ es. IsPlanar es) is_arena planar) (subst (λ es. AreDistinct es) is_arena distinct) ascending places used even
+    (all ∙ ap (λ es. 2 * length es) is_arena) (subst (λ es. AreFirstRegions es count regions) (is_walked ∙ is_arena) are)
 
 -- the outer region of the regions
 pub outer_of : (s : Sided) → AreSided s → (outer : Option ℕ) → (IsNone outer ↔ (s.edges ≡ [])) → IfSome outer (λ r. IsOuterRegion s.edges r)
@@ -69,3 +66,10 @@ pub outer_from : (s : Sided) → AreSided s → (edges : List Seg) → edges ≡
 outer_from s sided edges same outer none is region =
     outer_of s sided outer (subst (λ es. IsNone outer ↔ (es ≡ [])) same none) (subst (λ es. IfSome outer (λ r. IsOuterRegion es r)) same is)
     (subst (λ es. IfSome outer (λ r. (p : Point) → IsOuter es p → IsRegionOf es p r)) same region)
+
+-- the labels of the sides are those of the edges and the odd pairs
+pub built_labels : (s : Sided) (l : Labelled) (walked : List Seg) (table groups : List (List ℕ)) → s.edges ≡ l.edges → s.odd ≡ l.odd → walked ≡ l.edges → AreSided s → AreRegionLabels s table
+    → IsGrouped s.regions (length s.regions) groups → AreLabels l walked table groups
+built_labels s l walked table groups edges odd walks sided labels sides =
+    let same : s ≡ sided_of l s.regions = λ i. record { edges = edges i; odd = odd i; regions = s.regions } in
+    record { walked_edges = walks; numbers = s.regions; tables = record { sided = subst AreSided same sided; labels = subst (λ t. AreRegionLabels t table) same labels; sides = sides } }

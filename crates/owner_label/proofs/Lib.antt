@@ -13,5 +13,5 @@ pub mod Sums
 pub mod Building
 pub mod Gains
 pub mod Trapezoids
-pub mod Borders
+pub mod Ready
 pub mod Runs

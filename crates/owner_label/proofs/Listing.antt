@@ -8,7 +8,7 @@ use Rattle.std.proofs.lemmas.List.{length-set, length-map, get_or-map, get_or-se
 use Rattle.std.proofs.lemmas.List.Elements.{filter-append, Contains-get_or}
 use Rattle.std.proofs.lemmas.Option.{slice_get-get_or, get_or_from_slice_get, slice_get_within, same_Some}
 use Rattle.arrangement.specs.declared.odd_use.OddUse.{OddUse}
-use Rattle.owner_label.specs.Members.{members_of, members_at, member_of, edges_of}
+use Rattle.owner_label.specs.Members.{members_of, members_at, member_of, pair_edges}
 use Rattle.cov_types.specs.declared.seg.Seg.{Seg}
 use Rattle.plane.specs.Point.{Point}
 use Rattle.plane.specs.Region.{IsSide, IsRegionOf}
@@ -41,18 +41,18 @@ last_member o k true h = ap (λ t. map (λ (p : OddUse). p.member) (cond t (o �
 last_member o k false h = ap (λ t. map (λ (p : OddUse). p.member) (cond t (o ∷ []) [])) h
 
 -- the members of the odd pairs of an edge
-pub members_grouped : (odd : List OddUse) (k : ℕ) → members_at odd (places_of (edges_of odd) k) ≡ members_of odd k
+pub members_grouped : (odd : List OddUse) (k : ℕ) → members_at odd (places_of (pair_edges odd) k) ≡ members_of odd k
 members_grouped odd k =
     ap (λ n. members_at odd (filter its (numbers_below n))) (length-map odd (λ (o : OddUse). o.edge)) ∙ so_far (length odd) (omega arith)
     ∙ ap (λ (os : List OddUse). members_of os k) (take_all (length odd) odd (omega arith))
   where
     its : ℕ → Bool
-    its i = get_or (edges_of odd) i 0 == k
+    its i = get_or (pair_edges odd) i 0 == k
 
     none : OddUse
     none = record { member = 0; edge = 0 }
 
-    last : (n : ℕ) → n < length odd → (b : Bool) → its n ≡ b → (get_or odd n none).edge ≡ get_or (edges_of odd) n 0 → members_at odd (filter its (n ∷ [])) ≡ members_of (get_or odd n none ∷ []) k
+    last : (n : ℕ) → n < length odd → (b : Bool) → its n ≡ b → (get_or odd n none).edge ≡ get_or (pair_edges odd) n 0 → members_at odd (filter its (n ∷ [])) ≡ members_of (get_or odd n none ∷ []) k
     last n inside true h same =
         ap (λ b. members_at odd (cond b (n ∷ []) [])) h ∙ ap (λ o. member_of o ∷ []) (slice_get-get_or odd n none inside)
         ∙ sym (last_member (get_or odd n none) k true (ap (λ e. e == k) same ∙ h))

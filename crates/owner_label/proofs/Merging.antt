@@ -139,10 +139,10 @@ merged_toggled xs ys f g = let is = merged_is xs ys 0 f g in record { ascending 
 -- ---- what is left of two lists
 
 -- what is left to merge comes behind what is merged
-abbrev pub IsLeft : List ℕ → List ℕ → List ℕ → List ℕ → ℕ → ℕ → Type 0
-IsLeft xs ys whole zs i j = zs ++ merged (drop i xs) (drop j ys) ≡ whole
+abbrev pub IsStillMerging : List ℕ → List ℕ → List ℕ → List ℕ → ℕ → ℕ → Type 0
+IsStillMerging xs ys whole zs i j = zs ++ merged (drop i xs) (drop j ys) ≡ whole
 
-module _ (xs ys whole zs : List ℕ) (i j : ℕ) (in_x : i < length xs) (in_y : j < length ys) (left : IsLeft xs ys whole zs i j) where
+module _ (xs ys whole zs : List ℕ) (i j : ℕ) (in_x : i < length xs) (in_y : j < length ys) (left : IsStillMerging xs ys whole zs i j) where
   abbrev x : ℕ
   x = get_or xs i 0
 
@@ -158,25 +158,25 @@ module _ (xs ys whole zs : List ℕ) (i j : ℕ) (in_x : i < length xs) (in_y : 
   both : merged (drop i xs) (drop j ys) ≡ merged (x ∷ drop (i + 1) xs) (y ∷ drop (j + 1) ys)
   both = λ t. merged (front_x t) (front_y t)
 
-  left-less : (after : List ℕ) → after ≡ zs ++ x ∷ [] → x < y → IsLeft xs ys whole after (i + 1) j
+  left-less : (after : List ℕ) → after ≡ zs ++ x ∷ [] → x < y → IsStillMerging xs ys whole after (i + 1) j
   left-less after pushed h =
       let one = both ∙ merged-less x y (drop (i + 1) xs) (drop (j + 1) ys) h ∙ ap (λ t. x ∷ merged (drop (i + 1) xs) t) (sym front_y) in
       ap (λ t. t ++ merged (drop (i + 1) xs) (drop j ys)) pushed
       ∙ append_assoc zs (x ∷ []) (merged (drop (i + 1) xs) (drop j ys)) ∙ ap (λ t. zs ++ t) (sym one) ∙ left
 
-  left-more : (after : List ℕ) → after ≡ zs ++ y ∷ [] → y < x → IsLeft xs ys whole after i (j + 1)
+  left-more : (after : List ℕ) → after ≡ zs ++ y ∷ [] → y < x → IsStillMerging xs ys whole after i (j + 1)
   left-more after pushed h =
       let one = both ∙ merged-more x y (drop (i + 1) xs) (drop (j + 1) ys) h ∙ ap (λ t. y ∷ merged t (drop (j + 1) ys)) (sym front_x) in
       ap (λ t. t ++ merged (drop i xs) (drop (j + 1) ys)) pushed
       ∙ append_assoc zs (y ∷ []) (merged (drop i xs) (drop (j + 1) ys)) ∙ ap (λ t. zs ++ t) (sym one) ∙ left
 
-  left-same : x ≡ y → IsLeft xs ys whole zs (i + 1) (j + 1)
+  left-same : x ≡ y → IsStillMerging xs ys whole zs (i + 1) (j + 1)
   left-same h =
       let one = both ∙ merged-same x y (drop (i + 1) xs) (drop (j + 1) ys) h in
       ap (λ t. zs ++ t) (sym one) ∙ left
 
 -- at the end of one list the rest of both comes behind
-left-end : (xs ys whole zs first all : List ℕ) (i j : ℕ) → IsLeft xs ys whole zs i j → (length xs ≤ i) ⊎ (length ys ≤ j)
+left-end : (xs ys whole zs first all : List ℕ) (i j : ℕ) → IsStillMerging xs ys whole zs i j → (length xs ≤ i) ⊎ (length ys ≤ j)
     → first ≡ zs ++ drop i xs → all ≡ first ++ drop j ys → all ≡ whole
 unfolding merged
 left-end xs ys whole zs first all i j left end h k =
@@ -199,7 +199,7 @@ pub record IsMerging (old : List ℕ) (label : Span) (members list : List ℕ) (
   pub in_members : j ≤ length members
   pub longer : length old ≤ length list
   pub kept : take (length old) list ≡ old
-  pub left : IsLeft (take label.to old) members (old ++ merged (slice_range old label.from label.to) members) list i j
+  pub left : IsStillMerging (take label.to old) members (old ++ merged (slice_range old label.from label.to) members) list i j
 
 pub merging-none : (old : List ℕ) (label : Span) (members : List ℕ) → label.from ≤ label.to → IsMerging old label members old label.from 0
 merging-none old label members rises = record {

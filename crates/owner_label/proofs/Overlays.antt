@@ -24,7 +24,6 @@ use Rattle.owner_label.specs.Labelled.{Labelled, IsOverlay}
 use Rattle.owner_label.specs.Grouped.{places_of, IsGrouped}
 use Rattle.owner_label.specs.Lists.{AreRegionLabels}
 use Rattle.owner_label.specs.Members.{has, differs}
-use Rattle.owner_label.specs.Passes.{label_or_empty}
 use Rattle.owner_label.specs.Sided.{Sided, AreSided, region_at, uses_of, IsLabelAt}
 use Rattle.owner_label.proofs.Ascending.{same_ascending, chosen_from, chosen_has}
 use Rattle.owner_label.proofs.Listing.{group_is, region_sides}
@@ -158,11 +157,6 @@ region_among edges walked arena side count r is_walked is_arena all inside is =
 
 -- ---- the label of a region in the table
 
-not_past : (xs : List (List ℕ)) (i : ℕ) → i < length xs → slice_get xs i ≡ None → ⊥
-not_past [] i h is = absurd (omega arith)
-not_past (x ∷ xs) zero h is = cc
-not_past (x ∷ xs) (suc i) h is = not_past xs i (omega arith) is
-
 pub region_ready : (s : Sided) → AreSided s → (r : ℕ) → IsRegion s.edges r → region_at s r ≡ r
 region_ready s sided r is = one_region s.edges is.at (region_at s r) r (sided.numbered.each r is.at is.side) is.own
 
@@ -203,15 +197,8 @@ module _ (s : Sided) (sided : AreSided s) (lists : List (List ℕ)) (labels : Ar
         ])
 
   -- the label in the table is that of the definition
-  pub table_label : (o : Overlay) → IsOverlay (labelled_of s) o → (n : ℕ) (p : Point) → IsSide s.edges n p → label_or_empty (slice_get lists (region_at s n)) ≡ label_of o (slice_index o.numbers n)
-  table_label o overlay n p at = by (slice_get lists (region_at s n)) refl
-    where
-      inside : region_at s n < length lists
-      inside = let region = (sided.numbered.each n p at).joined in omega (arith, side_within s sided (region_at s n) region.at region.side, sided.numbered.count, labels.count)
-
-      by : (found : Option (List ℕ)) → slice_get lists (region_at s n) ≡ found → label_or_empty found ≡ label_of o (slice_index o.numbers n)
-      by (Some v) is = side_label s sided o overlay n p v at (label_at_side n p at v is)
-      by None is = absurd (not_past lists (region_at s n) inside is)
+  pub table_label : (o : Overlay) → IsOverlay (labelled_of s) o → (n : ℕ) (p : Point) → IsSide s.edges n p → (v : List ℕ) → slice_get lists (region_at s n) ≡ Some v → v ≡ label_of o (slice_index o.numbers n)
+  table_label o overlay n p at v here = side_label s sided o overlay n p v at (label_at_side n p at v here)
 
 -- ---- the sides of a region in the table
 

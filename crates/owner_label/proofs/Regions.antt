@@ -11,7 +11,8 @@ use Rattle.sector_laws.specs.Sector.{left, twin}
 use Rattle.sector_laws.proofs.Numbers.{half_edge_side}
 use Rattle.region_laws.proofs.Numbered.{side_half_edge}
 use Rattle.owner_label.specs.Members.{has, differs, members_of, IsToggled}
-use Rattle.owner_label.specs.Sided.{Sided, AreSided, across, region_at, uses_of, IsLabelAt, IsRegionLabel}
+use Rattle.half_edge.specs.Side.{across}
+use Rattle.owner_label.specs.Sided.{Sided, AreSided, region_at, uses_of, IsLabelAt, IsRegionLabel}
 use Rattle.owner_label.proofs.Labelling.{holds_alike, outer_free}
 use Rattle.owner_label.proofs.Sides.{sides-length, edge_of, twin_at}
 use Rattle.owner_label.proofs.Toggles.{member_turned}

@@ -9,7 +9,7 @@ use Rattle.plane.specs.Region.{side_points, IsSide}
 use Rattle.sector_laws.specs.Sector.{HalfEdge, twin, half_edges, IsHalfEdge, AreDistinct}
 use Rattle.sector_laws.proofs.Numbers.{one_number, forwards_number}
 use Rattle.region_laws.proofs.Numbered.{index, index_is}
-use Rattle.owner_label.specs.Sided.{across}
+use Rattle.half_edge.specs.Side.{across}
 
 pub sides-length : (edges : List Seg) → length (side_points edges) ≡ 2 * length edges
 sides-length [] = refl

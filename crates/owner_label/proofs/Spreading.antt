@@ -19,9 +19,10 @@ use Rattle.region_laws.proofs.Numbered.{index, index_is, side_half_edge}
 use Rattle.owner_label.specs.declared.spread.Spread.{Spread}
 use Rattle.owner_label.specs.Grouped.{places_of, IsGrouped}
 use Rattle.owner_label.specs.Lists.{AreRegionLabels}
-use Rattle.owner_label.specs.Members.{IsFrom, IsToggled, IsToggledFrom, members_of, members_at, edges_of}
-use Rattle.owner_label.specs.Sided.{Sided, AreSided, across, region_at, uses_of, IsLabelAt, IsRegionLabel}
-use Rattle.owner_label.specs.Spread.{IsReached, IsReachedNow, IsSpread, Grows, AreCrossed, IsLeft, IsBegun}
+use Rattle.owner_label.specs.Members.{IsFrom, IsToggled, IsToggledFrom, members_of, members_at, pair_edges}
+use Rattle.half_edge.specs.Side.{across}
+use Rattle.owner_label.specs.Sided.{Sided, AreSided, region_at, uses_of, IsLabelAt, IsRegionLabel}
+use Rattle.owner_label.specs.Spread.{IsReached, IsReachedNow, IsSpread, Grows, AreReachedAcross, IsLeft, IsBegun}
 use Rattle.owner_label.proofs.Listing.{get-set, group_is, group_within, members_grouped, region_sides}
 use Rattle.owner_label.proofs.Regions.{side_point, side_within, joined_region, label_across, label_outer, region_within}
 use Rattle.owner_label.proofs.Sides.{across_within, index-twin}
@@ -114,23 +115,23 @@ grows-refl spread = record { reached = λ r h. h; queue = λ i r h. h }
 pub grows-trans : (a b c : Spread) → Grows a b → Grows b c → Grows a c
 grows-trans a b c g h = record { reached = λ r k. h.reached r (g.reached r k); queue = λ i r k. h.queue i r (g.queue i r k) }
 
-pub crossed-none : (s : Sided) (spread : Spread) (sides : List ℕ) → AreCrossed s spread (take 0 sides)
+pub crossed-none : (s : Sided) (spread : Spread) (sides : List ℕ) → AreReachedAcross s spread (take 0 sides)
 crossed-none s spread sides n c = absurd (omega (arith, c.1))
 
-pub crossed_one : (s : Sided) (spread : Spread) (n over : ℕ) → over ≡ region_at s (across n) → IsReached spread over → AreCrossed s spread (n ∷ [])
+pub crossed_one : (s : Sided) (spread : Spread) (n over : ℕ) → over ≡ region_at s (across n) → IsReached spread over → AreReachedAcross s spread (n ∷ [])
 crossed_one s spread n over is reached m (zero, within, same) = subst (λ k. IsReached spread (region_at s (across k))) same (subst (λ r. IsReached spread r) is reached)
 crossed_one s spread n over is reached m (suc k, within, same) = absurd (omega (arith, within))
 
-pub crossed-more : (s : Sided) (before after : Spread) (sides : List ℕ) (i : ℕ) → i < length sides → AreCrossed s before (take i sides) → Grows before after → AreCrossed s after (get_or sides i 0 ∷ [])
-    → AreCrossed s after (take (i + 1) sides)
+pub crossed-more : (s : Sided) (before after : Spread) (sides : List ℕ) (i : ℕ) → i < length sides → AreReachedAcross s before (take i sides) → Grows before after → AreReachedAcross s after (get_or sides i 0 ∷ [])
+    → AreReachedAcross s after (take (i + 1) sides)
 crossed-more s before after sides i within crossed grows last n c =
     elim (Contains-push_cases (take i sides) (get_or sides i 0) n (rw (add-one, take-suc sides i 0 within) at c)) [
       | inl old ↦ grows.reached (region_at s (across n)) (crossed n old)
       | inr here ↦ last n (0, omega arith, here)
     ]
 
-pub crossed_all : (s : Sided) (spread : Spread) (sides : List ℕ) (i : ℕ) → length sides ≤ i → AreCrossed s spread (take i sides) → AreCrossed s spread sides
-crossed_all s spread sides i past crossed = subst (λ xs. AreCrossed s spread xs) (take-all sides i past) crossed
+pub crossed_all : (s : Sided) (spread : Spread) (sides : List ℕ) (i : ℕ) → length sides ≤ i → AreReachedAcross s spread (take i sides) → AreReachedAcross s spread sides
+crossed_all s spread sides i past crossed = subst (λ xs. AreReachedAcross s spread xs) (take-all sides i past) crossed
   where
     take-all : (xs : List ℕ) (i : ℕ) → length xs ≤ i → take i xs ≡ xs
     take-all [] zero h = refl
@@ -154,13 +155,13 @@ module _ (s : Sided) (sided : AreSided s) (spread : Spread) (is : IsSpread s spr
   pub label_ascends : IsFrom 0 label
   label_ascends = let (p, at) = side_point s sided n inside in (label_from p at).ascending
 
-  pub label_over : (places : List ℕ) → places ≡ places_of (edges_of s.odd) (n / 2) → (after : List ℕ) → IsToggled label (members_at s.odd places) after → IsRegionLabel s (region_at s (across n)) after
+  pub label_over : (places : List ℕ) → places ≡ places_of (pair_edges s.odd) (n / 2) → (after : List ℕ) → IsToggled label (members_at s.odd places) after → IsRegionLabel s (region_at s (across n)) after
   label_over places are after toggled =
       let (p, at) = side_point s sided n inside in
       label_across s sided n p label after at (label_from p at) (subst (λ ms. IsToggled label ms after) (ap (members_at s.odd) are ∙ members_grouped s.odd (n / 2)) toggled)
 
   -- the region across the side is reached
-  pub reach_over : (mid after : Spread) (over : ℕ) (places : List ℕ) → places ≡ places_of (edges_of s.odd) (n / 2) → over ≡ region_at s (across n) → get_or spread.reached.items over false ≡ false
+  pub reach_over : (mid after : Spread) (over : ℕ) (places : List ℕ) → places ≡ places_of (pair_edges s.odd) (n / 2) → over ≡ region_at s (across n) → get_or spread.reached.items over false ≡ false
       → IsToggledFrom spread.labels over label (members_at s.odd places) mid.labels → mid.reached.items ≡ spread.reached.items → mid.queue.items ≡ spread.queue.items
       → IsReachedNow mid over (get_or mid.labels over []) after → IsSpread s after × Grows spread after × IsReached after over
   reach_over mid after over places are is_over fresh from_it same_reached same_queue now =
@@ -181,18 +182,18 @@ pub reach_there : (before after : Spread) (r : ℕ) → IsReachedNow before r (g
 reach_there before after r now = now.labels ∙ set-get_or before.labels r []
 
 -- the members of the odd pairs of an edge, as they are grouped
-pub pairs_ready : (s : Sided) → AreSided s → (pairs : List (List ℕ)) → IsGrouped (edges_of s.odd) (length s.edges) pairs → (k : ℕ) (places : List ℕ) → slice_get pairs k ≡ Some places
-    → (places ≡ places_of (edges_of s.odd) k) × All (λ n. n < length s.odd) places × IsFrom 0 (members_at s.odd places)
+pub pairs_ready : (s : Sided) → AreSided s → (pairs : List (List ℕ)) → IsGrouped (pair_edges s.odd) (length s.edges) pairs → (k : ℕ) (places : List ℕ) → slice_get pairs k ≡ Some places
+    → (places ≡ places_of (pair_edges s.odd) k) × All (λ n. n < length s.odd) places × IsFrom 0 (members_at s.odd places)
 pairs_ready s sided pairs are k places at =
-    let same = group_is (edges_of s.odd) (length s.edges) pairs are k places at in
-    let within : (n : ℕ) → n < length (edges_of s.odd) → n < length s.odd = λ n h. omega (arith, length-map s.odd (λ (o : OddUse). o.edge)) in (
+    let same = group_is (pair_edges s.odd) (length s.edges) pairs are k places at in
+    let within : (n : ℕ) → n < length (pair_edges s.odd) → n < length s.odd = λ n h. omega (arith, length-map s.odd (λ (o : OddUse). o.edge)) in (
       same,
-      subst (λ xs. All (λ n. n < length s.odd) xs) (sym same) (All-weaker (λ n. n < length (edges_of s.odd)) (λ n. n < length s.odd) within (places_of (edges_of s.odd) k) (group_within (edges_of s.odd) k)),
+      subst (λ xs. All (λ n. n < length s.odd) xs) (sym same) (All-weaker (λ n. n < length (pair_edges s.odd)) (λ n. n < length s.odd) within (places_of (pair_edges s.odd) k) (group_within (pair_edges s.odd) k)),
       subst (λ ms. IsFrom 0 ms) (sym (ap (members_at s.odd) same ∙ members_grouped s.odd k)) (members_ascend s.odd k sided.ascending),
     )
 
 -- the edges of odd pairs are below their count
-pub edges_below : (odd : List OddUse) (edges : ℕ) → All (λ o. o.edge < edges) odd → All (λ k. k < edges) (edges_of odd)
+pub edges_below : (odd : List OddUse) (edges : ℕ) → All (λ o. o.edge < edges) odd → All (λ k. k < edges) (pair_edges odd)
 edges_below odd edges places k d within =
     let inside : k < length odd = omega (arith, length-map odd (λ (o : OddUse). o.edge)) in
     let o : OddUse = record { member = 0; edge = 0 } in
@@ -230,7 +231,7 @@ begun_stays s before after grows begun = elim begun [
 -- one more region is left
 pub left-more : (s : Sided) (before after : Spread) (next r : ℕ) (sides : List ℕ) (lists : List (List ℕ)) → IsGrouped s.regions (length s.regions) lists → slice_get lists r ≡ Some sides
     → next < length before.queue.items → r ≡ get_or before.queue.items next r
-    → ((i k : ℕ) → i < next → slice_get before.queue.items i ≡ Some k → IsLeft s before k) → Grows before after → AreCrossed s after sides
+    → ((i k : ℕ) → i < next → slice_get before.queue.items i ≡ Some k → IsLeft s before k) → Grows before after → AreReachedAcross s after sides
     → (i k : ℕ) → i < next + 1 → slice_get after.queue.items i ≡ Some k → IsLeft s after k
 left-more s before after next r sides lists are at_sides within at_r left grows crossed i k less at n inside same =
     elim (cases_eq i next) [

@@ -1,10 +1,10 @@
 -- Sums over edges as sums over the sides of a region.
 use mathlib.Core.List.{[], ◌∷◌}
-use Rattle.std.proofs.Common.{slice_index, ◌≡◌, refl, sym, ◌∙◌, ap, ℕ, suc, ◌+◌, ◌*◌, ◌/◌, ◌%◌, ◌-◌, ◌<◌, ◌==◌, ◌||◌, ◌&&◌, Bool, true, false, cond, List, ◌++◌, length, filter, sum_by, Some, slice_get, ℤ, pos, ◌+ℤ◌, ◌-ℤ◌, arith}
+use Rattle.std.proofs.Common.{slice_index, ◌≡◌, refl, sym, ◌∙◌, ap, ℕ, suc, ◌+◌, ◌*◌, ◌/◌, ◌%◌, ◌-◌, ◌<◌, ◌==◌, ◌||◌, ◌&&◌, Bool, true, false, cond, List, ◌++◌, length, filter, get_or, take, sum_by, Some, slice_get, ℤ, pos, ◌+ℤ◌, ◌-ℤ◌, arith}
 use Rattle.std.specs.List.{enumerate_from}
 use Rattle.std.proofs.lemmas.Bool.{eq-eqb, ne_eqb, eqb-true, cond-true, cond-false}
-use Rattle.std.proofs.lemmas.Option.{slice_get_within}
-use Rattle.std.proofs.lemmas.List.Sums.{sum_by-cons, sum_by-append}
+use Rattle.std.proofs.lemmas.Option.{slice_get_within, slice_get-get_or}
+use Rattle.std.proofs.lemmas.List.Sums.{sum_by-cons, sum_by-append, sum_by_more}
 use Rattle.integer_laws.proofs.Ring.{lin}
 use Rattle.cov_types.specs.declared.seg.Seg.{Seg}
 use Rattle.crossing_laws.specs.Crossing.{int_sum_by}
@@ -14,13 +14,15 @@ use Rattle.plane.specs.Point.{Point}
 use Rattle.plane.specs.Region.{IsSide}
 use Rattle.plane.specs.Segment.{upper, lower}
 use Rattle.arrangement.specs.Measure.{trapezoid, area_gain, region_area2, is_border, border_with}
-use Rattle.arrangement.specs.Overlay.{Overlay, label_of}
+use Rattle.arrangement.specs.Overlay.{Overlay, region_at, label_of}
+use Rattle.half_edge.specs.Side.{across}
 use Rattle.arrangement.proofs.Numberings.{upper_side, lower_side}
-use Rattle.owner_label.specs.Labelled.{IsOverlay}
+use Rattle.owner_label.specs.Labelled.{Labelled, IsOverlay}
+use Rattle.owner_label.specs.Lists.{sided_of}
 use Rattle.owner_label.specs.Grouped.{places_of}
-use Rattle.owner_label.specs.Sided.{Sided, AreSided, across, region_at}
+use Rattle.owner_label.specs.Sided.{AreSided}
 use Rattle.owner_label.specs.Sides.{side_trapezoid, side_area, length_of, side_length}
-use Rattle.owner_label.proofs.Overlays.{labelled_of, number_is, labels_apart}
+use Rattle.owner_label.proofs.Overlays.{labels_apart}
 
 -- ---- sums over lists
 
@@ -107,15 +109,34 @@ edge_number k = omega arith
 edge_number_odd : (k : ℕ) → (2 * k + 1) / 2 ≡ k
 edge_number_odd k = omega arith
 
-pub area_above : (s : Sided) (k : ℕ) (e : Seg) → slice_get s.edges k ≡ Some e → side_area s (2 * k) ≡ pos 0 -ℤ trapezoid e
-area_above s k e at =
-    ap (λ j. side_trapezoid (2 * k) (slice_get s.edges j)) (edge_number k) ∙ ap (side_trapezoid (2 * k)) at
+pub area_above : (edges : List Seg) (k : ℕ) (e : Seg) → slice_get edges k ≡ Some e → side_area edges (2 * k) ≡ pos 0 -ℤ trapezoid e
+area_above edges k e at =
+    ap (λ j. side_trapezoid (2 * k) (slice_get edges j)) (edge_number k) ∙ ap (side_trapezoid (2 * k)) at
     ∙ ap (λ b. cond b (pos 0 -ℤ trapezoid e) (trapezoid e)) (eq-eqb ((2 * k) % 2) 0 (omega arith))
 
-pub area_below : (s : Sided) (k : ℕ) (e : Seg) → slice_get s.edges k ≡ Some e → side_area s (2 * k + 1) ≡ trapezoid e
-area_below s k e at =
-    ap (λ j. side_trapezoid (2 * k + 1) (slice_get s.edges j)) (edge_number_odd k) ∙ ap (side_trapezoid (2 * k + 1)) at
+pub area_below : (edges : List Seg) (k : ℕ) (e : Seg) → slice_get edges k ≡ Some e → side_area edges (2 * k + 1) ≡ trapezoid e
+area_below edges k e at =
+    ap (λ j. side_trapezoid (2 * k + 1) (slice_get edges j)) (edge_number_odd k) ∙ ap (side_trapezoid (2 * k + 1)) at
     ∙ ap (λ b. cond b (pos 0 -ℤ trapezoid e) (trapezoid e)) (ne_eqb ((2 * k + 1) % 2) 0 (λ h. omega arith))
+
+-- an edge at its place
+pub edge_there : (edges : List Seg) (k : ℕ) → k < length edges → (e : Seg) × (slice_get edges k ≡ Some e)
+edge_there [] k h = absurd (omega arith)
+edge_there (e ∷ es) k h = (get_or (e ∷ es) k e, slice_get-get_or (e ∷ es) k e h)
+
+-- what a side adds, from the trapezoid of its edge
+module _ (edges : List Seg) (n k : ℕ) (is : k ≡ n / 2) (inside : k < length edges) (area : ℤ) (exact : (e : Seg) → slice_get edges k ≡ Some e → area ≡ trapezoid e) where
+  side_turned : (b : Bool) → (n % 2 == 0) ≡ b → cond b (pos 0 -ℤ area) area ≡ side_area edges n
+  side_turned b h =
+      let (e, at) = edge_there edges k inside in
+      ap (λ t. cond b (pos 0 -ℤ t) t) (exact e at)
+      ∙ sym (ap (λ j. side_trapezoid n (slice_get edges j)) (sym is) ∙ ap (side_trapezoid n) at ∙ ap (λ t. cond t (pos 0 -ℤ trapezoid e) (trapezoid e)) h)
+
+  pub upper_area : (n % 2 == 0) ≡ true → pos 0 -ℤ area ≡ side_area edges n
+  upper_area h = side_turned true h
+
+  pub lower_area : (n % 2 == 0) ≡ false → area ≡ side_area edges n
+  lower_area h = side_turned false h
 
 gain_splits : (a b : Bool) (e : Seg) → area_gain b a e ≡ cond a (pos 0 -ℤ trapezoid e) (pos 0) +ℤ cond b (trapezoid e) (pos 0)
 gain_splits true true e = omega (arith, lin)
@@ -123,31 +144,25 @@ gain_splits true false e = omega (arith, lin)
 gain_splits false true e = omega (arith, lin)
 gain_splits false false e = omega (arith, lin)
 
-module _ (s : Sided) (sided : AreSided s) (o : Overlay) (overlay : IsOverlay (labelled_of s) o) (r : ℕ) where
-  pub above_is : (k : ℕ) (e : Seg) → slice_get s.edges k ≡ Some e → slice_index o.numbers (2 * k) ≡ region_at s (2 * k)
-  above_is k e at = number_is s sided o overlay (2 * k) (upper e) (upper_side s.edges k e at)
-
-  pub below_is : (k : ℕ) (e : Seg) → slice_get s.edges k ≡ Some e → slice_index o.numbers (2 * k + 1) ≡ region_at s (2 * k + 1)
-  below_is k e at = number_is s sided o overlay (2 * k + 1) (lower e) (lower_side s.edges k e at)
-
+module _ (l : Labelled) (o : Overlay) (overlay : IsOverlay l o) (r : ℕ) where
   abbrev area_in : ℕ → ℤ
-  area_in n = cond (region_at s n == r) (side_area s n) (pos 0)
+  area_in n = cond (region_at o n == r) (side_area o.edges n) (pos 0)
 
-  area_splits : IsSplit (λ p. area_gain (slice_index o.numbers (2 * p.0 + 1) == r) (slice_index o.numbers (2 * p.0) == r) p.1) area_in 0 s.edges
+  area_splits : IsSplit (λ p. area_gain (region_at o (2 * p.0 + 1) == r) (region_at o (2 * p.0) == r) p.1) area_in 0 o.edges
   area_splits j k e same at =
-      let here : slice_get s.edges k ≡ Some e = ap (λ i. slice_get s.edges i) (omega (arith, same)) ∙ at in
-      gain_splits (slice_index o.numbers (2 * k) == r) (slice_index o.numbers (2 * k + 1) == r) e
-      ∙ (λ i. cond (above_is k e here i == r) (sym (area_above s k e here) i) (pos 0) +ℤ cond (below_is k e here i == r) (sym (area_below s k e here) i) (pos 0))
+      let here : slice_get o.edges k ≡ Some e = ap (λ i. slice_get o.edges i) (omega (arith, same)) ∙ at in
+      gain_splits (region_at o (2 * k) == r) (region_at o (2 * k + 1) == r) e
+      ∙ (λ i. cond (region_at o (2 * k) == r) (sym (area_above o.edges k e here) i) (pos 0) +ℤ cond (region_at o (2 * k + 1) == r) (sym (area_below o.edges k e here) i) (pos 0))
 
   -- the doubled area of the region is what its sides add
-  pub area_is : (sides : List ℕ) → sides ≡ places_of s.regions r → int_sum_by (side_area s) sides ≡ region_area2 o r
+  pub area_is : (sides : List ℕ) → sides ≡ places_of o.numbers r → int_sum_by (side_area l.edges) sides ≡ region_area2 o r
   area_is sides are =
-      let all = int_by_sides (λ p. area_gain (slice_index o.numbers (2 * p.0 + 1) == r) (slice_index o.numbers (2 * p.0) == r) p.1) area_in 0 s.edges area_splits in
+      let all = int_by_sides (λ p. area_gain (region_at o (2 * p.0 + 1) == r) (region_at o (2 * p.0) == r) p.1) area_in 0 o.edges area_splits in
       let start : int_sum_by area_in (numbers_below (2 * 0)) ≡ pos 0 = refl in
-      let long : length s.regions ≡ 2 * (0 + length s.edges) = omega (arith, sided.numbered.count) in
-      let chosen = ap (λ xs. int_sum_by (side_area s) xs) are ∙ int_sum-filter (λ n. region_at s n == r) (side_area s) (numbers_below (length s.regions)) ∙ ap (λ n. int_sum_by area_in (numbers_below n)) long in
-      let same_edges = ap (λ es. int_sum_by (λ p. area_gain (slice_index o.numbers (2 * p.0 + 1) == r) (slice_index o.numbers (2 * p.0) == r) p.1) (enumerate_from 0 es)) (overlay.edges) in
-      chosen ∙ omega (arith, lin, all, start) ∙ sym same_edges
+      let long : length o.numbers ≡ 2 * (0 + length o.edges) = omega (arith, overlay.numbered.count) in
+      let same : int_sum_by (side_area l.edges) sides ≡ int_sum_by (side_area o.edges) (places_of o.numbers r) = λ i. int_sum_by (side_area (sym overlay.edges i)) (are i) in
+      let chosen = int_sum-filter (λ n. region_at o n == r) (side_area o.edges) (numbers_below (length o.numbers)) ∙ ap (λ n. int_sum_by area_in (numbers_below n)) long in
+      same ∙ chosen ∙ omega (arith, lin, all, start)
 
 -- ---- lengths
 
@@ -157,13 +172,13 @@ across-even k = cond-true ((2 * k) % 2 == 0) (2 * k + 1) (2 * k - 1) (eq-eqb ((2
 across-odd : (k : ℕ) → across (2 * k + 1) ≡ 2 * k
 across-odd k = cond-false ((2 * k + 1) % 2 == 0) ((2 * k + 1) + 1) ((2 * k + 1) - 1) (ne_eqb ((2 * k + 1) % 2) 0 (λ h. omega arith)) ∙ omega arith
 
-length_above : (s : Sided) (test : ℕ → Bool) (k : ℕ) (e : Seg) → slice_get s.edges k ≡ Some e → side_length s test (2 * k) ≡ cond (test (region_at s (2 * k + 1))) (edge_length e) 0
-length_above s test k e at =
-    (λ i. cond (test (region_at s (across-even k i))) (length_of (slice_get s.edges (edge_number k i))) 0) ∙ ap (λ found. cond (test (region_at s (2 * k + 1))) (length_of found) 0) at
+length_above : (o : Overlay) (passes : ℕ → Bool) (k : ℕ) (e : Seg) → slice_get o.edges k ≡ Some e → side_length o passes (2 * k) ≡ cond (passes (region_at o (2 * k + 1))) (edge_length e) 0
+length_above o passes k e at =
+    (λ i. cond (passes (region_at o (across-even k i))) (length_of (slice_get o.edges (edge_number k i))) 0) ∙ ap (λ found. cond (passes (region_at o (2 * k + 1))) (length_of found) 0) at
 
-length_below : (s : Sided) (test : ℕ → Bool) (k : ℕ) (e : Seg) → slice_get s.edges k ≡ Some e → side_length s test (2 * k + 1) ≡ cond (test (region_at s (2 * k))) (edge_length e) 0
-length_below s test k e at =
-    (λ i. cond (test (region_at s (across-odd k i))) (length_of (slice_get s.edges (edge_number_odd k i))) 0) ∙ ap (λ found. cond (test (region_at s (2 * k))) (length_of found) 0) at
+length_below : (o : Overlay) (passes : ℕ → Bool) (k : ℕ) (e : Seg) → slice_get o.edges k ≡ Some e → side_length o passes (2 * k + 1) ≡ cond (passes (region_at o (2 * k))) (edge_length e) 0
+length_below o passes k e at =
+    (λ i. cond (passes (region_at o (across-odd k i))) (length_of (slice_get o.edges (edge_number_odd k i))) 0) ∙ ap (λ found. cond (passes (region_at o (2 * k))) (length_of found) 0) at
 
 border_splits : (a b pa pb : Bool) (n : ℕ) → (a ≡ true → b ≡ true → ⊥) → cond ((a && pb) || (b && pa)) n 0 ≡ cond a (cond pb n 0) 0 + cond b (cond pa n 0) 0
 border_splits true true pa pb n apart = absurd (apart refl refl)
@@ -173,28 +188,34 @@ border_splits false true true pb n apart = omega arith
 border_splits false true false pb n apart = omega arith
 border_splits false false pa pb n apart = omega arith
 
-module _ (s : Sided) (sided : AreSided s) (o : Overlay) (overlay : IsOverlay (labelled_of s) o) (r : ℕ) (passes test : ℕ → Bool)
-    (agree : (n : ℕ) (p : Point) → IsSide s.edges n p → passes (slice_index o.numbers n) ≡ test (region_at s n)) where
+module _ (l : Labelled) (o : Overlay) (overlay : IsOverlay l o) (sided : AreSided (sided_of l o.numbers)) (r : ℕ) (passes : ℕ → Bool) where
   abbrev length_in : ℕ → ℕ
-  length_in n = cond (region_at s n == r) (side_length s test n) 0
+  length_in n = cond (region_at o n == r) (side_length o passes n) 0
 
-  length_splits : IsSplitLength (λ p. cond (is_border o r passes p.0) (edge_length p.1) 0) length_in 0 s.edges
+  length_splits : IsSplitLength (λ p. cond (is_border o r passes p.0) (edge_length p.1) 0) length_in 0 o.edges
   length_splits j k e same at =
-      let here : slice_get s.edges k ≡ Some e = ap (λ i. slice_get s.edges i) (omega (arith, same)) ∙ at in
-      let inside : k < length s.edges = slice_get_within s.edges k e here in
-      let up = agree (2 * k) (upper e) (upper_side s.edges k e here) in
-      let down = agree (2 * k + 1) (lower e) (lower_side s.edges k e here) in
-      border_splits (slice_index o.numbers (2 * k) == r) (slice_index o.numbers (2 * k + 1) == r) (passes (slice_index o.numbers (2 * k))) (passes (slice_index o.numbers (2 * k + 1))) (edge_length e)
-      (λ h g. labels_apart s sided o overlay k inside (ap (label_of o) (eqb-true (slice_index o.numbers (2 * k)) r h ∙ sym (eqb-true (slice_index o.numbers (2 * k + 1)) r g))))
-      ∙ (λ i. cond (above_is s sided o overlay r k e here i == r) (cond (down i) (edge_length e) 0) 0 + cond (below_is s sided o overlay r k e here i == r) (cond (up i) (edge_length e) 0) 0)
-      ∙ (λ i. cond (region_at s (2 * k) == r) (sym (length_above s test k e here) i) 0 + cond (region_at s (2 * k + 1) == r) (sym (length_below s test k e here) i) 0)
+      let here : slice_get o.edges k ≡ Some e = ap (λ i. slice_get o.edges i) (omega (arith, same)) ∙ at in
+      let inside : k < length l.edges = (let h = slice_get_within o.edges k e here in omega (arith, ap length overlay.edges)) in
+      border_splits (region_at o (2 * k) == r) (region_at o (2 * k + 1) == r) (passes (region_at o (2 * k))) (passes (region_at o (2 * k + 1))) (edge_length e)
+      (λ h g. labels_apart (sided_of l o.numbers) sided o overlay k inside (ap (label_of o) (eqb-true (region_at o (2 * k)) r h ∙ sym (eqb-true (region_at o (2 * k + 1)) r g))))
+      ∙ (λ i. cond (region_at o (2 * k) == r) (sym (length_above o passes k e here) i) 0 + cond (region_at o (2 * k + 1) == r) (sym (length_below o passes k e here) i) 0)
 
   -- the border of the region is the length of its sides that count
-  pub border_is : (sides : List ℕ) → sides ≡ places_of s.regions r → sum_by (side_length s test) sides ≡ border_with o r passes
+  pub border_is : (sides : List ℕ) → sides ≡ places_of o.numbers r → sum_by (side_length o passes) sides ≡ border_with o r passes
   border_is sides are =
-      let all = by_sides (λ p. cond (is_border o r passes p.0) (edge_length p.1) 0) length_in 0 s.edges length_splits in
+      let all = by_sides (λ p. cond (is_border o r passes p.0) (edge_length p.1) 0) length_in 0 o.edges length_splits in
       let start : sum_by length_in (numbers_below (2 * 0)) ≡ 0 = refl in
-      let long : length s.regions ≡ 2 * (0 + length s.edges) = omega (arith, sided.numbered.count) in
-      let chosen = ap (λ xs. sum_by (side_length s test) xs) are ∙ sum-filter (λ n. region_at s n == r) (side_length s test) (numbers_below (length s.regions)) ∙ ap (λ n. sum_by length_in (numbers_below n)) long in
-      let same_edges = ap (λ es. sum_by (λ p. cond (is_border o r passes p.0) (edge_length p.1) 0) (enumerate_from 0 es)) (overlay.edges) in
-      chosen ∙ omega (arith, all, start) ∙ sym same_edges
+      let long : length o.numbers ≡ 2 * (0 + length o.edges) = omega (arith, overlay.numbered.count) in
+      let chosen = ap (λ xs. sum_by (side_length o passes) xs) are ∙ sum-filter (λ n. region_at o n == r) (side_length o passes) (numbers_below (length o.numbers)) ∙ ap (λ n. sum_by length_in (numbers_below n)) long in
+      chosen ∙ omega (arith, all, start)
+
+pub border_more : (f : ℕ → ℕ) (sides : List ℕ) (i border more : ℕ) → i < length sides → border ≡ sum_by f (take i sides) → more ≡ f (get_or sides i 0) → border + more ≡ sum_by f (take (i + 1) sides)
+border_more f sides i border more inside so_far is = (λ t. so_far t + is t) ∙ sym (sum_by_more f sides i 0 inside)
+
+-- what a side adds whose region on the other side passes, and what another one does
+pub side_counts : (o : Overlay) (passes : ℕ → Bool) (n long : ℕ) (edges : List Seg) → o.edges ≡ edges → passes (region_at o (across n)) ≡ true → long ≡ length_of (slice_get edges (n / 2)) → long ≡ side_length o passes n
+side_counts o passes n long edges same h is =
+    is ∙ ap (λ es. length_of (slice_get es (n / 2))) (sym same) ∙ sym (cond-true (passes (region_at o (across n))) (length_of (slice_get o.edges (n / 2))) 0 h)
+
+pub side_skipped : (o : Overlay) (passes : ℕ → Bool) (n : ℕ) → passes (region_at o (across n)) ≡ false → 0 ≡ side_length o passes n
+side_skipped o passes n h = sym (cond-false (passes (region_at o (across n))) (length_of (slice_get o.edges (n / 2))) 0 h)

@@ -6,5 +6,4 @@ pub mod Labelled
 pub mod Lists
 pub mod Spread
 pub mod Sides
-pub mod Passes
 pub mod Laws

@@ -27,8 +27,8 @@ abbrev pub members_of : List OddUse → ℕ → List ℕ
 members_of odd k = map (λ o. o.member) (filter (λ o. o.edge == k) odd)
 
 -- the edge of each odd pair
-abbrev pub edges_of : List OddUse → List ℕ
-edges_of odd = map (λ o. o.edge) odd
+abbrev pub pair_edges : List OddUse → List ℕ
+pair_edges odd = map (λ o. o.edge) odd
 
 -- the member of an odd pair, if there is one
 abbrev pub member_of : Option OddUse → ℕ

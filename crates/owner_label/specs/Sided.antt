@@ -1,5 +1,5 @@
 -- Edges with their odd pairs, and the region of each side.
-use Rattle.std.specs.Prelude.{◌≡◌, ℕ, ◌+◌, ◌-◌, ◌*◌, ◌<◌, ◌%◌, ◌==◌, true, cond, IsTrue, List, [], length, All, AllPairs, slice_index, Option, MatchOption}
+use Rattle.std.specs.Prelude.{◌≡◌, ℕ, ◌*◌, ◌<◌, true, IsTrue, List, [], length, All, AllPairs, slice_index, Option, MatchOption}
 use Rattle.cov_types.specs.declared.edge_use.EdgeUse.{EdgeUse}
 use Rattle.cov_types.specs.declared.seg.Seg.{Seg}
 use Rattle.cov_types.specs.Uses.{HasEvenEnds}
@@ -10,10 +10,6 @@ use Rattle.sector_laws.specs.Sector.{IsPlanar, AreDistinct}
 use Rattle.arrangement.specs.declared.odd_use.OddUse.{OddUse}
 use Rattle.arrangement.specs.Noding.{is_odd_before, odd_uses}
 use Rattle.owner_label.specs.Members.{has, IsFrom, members_of}
-
--- the side on the other side of the same edge
-abbrev pub across : ℕ → ℕ
-across n = cond (n % 2 == 0) (n + 1) (n - 1)
 
 -- edges, their odd pairs, and for each side a number
 pub record Sided : Type 0 where

@@ -1,7 +1,8 @@
 -- What is known while labels spread from region to region.
 use Rattle.std.specs.Prelude.{◌≡◌, ◌⊎◌, ℕ, ◌*◌, ◌<◌, true, false, List, [], ◌∷◌, ◌++◌, length, Contains, count_by, Some, slice_get, slice_set, slice_index_or}
 use Rattle.owner_label.specs.declared.spread.Spread.{Spread}
-use Rattle.owner_label.specs.Sided.{Sided, across, region_at, IsRegionLabel}
+use Rattle.half_edge.specs.Side.{across}
+use Rattle.owner_label.specs.Sided.{Sided, region_at, IsRegionLabel}
 
 -- the region was reached
 abbrev pub IsReached : Spread → ℕ → Type 0
@@ -28,8 +29,8 @@ pub record Grows (before after : Spread) : Type 0 where
   pub queue : (i r : ℕ) → slice_get before.queue.items i ≡ Some r → slice_get after.queue.items i ≡ Some r
 
 -- across each of the sides a region was reached
-abbrev pub AreCrossed : Sided → Spread → List ℕ → Type 0
-AreCrossed s spread sides = (n : ℕ) → Contains sides n → IsReached spread (region_at s (across n))
+abbrev pub AreReachedAcross : Sided → Spread → List ℕ → Type 0
+AreReachedAcross s spread sides = (n : ℕ) → Contains sides n → IsReached spread (region_at s (across n))
 
 -- across each side of the region one was reached
 abbrev pub IsLeft : Sided → Spread → ℕ → Type 0

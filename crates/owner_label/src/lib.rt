@@ -9,12 +9,11 @@
 //! `Regions::region_of` answers is one.
 #![tactic(auto)]
 
-mod area;
-mod border;
 mod grouped;
 mod label_table;
 mod labels;
 mod laws;
+mod measure;
 mod sided;
 mod spread;
 #[cfg(test)]

@@ -1,14 +1,15 @@
 ghost use Rattle.std.specs.Prelude.{◌≡◌, ℕ, ◌*◌, ◌<◌, ◌∷◌, [], false, length, replicate, All, IfOk, OnOk, slice_index_or};
 ghost use Rattle.owner_label.specs.Grouped.{IsGrouped};
 ghost use Rattle.owner_label.specs.Lists.{AreRegionLabels};
-ghost use Rattle.owner_label.specs.Members.{edges_of};
+ghost use Rattle.owner_label.specs.Members.{pair_edges};
 ghost use Rattle.owner_label.specs.Sided.{Sided, region_at, IsRegionLabel, IsOuterOf};
 
 use crate::grouped::Grouped;
 use crate::label_table::LabelTable;
-use crate::sided::{SidedEdges, other_side};
+use crate::sided::SidedEdges;
 use arrangement::OddUse;
 use cov_types::NoMemory;
+use half_edge::Side;
 use std::alloc::Global;
 
 /// The labels of the regions that were reached so far, by their numbers, and these regions in the order in which they were reached.
@@ -46,20 +47,20 @@ pub fn labels_of_regions(
 // The places of the odd pairs of each edge.
 fn pairs_by_edge(alloc: Global, edges: usize, odd: &[OddUse]) -> Result<Grouped, NoMemory>
     requires places { All (λ o. o.edge < edges) odd.now }
-    ensures { IfOk result (λ g. IsGrouped (edges_of odd.now) edges g) }
+    ensures { IfOk result (λ g. IsGrouped (pair_edges odd.now) edges g) }
 {
     let keys = edges_of_pairs(alloc, odd)?;
     Grouped::build(alloc, &keys, edges)
 }
 
 fn edges_of_pairs(alloc: Global, odd: &[OddUse]) -> Result<Vec<usize>, NoMemory>
-    ensures { IfOk result (λ v. v.items ≡ edges_of odd.now) }
+    ensures { IfOk result (λ v. v.items ≡ pair_edges odd.now) }
 {
     Ok(odd.iter().map(|o| o.edge).collect(alloc)?)
 }
 
 impl Spread {
-    ghost use Rattle.owner_label.specs.Spread.{IsReached, IsReachedNow, IsSpread, IsBegun, Grows, AreCrossed};
+    ghost use Rattle.owner_label.specs.Spread.{IsReached, IsReachedNow, IsSpread, IsBegun, Grows, AreReachedAcross};
 
     // The outer region is reached.
     fn begin(alloc: Global, map: &SidedEdges, outer: Option<usize>) -> Result<Spread, NoMemory>
@@ -101,37 +102,37 @@ impl Spread {
     }
 
     // The region across the side is reached, from that of the side.
-    fn cross(&mut self, map: &SidedEdges, pairs: &Grouped, side: usize) -> Result<(), NoMemory>
-        requires within { side < 2 * length map.now.edges }
-        requires pairs { IsGrouped (edges_of map.now.odd) (length map.now.edges) pairs.now }
+    fn cross(&mut self, map: &SidedEdges, pairs: &Grouped, side: Side) -> Result<(), NoMemory>
+        requires within { side.number < 2 * length map.now.edges }
+        requires pairs { IsGrouped (pair_edges map.now.odd) (length map.now.edges) pairs.now }
         requires spread { IsSpread map.now self.old }
-        requires reached { IsReached self.old (region_at map.now side) }
+        requires reached { IsReached self.old (region_at map.now side.number) }
         ensures spread { OnOk result (IsSpread map.now self.new) }
         ensures grows { OnOk result (Grows self.old self.new) }
-        ensures crossed { OnOk result (AreCrossed map.now self.new (side ∷ [])) }
+        ensures crossed { OnOk result (AreReachedAcross map.now self.new (side.number ∷ [])) }
     {
         let from = map.region(side);
-        let over = map.region(other_side(side));
+        let over = map.region(side.twin());
         if self.reached[over] {
             return Ok(());
         }
         self.labels
-            .toggle(over, from, map.odd(), pairs.group(side / 2))?;
+            .toggle(over, from, map.odd(), pairs.group(side.edge()))?;
         self.reach(over)
     }
 
     // The regions across these sides are reached, from the one that has them.
     fn leave(&mut self, map: &SidedEdges, pairs: &Grouped, sides: &[usize]) -> Result<(), NoMemory>
         requires within { All (λ n. n < 2 * length map.now.edges) sides.now }
-        requires pairs { IsGrouped (edges_of map.now.odd) (length map.now.edges) pairs.now }
+        requires pairs { IsGrouped (pair_edges map.now.odd) (length map.now.edges) pairs.now }
         requires spread { IsSpread map.now self.old }
         requires reached { All (λ n. IsReached self.old (region_at map.now n)) sides.now }
         ensures spread { OnOk result (IsSpread map.now self.new) }
         ensures grows { OnOk result (Grows self.old self.new) }
-        ensures crossed { OnOk result (AreCrossed map.now self.new sides.now) }
+        ensures crossed { OnOk result (AreReachedAcross map.now self.new sides.now) }
     {
         for side in sides {
-            self.cross(map, pairs, *side)?;
+            self.cross(map, pairs, Side::of_number(*side))?;
         }
         Ok(())
     }

@@ -20,23 +20,39 @@ type Points<'a> = &'a [(i32, i32)];
 /// A region by its number: its label, and its doubled area if it is not outer.
 type Row<'a> = (usize, &'a [u32], Option<i128>);
 
+/// What the labels of some members are to be.
+#[derive(Clone, Copy)]
+struct Expected<'a> {
+    /// All regions.
+    rows: &'a [Row<'a>],
+    /// Members with their doubled areas.
+    areas: &'a [(u32, i128)],
+    /// Regions with members and their borders.
+    borders: &'a [(usize, u32, u128)],
+    /// The regions that have an owner.
+    owners: &'a [(usize, u32)],
+    /// Regions with members and their owned borders.
+    owned: &'a [(usize, u32, u128)],
+}
+
 const SQUARE: [(i32, i32); 4] = [(0, 0), (10, 0), (10, 10), (0, 10)];
 
 #[test]
 fn two_squares_share_a_region(rt: HostRuntime) -> Result<(), Fail> {
     let moved = [(5, 0), (15, 0), (15, 10), (5, 10)];
-    let o = overlay_of(rt.alloc(), &rt, &[&[&SQUARE], &[&moved]])?;
-    let rows = [
-        (0, [].as_slice(), None),
-        (1, [0].as_slice(), Some(100)),
-        (7, [0, 1].as_slice(), Some(100)),
-        (13, [1].as_slice(), Some(100)),
-    ];
-    expect_regions(&rt, &o, &rows);
-    expect_areas(&rt, &o, &[(0, 200), (1, 200)]);
-    expect_border(&rt, &o, 7, &[(0, 2560), (1, 2560)]);
-    expect_border(&rt, &o, 1, &[(0, 0), (1, 0)]);
-    Ok(())
+    let expected = Expected {
+        rows: &[
+            (0, [].as_slice(), None),
+            (1, [0].as_slice(), Some(100)),
+            (7, [0, 1].as_slice(), Some(100)),
+            (13, [1].as_slice(), Some(100)),
+        ],
+        areas: &[(0, 200), (1, 200)],
+        borders: &[(7, 0, 2560), (7, 1, 2560), (1, 0, 0), (1, 1, 0)],
+        owners: &[],
+        owned: &[(7, 0, 0)],
+    };
+    expect_labels(rt.alloc(), &rt, &[&[&SQUARE], &[&moved]], &expected)
 }
 
 #[test]
@@ -64,35 +80,32 @@ fn a_gap_borders_on_the_members_round_it_and_on_the_island_in_it(
         (15, 10),
     ];
     let island = [(11, 11), (19, 11), (19, 19), (11, 19)];
-    let o = overlay_of(rt.alloc(), &rt, &[&[&west], &[&east], &[&island]])?;
-    let rows = [
-        (0, [].as_slice(), None),
-        (1, [0].as_slice(), Some(800)),
-        (7, [].as_slice(), Some(72)),
-        (13, [2].as_slice(), Some(128)),
-        (19, [1].as_slice(), Some(800)),
-    ];
-    expect_regions(&rt, &o, &rows);
-    expect_areas(&rt, &o, &[(0, 800), (1, 800), (2, 128)]);
-    expect_border(&rt, &o, 7, &[(0, 5120), (1, 5120), (2, 8192)]);
-
-    // One owner round the gap, and an owner of the gap itself, which has no label.
-    let owners = [(1, 0), (19, 0), (13, 2), (7, 5)];
-    expect_border_by(
+    let expected = Expected {
+        rows: &[
+            (0, [].as_slice(), None),
+            (1, [0].as_slice(), Some(800)),
+            (7, [].as_slice(), Some(72)),
+            (13, [2].as_slice(), Some(128)),
+            (19, [1].as_slice(), Some(800)),
+        ],
+        areas: &[(0, 800), (1, 800), (2, 128)],
+        borders: &[(7, 0, 5120), (7, 1, 5120), (7, 2, 8192)],
+        // One owner round the gap, and an owner of the gap itself, which has no label.
+        owners: &[(1, 0), (19, 0), (13, 2), (7, 5)],
+        owned: &[
+            (7, 0, 10240),
+            (7, 1, 0),
+            (7, 2, 8192),
+            (13, 0, 0),
+            (13, 2, 0),
+            (13, 5, 0),
+        ],
+    };
+    expect_labels(
         rt.alloc(),
         &rt,
-        &o,
-        7,
-        &owners,
-        &[(0, 10240), (1, 0), (2, 8192)],
-    )?;
-    expect_border_by(
-        rt.alloc(),
-        &rt,
-        &o,
-        13,
-        &owners,
-        &[(0, 0), (1, 0), (2, 0), (3, 0), (4, 0), (5, 0)],
+        &[&[&west], &[&east], &[&island]],
+        &expected,
     )
 }
 
@@ -101,27 +114,32 @@ fn three_squares_overlap_in_one_region(rt: HostRuntime) -> Result<(), Fail> {
     let first = [(0, 0), (30, 0), (30, 10), (0, 10)];
     let second = [(10, 0), (40, 0), (40, 10), (10, 10)];
     let third = [(20, 0), (50, 0), (50, 10), (20, 10)];
-    let o = overlay_of(rt.alloc(), &rt, &[&[&first], &[&second], &[&third]])?;
-    let rows = [
-        (0, [].as_slice(), None),
-        (1, [0].as_slice(), Some(200)),
-        (7, [0, 1].as_slice(), Some(200)),
-        (13, [0, 1, 2].as_slice(), Some(200)),
-        (19, [1, 2].as_slice(), Some(200)),
-        (25, [2].as_slice(), Some(200)),
-    ];
-    expect_regions(&rt, &o, &rows);
-    expect_areas(&rt, &o, &[(0, 600), (1, 600), (2, 600)]);
-    expect_border(&rt, &o, 13, &[(0, 0), (1, 0), (2, 0)]);
-    expect_border(&rt, &o, 7, &[(0, 2560), (1, 0), (2, 0)]);
-    expect_border(&rt, &o, 19, &[(0, 0), (1, 0), (2, 2560)]);
-    expect_border_by(
+    let expected = Expected {
+        rows: &[
+            (0, [].as_slice(), None),
+            (1, [0].as_slice(), Some(200)),
+            (7, [0, 1].as_slice(), Some(200)),
+            (13, [0, 1, 2].as_slice(), Some(200)),
+            (19, [1, 2].as_slice(), Some(200)),
+            (25, [2].as_slice(), Some(200)),
+        ],
+        areas: &[(0, 600), (1, 600), (2, 600)],
+        borders: &[
+            (13, 0, 0),
+            (13, 1, 0),
+            (7, 0, 2560),
+            (7, 2, 0),
+            (19, 0, 0),
+            (19, 2, 2560),
+        ],
+        owners: &[(7, 1), (19, 1)],
+        owned: &[(13, 0, 0), (13, 1, 5120), (13, 2, 0)],
+    };
+    expect_labels(
         rt.alloc(),
         &rt,
-        &o,
-        13,
-        &[(7, 1), (19, 1)],
-        &[(0, 0), (1, 5120), (2, 0)],
+        &[&[&first], &[&second], &[&third]],
+        &expected,
     )
 }
 
@@ -130,25 +148,32 @@ fn a_member_has_an_island_in_its_hole(rt: HostRuntime) -> Result<(), Fail> {
     let shell = [(0, 0), (50, 0), (50, 50), (0, 50)];
     let hole = [(10, 10), (40, 10), (40, 40), (10, 40)];
     let island = [(20, 20), (30, 20), (30, 30), (20, 30)];
-    let o = overlay_of(rt.alloc(), &rt, &[&[&shell, &hole, &island]])?;
-    let rows = [
-        (0, [].as_slice(), None),
-        (1, [0].as_slice(), Some(3200)),
-        (7, [].as_slice(), Some(1600)),
-        (13, [0].as_slice(), Some(200)),
-    ];
-    expect_regions(&rt, &o, &rows);
-    expect_areas(&rt, &o, &[(0, 3400)]);
-    expect_border(&rt, &o, 7, &[(0, 40960)]);
-    Ok(())
+    let expected = Expected {
+        rows: &[
+            (0, [].as_slice(), None),
+            (1, [0].as_slice(), Some(3200)),
+            (7, [].as_slice(), Some(1600)),
+            (13, [0].as_slice(), Some(200)),
+        ],
+        areas: &[(0, 3400)],
+        borders: &[(7, 0, 40960)],
+        owners: &[(1, 0)],
+        owned: &[(7, 0, 30720)],
+    };
+    expect_labels(rt.alloc(), &rt, &[&[&shell, &hole, &island]], &expected)
 }
 
 #[test]
 fn a_member_that_collapses_to_a_line_has_no_region(rt: HostRuntime) -> Result<(), Fail> {
-    let o = overlay_of(rt.alloc(), &rt, &[&[&[(0, 0), (5, 0), (10, 1)]]])?;
-    expect_regions(&rt, &o, &[]);
-    expect_areas(&rt, &o, &[(0, 0)]);
-    Ok(())
+    let line = [(0, 0), (5, 0), (10, 1)];
+    let expected = Expected {
+        rows: &[],
+        areas: &[(0, 0), (1, 0)],
+        borders: &[],
+        owners: &[],
+        owned: &[],
+    };
+    expect_labels(rt.alloc(), &rt, &[&[&line]], &expected)
 }
 
 #[test]
@@ -156,90 +181,98 @@ fn a_slanting_border_is_rounded_down(rt: HostRuntime) -> Result<(), Fail> {
     // From (0, 0) to (50, 1) it is 50.00999.. units.
     let below = [(0, 0), (0, -10), (50, -10), (50, 1)];
     let above = [(0, 0), (50, 1), (0, 10)];
-    let o = overlay_of(rt.alloc(), &rt, &[&[&below], &[&above]])?;
-    let rows = [
-        (0, [].as_slice(), None),
-        (1, [0].as_slice(), Some(1050)),
-        (5, [1].as_slice(), Some(500)),
-    ];
-    expect_regions(&rt, &o, &rows);
-    expect_areas(&rt, &o, &[(0, 1050), (1, 500)]);
-    expect_border(&rt, &o, 1, &[(0, 0), (1, 12802)]);
-    expect_border(&rt, &o, 5, &[(0, 12802), (1, 0)]);
-    Ok(())
+    let expected = Expected {
+        rows: &[
+            (0, [].as_slice(), None),
+            (1, [0].as_slice(), Some(1050)),
+            (5, [1].as_slice(), Some(500)),
+        ],
+        areas: &[(0, 1050), (1, 500)],
+        borders: &[(1, 0, 0), (1, 1, 12802), (5, 0, 12802), (5, 1, 0)],
+        owners: &[(0, 1)],
+        owned: &[(5, 1, 0)],
+    };
+    expect_labels(rt.alloc(), &rt, &[&[&below], &[&above]], &expected)
 }
 
-#[test]
-fn without_edges_there_is_no_region(rt: HostRuntime) -> Result<(), Fail> {
-    let o = overlay_of(rt.alloc(), &rt, &[])?;
-    expect_regions(&rt, &o, &[]);
-    expect_areas(&rt, &o, &[]);
+/// The labels of the members with these rings are as expected.
+fn expect_labels(
+    alloc: Global,
+    rt: &impl Abort,
+    members: &[&[Points]],
+    expected: &Expected,
+) -> Result<(), Fail> {
+    let coverage = coverage(alloc, members)?;
+    assert!(rt; in_range(&coverage));
+    let live = live_edges(alloc, &coverage)?;
+    let arena = Arena::build(alloc, live.edges.to_vec(alloc)?)?;
+    let regions = Regions::build(alloc, &arena)?;
+    let labels = Labels::build(alloc, &arena, &regions, &live)?;
+    expect_regions(rt, &regions, &labels, arena.len(), expected.rows);
+    for (member, area2) in expected.areas {
+        assert_eq!(rt; labels.area2(*member), *area2, "member {member}");
+    }
+    expect_borders(rt, &regions, &labels, arena.len(), expected.borders);
+    let owners = owners_by_region(alloc, rt, arena.len(), expected.owners)?;
+    expect_owned(rt, &regions, &labels, &owners, expected.owned);
     Ok(())
-}
-
-/// The labels between the live edges of a coverage, with what they were built of.
-#[derive(Drop)]
-struct Overlaid {
-    arena: Arena,
-    regions: Regions,
-    labels: Labels,
-    ghost walked: { regions ≡ arena },
-    ghost labelled: { labels.edges ≡ arena },
 }
 
 /// The rows have all regions, with their labels and areas.
-fn expect_regions(rt: &impl Abort, o: &Overlaid, rows: &[Row]) {
-    assert_eq!(rt; o.regions.count(), rows.len());
+fn expect_regions(rt: &impl Abort, regions: &Regions, labels: &Labels, sides: usize, rows: &[Row])
+    requires walked { regions.now ≡ labels.now.edges }
+    requires sides { sides ≡ 2 * length labels.now.edges }
+{
+    assert_eq!(rt; regions.count(), rows.len());
     for (number, label, area2) in rows {
-        let region = region_of(rt, o, *number);
+        let region = region_of(rt, regions, labels, sides, *number);
         assert_eq!(rt; region, *number);
-        assert_eq!(rt; o.labels.label(region), *label, "region {region}");
+        assert_eq!(rt; labels.label(region), *label, "region {region}");
         if let Some(area2) = area2 {
-            assert_eq!(rt; o.labels.region_area2(region), *area2, "region {region}");
+            assert_eq!(rt; labels.region_area2(region), *area2, "region {region}");
         }
     }
 }
 
-/// The members have these doubled areas.
-fn expect_areas(rt: &impl Abort, o: &Overlaid, areas: &[(u32, i128)]) {
-    for (member, area2) in areas {
-        assert_eq!(rt; o.labels.area2(*member), *area2, "member {member}");
-    }
-}
-
-/// The region has these borders with the members.
-fn expect_border(rt: &impl Abort, o: &Overlaid, region: usize, borders: &[(u32, u128)]) {
-    let region = region_of(rt, o, region);
-    for (member, border) in borders {
-        assert_eq!(rt;
-            o.labels.border(region, *member),
-            *border,
-            "member {member}"
-        );
-    }
-}
-
-/// The region has these borders with what members own, where the regions have these owners and the others none.
-fn expect_border_by(
-    alloc: Global,
+/// The regions have these borders with members.
+fn expect_borders(
     rt: &impl Abort,
-    o: &Overlaid,
-    region: usize,
-    owners: &[(usize, u32)],
-    borders: &[(u32, u128)],
-) -> Result<(), Fail> {
-    let region = region_of(rt, o, region);
-    let by_region = owners_by_region(alloc, rt, o.arena.len(), owners)?;
-    for (member, border) in borders {
-        assert_eq!(rt;
-            o.labels.border_by(region, &by_region, *member),
-            *border,
-            "member {member}"
-        );
+    regions: &Regions,
+    labels: &Labels,
+    sides: usize,
+    borders: &[(usize, u32, u128)],
+)
+    requires walked { regions.now ≡ labels.now.edges }
+    requires sides { sides ≡ 2 * length labels.now.edges }
+{
+    for (number, member, border) in borders {
+        let region = region_of(rt, regions, labels, sides, *number);
+        assert_eq!(rt; labels.border(region, *member), *border, "region {region}");
     }
-    Ok(())
 }
 
+/// The regions have these borders with what members own.
+fn expect_owned(
+    rt: &impl Abort,
+    regions: &Regions,
+    labels: &Labels,
+    owners: &[Option<u32>],
+    borders: &[(usize, u32, u128)],
+)
+    requires walked { regions.now ≡ labels.now.edges }
+    requires owners { length owners.now ≡ 2 * length labels.now.edges }
+{
+    for (number, member, border) in borders {
+        let region = region_of(rt, regions, labels, owners.len(), *number);
+        assert_eq!(rt;
+            labels.border_by(region, owners, *member),
+            *border,
+            "region {region}"
+        );
+    }
+}
+
+/// The owner of each region by its number.
 fn owners_by_region(
     alloc: Global,
     rt: &impl Abort,
@@ -257,28 +290,19 @@ fn owners_by_region(
 }
 
 /// The region of the side.
-fn region_of(rt: &impl Abort, o: &Overlaid, side: usize) -> usize
-    ensures { IsRegion o.now.labels.edges result }
+fn region_of(
+    rt: &impl Abort,
+    regions: &Regions,
+    labels: &Labels,
+    sides: usize,
+    side: usize,
+) -> usize
+    requires walked { regions.now ≡ labels.now.edges }
+    requires sides { sides ≡ 2 * length labels.now.edges }
+    ensures { IsRegion labels.now.edges result }
 {
-    assert!(rt; side < o.arena.len());
-    o.regions.region_of(side)
-}
-
-/// The members with these rings, noded and labelled.
-fn overlay_of(alloc: Global, rt: &impl Abort, members: &[&[Points]]) -> Result<Overlaid, Fail> {
-    let coverage = coverage(alloc, members)?;
-    assert!(rt; in_range(&coverage));
-    let live = live_edges(alloc, &coverage)?;
-    let mut edges = Vec::new(alloc);
-    edges.extend_from_slice(&live.edges)?;
-    let arena = Arena::build(alloc, edges)?;
-    let regions = Regions::build(alloc, &arena)?;
-    let labels = Labels::build(alloc, &arena, &regions, &live)?;
-    Ok(Overlaid {
-        arena,
-        regions,
-        labels,
-    })
+    assert!(rt; side < sides);
+    regions.region_of(side)
 }
 
 fn live_edges(alloc: Global, c: &Coverage) -> Result<LiveEdges, NoMemory>

@@ -1,8 +1,6 @@
-use Rattle.std.proofs.Common.{arith}
+use Rattle.std.proofs.Common.{refl, sym, ◌∙◌, arith}
 use Rattle.owner_label.proofs.Overlays.{region_among}
 use Rattle.owner_label.proofs.tests.region_of.Goals as goal
 
 pub returns : goal.returns
-returns g c =
-    let o = c.args.o.now in
-    region_among o.labels.edges o.regions o.arena c.args.side c.len.result c.region_of.result o.walked o.labelled c.len.ensures.count (omega arith) c.region_of.ensures.region
+returns g c = region_among c.args.labels.now.edges c.args.regions.now c.args.labels.now.edges c.args.side c.args.sides c.region_of.result c.requires.walked refl c.requires.sides (omega arith) c.region_of.ensures.region

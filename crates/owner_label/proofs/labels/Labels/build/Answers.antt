@@ -1,5 +1,6 @@
-use Rattle.std.proofs.Common.{sym, ◌∙◌, arith}
-use Rattle.owner_label.proofs.Building.{outer_from}
+use Rattle.std.proofs.Common.{◌≡◌, ◌*◌, sym, subst, ◌∙◌, length, arith}
+use Rattle.owner_label.specs.Grouped.{IsGrouped}
+use Rattle.owner_label.proofs.Building.{outer_from, built_labels}
 use Rattle.owner_label.proofs.Spreading.{regions_below}
 use Rattle.owner_label.proofs.labels.Labels.build.Goals as goal
 
@@ -10,3 +11,10 @@ labels_of_regions-requires-clause-outer c =
 
 pub build-requires-2 : goal.build-requires-2
 build-requires-2 c = record { below = rw c.regions.ensures.regions (regions_below _ c.regions.ensures.sided _ (omega (arith, c.len.ensures.count))) }
+
+pub invariant_of-result : goal.invariant_of-result
+invariant_of-result c =
+    let all : 2 * c.len.result ≡ length c.in_ok-map.map.regions = omega (arith, c.len.ensures.count, c.regions.ensures.sided.numbered.count) in
+    let sides = subst (λ n. IsGrouped c.in_ok-map.map.regions n c.in_ok-sides.sides) all (rw c.regions.ensures.regions at c.in_ok-sides.ensures) in
+    built_labels c.in_ok-map.map _ c.args.r.now _ _ (c.in_ok-map.ensures.edges ∙ sym c.requires.arena ∙ sym c.edges.ensures.edges) (c.in_ok-map.ensures.odd ∙ sym c.deref.ensures.value)
+    (c.requires.regions ∙ sym c.edges.ensures.edges) c.regions.ensures.sided c.in_ok-labels.ensures sides

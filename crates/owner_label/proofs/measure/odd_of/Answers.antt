@@ -6,7 +6,7 @@ use Rattle.std.proofs.Common.{List, subst, sym}
 use Rattle.std.specs.List.Sorted.{IsNonDecreasingBy}
 use Rattle.arrangement.specs.declared.odd_use.OddUse.{OddUse}
 use Rattle.owner_label.proofs.Runs.{members_rise, run_is}
-use Rattle.owner_label.proofs.area.odd_of.Goals as goal
+use Rattle.owner_label.proofs.measure.odd_of.Goals as goal
 
 pub returns : goal.returns
 returns c =

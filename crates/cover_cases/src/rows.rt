@@ -4,8 +4,11 @@ use cover_cli::Outcome;
 use std::alloc::Global;
 use std::test;
 
-// How many squares stand in a row.
-const SQUARES: u32 = 200;
+// How many squares stand in a row, each beside the one before.
+const JOINED: u32 = 100_000;
+
+// How many squares stand apart.
+const SEPARATE: u32 = 300_000;
 
 // The line of a square of one unit, from this x to the next.
 fn square(alloc: Global, left: u32) -> Result<String, NoMemory> {
@@ -16,7 +19,7 @@ fn square(alloc: Global, left: u32) -> Result<String, NoMemory> {
 // Squares in a row, each beside the one before.
 fn joined_squares(alloc: Global) -> Result<String, NoMemory> {
     let mut text = String::new(alloc);
-    for left in 0..SQUARES {
+    for left in 0..JOINED {
         text.push_str(&square(alloc, left)?)?;
     }
     Ok(text)
@@ -25,7 +28,7 @@ fn joined_squares(alloc: Global) -> Result<String, NoMemory> {
 // Squares in a row, each a unit apart from the one before.
 fn separate_squares(alloc: Global) -> Result<String, NoMemory> {
     let mut text = String::new(alloc);
-    for place in 0..SQUARES {
+    for place in 0..SEPARATE {
         text.push_str(&square(alloc, 2 * place)?)?;
     }
     Ok(text)
@@ -34,7 +37,7 @@ fn separate_squares(alloc: Global) -> Result<String, NoMemory> {
 // A list of no segments for each square.
 fn no_segments(alloc: Global) -> Result<String, NoMemory> {
     let mut text = String::new(alloc);
-    for _ in 0..SQUARES {
+    for _ in 0..JOINED {
         text.push_str("MULTILINESTRING EMPTY\n")?;
     }
     Ok(text)
@@ -43,14 +46,14 @@ fn no_segments(alloc: Global) -> Result<String, NoMemory> {
 // The sides of all joined squares, ascending, each once.
 fn all_sides(alloc: Global) -> Result<String, NoMemory> {
     let mut text = String::from_str(alloc, "MULTILINESTRING (")?;
-    for left in 0..SQUARES {
+    for left in 0..JOINED {
         let right = left + 1;
         let sides = format!(in alloc;
             "({left} 0, {left} 1), ({left} 0, {right} 0), ({left} 1, {right} 1), "
         )?;
         text.push_str(&sides)?;
     }
-    let end = SQUARES;
+    let end = JOINED;
     let last = format!(in alloc; "({end} 0, {end} 1))\n")?;
     text.push_str(&last)?;
     Ok(text)
@@ -59,7 +62,7 @@ fn all_sides(alloc: Global) -> Result<String, NoMemory> {
 // The sides of all joined squares, and then those of each.
 fn sides_of_each(alloc: Global) -> Result<String, NoMemory> {
     let mut text = all_sides(alloc)?;
-    for left in 0..SQUARES {
+    for left in 0..JOINED {
         let right = left + 1;
         let sides = format!(in alloc;
             "MULTILINESTRING (({left} 0, {left} 1), ({left} 0, {right} 0), ({left} 1, {right} 1), ({right} 0, {right} 1))\n"
@@ -72,7 +75,7 @@ fn sides_of_each(alloc: Global) -> Result<String, NoMemory> {
 // The outer region, and the inside of each separate square. A square's left side is the first of its four.
 fn insides(alloc: Global) -> Result<String, NoMemory> {
     let mut text = String::from_str(alloc, "0 outer - - -\n")?;
-    for place in 0..SQUARES {
+    for place in 0..SEPARATE {
         let side = 8 * place + 1;
         let row = format!(in alloc; "{side} single {place} 2 -\n")?;
         text.push_str(&row)?;

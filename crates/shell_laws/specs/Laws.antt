@@ -1,11 +1,15 @@
 -- The laws of parts and of the rings round them.
-use Rattle.std.specs.Prelude.{◌≡◌, ◌↔◌, Bool, true, List, Contains}
+use Rattle.std.specs.Prelude.{◌≡◌, ◌↔◌, Bool, true, List, AllPairs, Contains}
 use Rattle.cov_types.specs.declared.seg.Seg.{Seg}
 use Rattle.crossing_laws.specs.Crossing.{HaveEvenEnds}
-use Rattle.sector_laws.specs.Sector.{HalfEdge, AreDistinct, IsPlanar}
-use Rattle.shell_laws.specs.Part.{IsPart, boundary_of, IsTurn}
+use Rattle.sector_laws.specs.Sector.{HalfEdge, origin, AreDistinct, IsPlanar}
+use Rattle.shell_laws.specs.Part.{IsPart, boundary_of, IsTurn, IsWayRound}
 
 -- of two half-edges that follow one another round a part, distinct edges of its boundary with even ends have both or neither
 abbrev pub WholeLaw : Type 0
 WholeLaw = (edges : List Seg) → IsPlanar edges → (passes : HalfEdge → Bool) → IsPart edges passes → (h g : HalfEdge) → passes h ≡ true → passes g ≡ true → IsTurn (boundary_of edges passes) h g
     → (some : List Seg) → AreDistinct some → ((e : Seg) → Contains some e → Contains (boundary_of edges passes) e) → HaveEvenEnds some → Contains some h.edge ↔ Contains some g.edge
+
+-- so a way round a part passes no vertex twice
+abbrev pub SimpleLaw : Type 0
+SimpleLaw = (edges : List Seg) → IsPlanar edges → (passes : HalfEdge → Bool) → IsPart edges passes → (way : List HalfEdge) → IsWayRound edges passes way → AllPairs (λ h g. ¬ (origin h ≡ origin g)) way

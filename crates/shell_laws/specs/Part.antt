@@ -1,5 +1,5 @@
 -- Parts of regions, as tests on half-edges, their boundaries, and what follows round them.
-use Rattle.std.specs.Prelude.{◌≡◌, Bool, true, false, not, cond, List, [], ◌∷◌, filter, Contains}
+use Rattle.std.specs.Prelude.{◌≡◌, Bool, true, false, not, cond, List, [], ◌∷◌, filter, All, AllPairs, Contains, ⊤}
 use Rattle.cov_types.specs.declared.seg.Seg.{Seg}
 use Rattle.plane.specs.Joined.{Joined}
 use Rattle.plane.specs.Region.{IsOuter}
@@ -29,3 +29,16 @@ boundary_of edges passes = filter (is_border passes) edges
 -- g follows h round the part on their left: no edge of the boundary leaves within the angle on their right
 abbrev pub IsTurn : List Seg → HalfEdge → HalfEdge → Type 0
 IsTurn boundary h g = IsNext boundary (twin g) (twin h)
+
+-- each half-edge turns to the next
+abbrev pub AreTurns : List Seg → List HalfEdge → Type 0
+AreTurns boundary [] = ⊤
+AreTurns boundary (h ∷ []) = ⊤
+AreTurns boundary (h ∷ g ∷ way) = IsTurn boundary h g × AreTurns boundary (g ∷ way)
+
+-- a way round the part: half-edges along its boundary with the part on the left, each turning to the next, and no edge twice
+pub record IsWayRound (edges : List Seg) (passes : HalfEdge → Bool) (way : List HalfEdge) : Type 0 where
+  pub border : All (λ h. Contains (boundary_of edges passes) h.edge) way
+  pub inside : All (λ h. passes h ≡ true) way
+  pub turns : AreTurns (boundary_of edges passes) way
+  pub once : AllPairs (λ h g. ¬ (h.edge ≡ g.edge)) way

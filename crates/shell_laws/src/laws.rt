@@ -1,6 +1,7 @@
-ghost use Rattle.shell_laws.specs.Laws.{WholeLaw};
+ghost use Rattle.shell_laws.specs.Laws.{WholeLaw, SimpleLaw};
 
-/// Edges of a part's boundary with even ends have two half-edges that follow one another, or neither. A call does nothing.
+/// Edges of a part's boundary with even ends have two half-edges that follow one another, or neither; so a way round a part passes no vertex twice. A call does nothing.
 pub fn part_law()
-    ensures { WholeLaw }
+    ensures whole { WholeLaw }
+    ensures simple { SimpleLaw }
 {}

@@ -3,12 +3,12 @@
 //! It has definitions and laws, and no code. Its promise: a part is a test on half-edges and a ring a walk along its boundary with
 //! the part on the left, and no definition knows an area. The laws are the public functions.
 //!
-//! The files of `specs/`: `Part`, parts, their boundaries, and which half-edge follows round them; `Laws`.
+//! The files of `specs/`: `Part`, parts, their boundaries, which half-edge follows round them, and ways; `Laws`.
 //!
 //! A crate above takes a lemma by `use Rattle.shell_laws.proofs.FILE.{NAME}` in its `proofs/`. The files:
 //!
 //! - `Whole`: of two half-edges that follow one another round a part, edges of its boundary with even ends have both or neither
-//!   (`both_or_neither`).
+//!   (`both_or_neither`). `Simple`: so a way round a part passes no vertex twice (`no_vertex_twice`).
 #![tactic(auto)]
 
 mod laws;

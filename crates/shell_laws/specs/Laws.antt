@@ -1,8 +1,9 @@
 -- The laws of parts and of the rings round them.
 use Rattle.std.specs.Prelude.{◌≡◌, ◌↔◌, Bool, true, List, AllPairs, Contains}
 use Rattle.cov_types.specs.declared.seg.Seg.{Seg}
+use Rattle.plane.specs.Joined.{Joined}
 use Rattle.crossing_laws.specs.Crossing.{HaveEvenEnds}
-use Rattle.sector_laws.specs.Sector.{HalfEdge, origin, AreDistinct, IsPlanar}
+use Rattle.sector_laws.specs.Sector.{HalfEdge, origin, left, AreDistinct, IsPlanar}
 use Rattle.shell_laws.specs.Part.{IsPart, boundary_of, IsTurn, IsWayRound}
 
 -- of two half-edges that follow one another round a part, distinct edges of its boundary with even ends have both or neither
@@ -13,3 +14,8 @@ WholeLaw = (edges : List Seg) → IsPlanar edges → (passes : HalfEdge → Bool
 -- so a way round a part passes no vertex twice
 abbrev pub SimpleLaw : Type 0
 SimpleLaw = (edges : List Seg) → IsPlanar edges → (passes : HalfEdge → Bool) → IsPart edges passes → (way : List HalfEdge) → IsWayRound edges passes way → AllPairs (λ h g. ¬ (origin h ≡ origin g)) way
+
+-- sides that are joined round the boundary alone are both in the part or both out
+abbrev pub OutsideLaw : Type 0
+OutsideLaw = (edges : List Seg) → IsPlanar edges → AreDistinct edges → (passes : HalfEdge → Bool) → IsPart edges passes → (h g : HalfEdge) → Contains edges h.edge → Contains edges g.edge
+    → Joined (boundary_of edges passes) (left h) (left g) → passes h ≡ passes g

@@ -232,7 +232,7 @@ module _ (edges : List Seg) (planar : IsPlanar edges) (distinct : AreDistinct ed
     number_is : (h : HalfEdge) → Contains edges h.edge → IsRegionOf edges (left h) (number h)
     number_is h c = regions.each (index edges h) (left h) (half_edge_side edges (index edges h) h (index_is edges h c))
 
-    own_passes : (h : HalfEdge) → Contains edges h.edge → IsRegionOf edges (left h) r → passes h ≡ true
+    pub own_passes : (h : HalfEdge) → Contains edges h.edge → IsRegionOf edges (left h) r → passes h ≡ true
     own_passes h c own = (Decides-eqb (number h) r).1 (one_region edges (left h) (number h) r (number_is h c) own)
 
     pub passes_own : (h : HalfEdge) → Contains edges h.edge → passes h ≡ true → IsRegionOf edges (left h) r

@@ -1,6 +1,5 @@
 -- Sides that are joined round a part's boundary alone are both in the part or both out: what the edges over them weigh is the same.
-use mathlib.Core.List.{[], ◌∷◌}
-use Rattle.std.proofs.Common.{◌≡◌, refl, sym, ◌∙◌, ap, Bool, true, false, not, cond, List, pos, ◌-ℤ◌, arith}
+use Rattle.std.proofs.Common.{◌≡◌, refl, sym, ◌∙◌, Bool, true, false, not, cond, List, pos, ◌-ℤ◌, arith}
 use Rattle.std.specs.Prelude.{Contains}
 use Rattle.integer_laws.proofs.Ring.{lin}
 use Rattle.cov_types.specs.declared.seg.Seg.{Seg}

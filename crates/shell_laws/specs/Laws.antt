@@ -1,7 +1,8 @@
 -- The laws of parts and of the rings round them.
-use Rattle.std.specs.Prelude.{◌≡◌, ◌↔◌, Bool, true, List, AllPairs, Contains}
+use Rattle.std.specs.Prelude.{◌≡◌, ◌↔◌, ℕ, Bool, true, List, AllPairs, Contains}
 use Rattle.cov_types.specs.declared.seg.Seg.{Seg}
 use Rattle.plane.specs.Joined.{Joined}
+use Rattle.plane.specs.Region.{IsOuterRegion, IsRegionOf}
 use Rattle.crossing_laws.specs.Crossing.{HaveEvenEnds}
 use Rattle.sector_laws.specs.Sector.{HalfEdge, origin, left, AreDistinct, IsPlanar}
 use Rattle.shell_laws.specs.Part.{IsPart, boundary_of, IsTurn, IsWayRound}
@@ -19,3 +20,12 @@ SimpleLaw = (edges : List Seg) → IsPlanar edges → (passes : HalfEdge → Boo
 abbrev pub OutsideLaw : Type 0
 OutsideLaw = (edges : List Seg) → IsPlanar edges → AreDistinct edges → (passes : HalfEdge → Bool) → IsPart edges passes → (h g : HalfEdge) → Contains edges h.edge → Contains edges g.edge
     → Joined (boundary_of edges passes) (left h) (left g) → passes h ≡ passes g
+
+-- the test tells the region
+pub record TellsRegion (edges : List Seg) (r : ℕ) (passes : HalfEdge → Bool) : Type 0 where
+  pub part : IsPart edges passes
+  pub is : (h : HalfEdge) → Contains edges h.edge → (passes h ≡ true) ↔ IsRegionOf edges (left h) r
+
+-- a region that is not outer is a part
+abbrev pub RegionPartLaw : Type 0
+RegionPartLaw = (edges : List Seg) → IsPlanar edges → AreDistinct edges → (r : ℕ) → ¬ IsOuterRegion edges r → (passes : HalfEdge → Bool) × TellsRegion edges r passes

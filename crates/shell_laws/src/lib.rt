@@ -10,8 +10,9 @@
 //! - `Whole`: of two half-edges that follow one another round a part, edges of its boundary with even ends have both or neither
 //!   (`both_or_neither`). `Simple`: so a way round a part passes no vertex twice (`no_vertex_twice`).
 //! - `Outside`: sides that are joined round the boundary alone are both in the part or both out (`outside_kept`).
+//! - `RegionPart`: a region that is not outer is a part (`region_part`).
 #![tactic(auto)]
 
 mod laws;
 
-pub use laws::{outside_law, part_law};
+pub use laws::{outside_law, part_law, region_law};

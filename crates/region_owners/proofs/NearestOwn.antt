@@ -32,7 +32,7 @@ use Rattle.region_laws.proofs.Exists.{regions_exist}
 use Rattle.region_owners.specs.Box.{IsEdgeOf}
 use Rattle.region_owners.specs.Gap.{squared_distance, HasRoom, HasRoomWithin}
 use Rattle.region_owners.specs.Laws.{HasOwnRoomWithin}
-use Rattle.region_owners.proofs.OwnEdges.{jump, weighed_edges, one_passes, passes, passes_own, passes_next, sum_at, sum_within, own_sum, in_range}
+use Rattle.region_owners.proofs.OwnEdges.{jump, weighed_edges, one_passes, passes, passes_own, IsSideTest, of_range, passes_next, sum_at, own_sum, region_test, sum_within, in_range}
 use Rattle.region_owners.proofs.RegionBox.{in_box}
 use Rattle.region_owners.proofs.StillNear.{not_past}
 
@@ -153,11 +153,11 @@ module _ (e : Seg) (rises : Rises e) where
 -- ---- the edges that weigh something
 
 module _ (test : HalfEdge → Bool) where
-  abbrev fewer : List Seg → List Seg
+  abbrev pub fewer : List Seg → List Seg
   fewer [] = []
   fewer (e ∷ es) = cond (int_eq (jump test e) (pos 0)) (fewer es) (e ∷ fewer es)
 
-  fewer_is : (edges : List Seg) (f : Seg) → Contains (fewer edges) f → Contains edges f × (jump test f ≡ pos 0 → ⊥)
+  pub fewer_is : (edges : List Seg) (f : Seg) → Contains (fewer edges) f → Contains edges f × (jump test f ≡ pos 0 → ⊥)
   fewer_is [] f has = absurd (let within = has.1 in omega arith)
   fewer_is (e ∷ es) f has = by (fewer_is es f) (int_eq (jump test e) (pos 0)) refl has
     where
@@ -184,11 +184,27 @@ module _ (test : HalfEdge → Bool) where
       by rest true is = (let none = nothing (t e) (jump test e) ((Decides-int_eq (jump test e) (pos 0)).0 is) in omega (arith, lin))
       by rest false is = ap (λ z. cond (t e) (jump test e) (pos 0) +ℤ z) rest
 
+-- what the edges weigh is the same along a way that meets none that weighs something
+module _ (edges : List Seg) (planar : IsPlanar edges) (distinct : AreDistinct edges) (passes : HalfEdge → Bool) (test : IsSideTest edges passes) where
+  pub sum_way : (p q : Point) → Joined (fewer passes edges) p q → sum_at edges planar distinct passes test p ≡ sum_at edges planar distinct passes test q
+  sum_way p q j =
+      let same = weighed_edges passes (fewer passes edges) in
+      let balanced = balanced_sides edges planar distinct passes (passes_next edges planar distinct passes test) in
+      sym (sum_fewer passes (λ e. is_over e p) edges)
+      ∙ crossing_sum-joined (weigh_sides passes (fewer passes edges))
+      (subst (λ es. IsSwept es) (sym same) (λ e c. rises-in_range e (of_range edges planar distinct passes test e (fewer_is passes edges e c).0)))
+      (λ t. sum_fewer passes (λ e. t e.lo) edges ∙ balanced t ∙ sym (sum_fewer passes (λ e. t e.hi) edges))
+      p q (subst (λ es. Joined es p q) (sym same) j)
+      ∙ sum_fewer passes (λ e. is_over e q) edges
+
 -- ---- the way to the upper side of an edge that is near
 
 module _ (edges : List Seg) (planar : IsPlanar edges) (distinct : AreDistinct edges) (r : ℕ) (inner : ¬ IsOuterRegion edges r) (numbers : List ℕ) (regions : AreRegions edges numbers) where
   abbrev inside : HalfEdge → Bool
   inside h = passes edges planar distinct r inner numbers regions h
+
+  abbrev test : IsSideTest edges inside
+  test = region_test edges planar distinct r inner numbers regions
 
   abbrev own_edges : List Seg
   own_edges = fewer inside edges
@@ -204,16 +220,6 @@ module _ (edges : List Seg) (planar : IsPlanar edges) (distinct : AreDistinct ed
       | inr down ↦ inr (passes_own edges planar distinct r inner numbers regions (record { edge = f; forwards = false }) has down)
     ];
   }
-
-  sum_way : (p q : Point) → Joined own_edges p q → sum_at edges planar distinct r inner numbers regions p ≡ sum_at edges planar distinct r inner numbers regions q
-  sum_way p q j =
-      let same = weighed_edges inside own_edges in
-      let balanced = balanced_sides edges planar distinct inside (passes_next edges planar distinct r inner numbers regions) in
-      sym (sum_fewer inside (λ e. is_over e p) edges)
-      ∙ crossing_sum-joined (weigh_sides inside own_edges) (subst (λ es. IsSwept es) (sym same) (λ e c. rises e (fewer_is inside edges e c).0))
-      (λ t. sum_fewer inside (λ e. t e.lo) edges ∙ balanced t ∙ sym (sum_fewer inside (λ e. t e.hi) edges))
-      p q (subst (λ es. Joined es p q) (sym same) j)
-      ∙ sum_fewer inside (λ e. is_over e q) edges
 
   module _ (q : Coord) (w : ℕ) (own : IsRegionOf edges (at_coord q) r) (rooms : (e : Seg) → IsEdgeOf edges r e → HasRoom q w e) where
     module _ (e : Seg) (has : Contains edges e) (c : Point) (on : IsOn e c) (near : (pos 4 *ℤ squared_distance q c) <ℤ (pos (w * w) *ℤ pos (c.d * c.d))) where
@@ -249,8 +255,8 @@ module _ (edges : List Seg) (planar : IsPlanar edges) (distinct : AreDistinct ed
 
         one_there : pos 1 ≡ pos (cond (inside (record { edge = e; forwards = true })) 1 0)
         one_there =
-            sym (sum_within edges planar distinct r inner numbers regions (at_coord q) own) ∙ sum_way (at_coord q) (upper e) way
-            ∙ own_sum edges planar distinct r inner numbers regions (record { edge = e; forwards = true }) has
+            sym (sum_within edges planar distinct r inner numbers regions (at_coord q) own) ∙ sum_way edges planar distinct inside test (at_coord q) (upper e) way
+            ∙ own_sum edges planar distinct inside test (record { edge = e; forwards = true }) has
 
         is_inside : (b : Bool) → pos 1 ≡ pos (cond b 1 0) → b ≡ true
         is_inside true h = refl

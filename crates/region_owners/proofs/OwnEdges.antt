@@ -133,6 +133,76 @@ not_over_far : (e : Seg) → IsSegInRange e → is_over e far_point ≡ false
 unfolding sweep
 not_over_far e range = false_from_ne_true (is_over e far_point) (λ t. (let over = (over-is e far_point).0 t in let to = over.to in let right = range.hi.right in let top = range.hi.top in omega (arith, ints)))
 
+-- ---- a test on sides that is the same at joined side points and false outside
+
+pub record IsSideTest (edges : List Seg) (passes : HalfEdge → Bool) : Type 0 where
+  pub same : (h g : HalfEdge) → Contains edges h.edge → Contains edges g.edge → Joined edges (left h) (left g) → passes h ≡ passes g
+  pub outside : (h : HalfEdge) → Contains edges h.edge → IsOuter edges (left h) → passes h ≡ false
+
+module _ (edges : List Seg) (planar : IsPlanar edges) (distinct : AreDistinct edges) (passes : HalfEdge → Bool) (test : IsSideTest edges passes) where
+  pub of_range : (e : Seg) → Contains edges e → IsSegInRange e
+  of_range e c = All-contains IsSegInRange edges e planar.in_range c
+
+  pub passes_next : (h g : HalfEdge) → IsNext edges h g → passes h ≡ passes g
+  passes_next h g next = test.same h g next.among next.leaves.among (next_joined edges planar h g next)
+
+  -- what the edges over a point weigh
+  abbrev pub sum_at : Point → ℤ
+  sum_at p = crossing_sum (weigh_sides passes edges) p
+
+  pub sum_joined : (p q : Point) → Joined edges p q → sum_at p ≡ sum_at q
+  sum_joined p q j =
+      let same = weighed_edges passes edges in
+      crossing_sum-joined (weigh_sides passes edges) (subst (λ es. IsSwept es) (sym same) (λ e c. rises-in_range e (of_range e c)))
+      (balanced_sides edges planar distinct passes passes_next) p q (subst (λ es. Joined es p q) (sym same) j)
+
+  sum_across : (e : Seg) → Contains edges e → sum_at (lower e) ≡ sum_at (upper e) +ℤ jump passes e
+  sum_across e c =
+      let same = weighed_edges passes edges in
+      let all : AllMeetInEnds e edges = λ f i. (of_range f i, planar.noded e f c i) in
+      let across = crossing_sum-across e (weigh_sides passes edges) (of_range e c) (subst (λ es. AllMeetInEnds e es) (sym same) all) in
+      let once = weight_once passes e edges distinct c in
+      omega (arith, lin)
+
+  sum_far : sum_at far_point ≡ pos 0
+  sum_far = sum_none passes edges far_point (λ e c. not_over_far e (of_range e c))
+
+  -- on the left of a half-edge the sum is its own weight
+  abbrev IsOwnSum : HalfEdge → Type 0
+  IsOwnSum h = sum_at (left h) ≡ side_weight passes h
+
+  own_sum_twin : (h : HalfEdge) → Contains edges h.edge → IsOwnSum (twin h) → IsOwnSum h
+  own_sum_twin h c own = by_direction h.forwards own
+    where
+      by_direction : (b : Bool) → IsOwnSum (twin (record { edge = h.edge; forwards = b })) → IsOwnSum (record { edge = h.edge; forwards = b })
+      by_direction true k = (let across = sum_across h.edge c in omega (arith, lin))
+      by_direction false k = (let across = sum_across h.edge c in omega (arith, lin))
+
+  own_sum_joined : (h g : HalfEdge) → Contains edges h.edge → Contains edges g.edge → Joined edges (left h) (left g) → IsOwnSum g → IsOwnSum h
+  own_sum_joined h g in_h in_g j own = sum_joined (left h) (left g) j ∙ own ∙ sym (ap (λ t. pos (cond t 1 0)) (test.same h g in_h in_g j))
+
+  own_sum_out : (h : HalfEdge) → Contains edges h.edge → IsOuter edges (left h) → IsOwnSum h
+  own_sum_out h c out = sum_joined (left h) far_point out ∙ sum_far ∙ sym (ap (λ t. pos (cond t 1 0)) (test.outside h c out))
+
+  own_sum_comes_up : ComesUp edges IsOwnSum
+  own_sum_comes_up = record {
+    turn = λ h g next rest. own_sum_twin h next.among (own_sum_joined (twin h) g next.among next.leaves.among (next_joined edges planar (twin h) g next) rest);
+    over = λ v g over earlier. (
+        let at = leaves_at edges v g over in
+        elim (nearest_or_none edges planar (at_coord v)) [
+          | inl found ↦ (
+              let e = found.0 in
+              let below : HalfEdge = record { edge = e; forwards = true } in
+              own_sum_joined g below at.among found.1.below.among (link_down edges planar v g over e found.1) (earlier below found.1.below.among (below_earlier edges planar v g at e found.1))
+              )
+          | inr none ↦ own_sum_out g at.among (link_out edges planar v g over none)
+        ]
+        );
+  }
+
+  pub own_sum : (h : HalfEdge) → Contains edges h.edge → IsOwnSum h
+  own_sum h c = of_all edges planar IsOwnSum own_sum_comes_up h c
+
 -- ---- the edges of one region
 
 module _ (edges : List Seg) (planar : IsPlanar edges) (distinct : AreDistinct edges) (r : ℕ) (inner : ¬ IsOuterRegion edges r) where
@@ -162,7 +232,7 @@ module _ (edges : List Seg) (planar : IsPlanar edges) (distinct : AreDistinct ed
     number_is : (h : HalfEdge) → Contains edges h.edge → IsRegionOf edges (left h) (number h)
     number_is h c = regions.each (index edges h) (left h) (half_edge_side edges (index edges h) h (index_is edges h c))
 
-    own_passes : (h : HalfEdge) → Contains edges h.edge → IsRegionOf edges (left h) r → passes h ≡ true
+    pub own_passes : (h : HalfEdge) → Contains edges h.edge → IsRegionOf edges (left h) r → passes h ≡ true
     own_passes h c own = (Decides-eqb (number h) r).1 (one_region edges (left h) (number h) r (number_is h c) own)
 
     pub passes_own : (h : HalfEdge) → Contains edges h.edge → passes h ≡ true → IsRegionOf edges (left h) r
@@ -175,73 +245,16 @@ module _ (edges : List Seg) (planar : IsPlanar edges) (distinct : AreDistinct ed
     outer_fails : (h : HalfEdge) → Contains edges h.edge → IsOuter edges (left h) → passes h ≡ false
     outer_fails h c out = false_from_ne_true (passes h) (λ t. inner (outer_is edges (left h) r (passes_own h c t) out))
 
-    pub passes_next : (h g : HalfEdge) → IsNext edges h g → passes h ≡ passes g
-    passes_next h g next = passes_joined h g next.among next.leaves.among (next_joined edges planar h g next)
+    pub region_test : IsSideTest edges passes
+    region_test = record { same = passes_joined; outside = outer_fails }
 
-    -- what the edges of the region over a point weigh
-    abbrev pub sum_at : Point → ℤ
-    sum_at p = crossing_sum (weigh_sides passes edges) p
-
-    sum_joined : (p q : Point) → Joined edges p q → sum_at p ≡ sum_at q
-    sum_joined p q j =
-        let same = weighed_edges passes edges in
-        crossing_sum-joined (weigh_sides passes edges) (subst (λ es. IsSwept es) (sym same) (λ e c. rises-in_range e (in_range e c)))
-        (balanced_sides edges planar distinct passes passes_next) p q (subst (λ es. Joined es p q) (sym same) j)
-
-    sum_across : (e : Seg) → Contains edges e → sum_at (lower e) ≡ sum_at (upper e) +ℤ jump passes e
-    sum_across e c =
-        let same = weighed_edges passes edges in
-        let all : AllMeetInEnds e edges = λ f i. (in_range f i, planar.noded e f c i) in
-        let across = crossing_sum-across e (weigh_sides passes edges) (in_range e c) (subst (λ es. AllMeetInEnds e es) (sym same) all) in
-        let once = weight_once passes e edges distinct c in
-        omega (arith, lin)
-
-    sum_far : sum_at far_point ≡ pos 0
-    sum_far = sum_none passes edges far_point (λ e c. not_over_far e (in_range e c))
-
-    -- on the left of a half-edge the sum is its own weight
-    abbrev IsOwnSum : HalfEdge → Type 0
-    IsOwnSum h = sum_at (left h) ≡ side_weight passes h
-
-    own_sum_twin : (h : HalfEdge) → Contains edges h.edge → IsOwnSum (twin h) → IsOwnSum h
-    own_sum_twin h c own = by_direction h.forwards own
-      where
-        by_direction : (b : Bool) → IsOwnSum (twin (record { edge = h.edge; forwards = b })) → IsOwnSum (record { edge = h.edge; forwards = b })
-        by_direction true k = (let across = sum_across h.edge c in omega (arith, lin))
-        by_direction false k = (let across = sum_across h.edge c in omega (arith, lin))
-
-    own_sum_joined : (h g : HalfEdge) → Contains edges h.edge → Contains edges g.edge → Joined edges (left h) (left g) → IsOwnSum g → IsOwnSum h
-    own_sum_joined h g in_h in_g j own = sum_joined (left h) (left g) j ∙ own ∙ sym (ap (λ t. pos (cond t 1 0)) (passes_joined h g in_h in_g j))
-
-    own_sum_out : (h : HalfEdge) → Contains edges h.edge → IsOuter edges (left h) → IsOwnSum h
-    own_sum_out h c out = sum_joined (left h) far_point out ∙ sum_far ∙ sym (ap (λ t. pos (cond t 1 0)) (outer_fails h c out))
-
-    own_sum_comes_up : ComesUp edges IsOwnSum
-    own_sum_comes_up = record {
-      turn = λ h g next rest. own_sum_twin h next.among (own_sum_joined (twin h) g next.among next.leaves.among (next_joined edges planar (twin h) g next) rest);
-      over = λ v g over earlier. (
-          let at = leaves_at edges v g over in
-          elim (nearest_or_none edges planar (at_coord v)) [
-            | inl found ↦ (
-                let e = found.0 in
-                let below : HalfEdge = record { edge = e; forwards = true } in
-                own_sum_joined g below at.among found.1.below.among (link_down edges planar v g over e found.1) (earlier below found.1.below.among (below_earlier edges planar v g at e found.1))
-                )
-            | inr none ↦ own_sum_out g at.among (link_out edges planar v g over none)
-          ]
-          );
-    }
-
-    pub own_sum : (h : HalfEdge) → Contains edges h.edge → IsOwnSum h
-    own_sum h c = of_all edges planar IsOwnSum own_sum_comes_up h c
-
-    pub sum_within : (p : Point) → IsRegionOf edges p r → sum_at p ≡ pos 1
+    pub sum_within : (p : Point) → IsRegionOf edges p r → sum_at edges planar distinct passes region_test p ≡ pos 1
     sum_within p own =
         let found = edge_under p own in
         let e = found.0 in
         let above = found.1.2 in
         let h : HalfEdge = record { edge = e; forwards = true } in
-        sum_joined p (upper e) (same_region edges p (upper e) r own above) ∙ own_sum h found.1.0.among ∙ ap (λ t. pos (cond t 1 0)) (own_passes h found.1.0.among above)
+        sum_joined edges planar distinct passes region_test p (upper e) (same_region edges p (upper e) r own above) ∙ own_sum edges planar distinct passes region_test h found.1.0.among ∙ ap (λ t. pos (cond t 1 0)) (own_passes h found.1.0.among above)
 
     over_by : (p : Point) → IsRegionOf edges p r → (e : Seg) × (IsEdgeOf edges r e × IsTrue (is_over e p))
     over_by p own =

@@ -15,7 +15,7 @@
 //! A crate above takes a lemma by `use Rattle.region_owners.proofs.FILE.{NAME}` in its `proofs/`. The files:
 //!
 //! - `OwnEdges`: a region that is not outer has an edge of its own under and over each of its points (`edge_under`, `edge_over`), by
-//!   what its edges over a point weigh, which is 1 in the region. `RegionBox`: so its points are in the box of its edges (`in_box`).
+//!   what its edges over a point weigh, which is 1 in the region (`own_sum`, for any test on sides: `IsSideTest`). `RegionBox`: so its points are in the box of its edges (`in_box`).
 //!   `Searched`: and it has a clearance (`clearance_exists`).
 //! - `StillNear`: a point on the way to a near one is as near (`not_past`). `NearestOwn`: so only a region's own edges can be nearest to
 //!   a point of it (`room_by_own`, `own_search`): a way to another edge that meets none of these would leave the region by none.

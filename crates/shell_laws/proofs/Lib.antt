@@ -1,0 +1,4 @@
+pub mod Whole
+pub mod Simple
+pub mod Outside
+pub mod RegionPart

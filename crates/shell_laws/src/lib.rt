@@ -1,0 +1,18 @@
+//! Parts of regions and the rings round them: what the law of one shell for each part stands on.
+//!
+//! It has definitions and laws, and no code. Its promise: a part is a test on half-edges and a ring a walk along its boundary with
+//! the part on the left, and no definition knows an area. The laws are the public functions.
+//!
+//! The files of `specs/`: `Part`, parts, their boundaries, which half-edge follows round them, and ways; `Laws`.
+//!
+//! A crate above takes a lemma by `use Rattle.shell_laws.proofs.FILE.{NAME}` in its `proofs/`. The files:
+//!
+//! - `Whole`: of two half-edges that follow one another round a part, edges of its boundary with even ends have both or neither
+//!   (`both_or_neither`). `Simple`: so a way round a part passes no vertex twice (`no_vertex_twice`).
+//! - `Outside`: sides that are joined round the boundary alone are both in the part or both out (`outside_kept`).
+//! - `RegionPart`: a region that is not outer is a part (`region_part`).
+#![tactic(auto)]
+
+mod laws;
+
+pub use laws::{outside_law, part_law, region_law};

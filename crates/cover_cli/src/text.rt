@@ -3,7 +3,7 @@ ghost use Rattle.cov_types.specs.Coverage.{IsFormed};
 ghost use Rattle.cover_cli.specs.Input.{longest_input};
 ghost use Rattle.cover_cli.specs.Refusal.{IsRefusedFor};
 ghost use Rattle.cover_cli.specs.Text.{RefusesText};
-ghost use Rattle.geo_text.specs.Fault.{IsFaultless};
+ghost use Rattle.geo_text.specs.Fault.{HasNoFault};
 ghost use Rattle.geo_text.specs.Reading.{Reads};
 
 use crate::outcome::Outcome;
@@ -15,7 +15,7 @@ use std::alloc::Global;
 pub fn coverage_of(alloc: Global, input: Vec<u8>) -> Result<Coverage, Outcome>
     requires { length input.items ≤ longest_input }
     ensures read { IfOk result (λ c. Reads input.items c) }
-    ensures faultless { OnOk result (IsFaultless input.items) }
+    ensures faultless { OnOk result (HasNoFault input.items) }
     ensures formed { IfOk result IsFormed }
     ensures refused { IfErr result (IsRefusedFor (RefusesText input.items)) }
 {

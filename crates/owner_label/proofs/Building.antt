@@ -1,6 +1,6 @@
 -- The sides of live edges, with their regions.
 use mathlib.Core.List.{[], ◌∷◌}
-use Rattle.std.proofs.Common.{◌≡◌, refl, sym, ◌∙◌, ap, subst, ℕ, ◌*◌, ◌<◌, ◌==◌, ◌↔◌, true, false, List, ◌++◌, length, IsTrue, Option, Some, None, inl, inr, arith}
+use Rattle.std.proofs.Common.{◌≡◌, refl, ◌∙◌, ap, subst, ℕ, ◌*◌, ◌<◌, ◌==◌, ◌↔◌, true, false, List, length, IsTrue, Option, Some, None, inl, inr, arith}
 use Rattle.std.specs.Prelude.{All, IsNone, IfSome}
 use Rattle.std.specs.List.{list_any}
 use Rattle.std.proofs.lemmas.Bool.{both_ways, cases_Bool, or_cases}

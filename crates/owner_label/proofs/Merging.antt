@@ -1,7 +1,7 @@
 -- The members that stand in just one of two ascending lists, put behind the list that has the first.
 use mathlib.Core.List.{[], ◌∷◌}
-use Rattle.std.proofs.Common.{◌≡◌, refl, sym, ◌∙◌, ap, subst, ℕ, zero, suc, ◌+◌, ◌≤◌, ◌<◌, ◌==◌, Bool, true, false, not, ◌||◌, cond, ltb, List, ◌++◌, length, get_or, drop, take, ◌-◌, add-one, append_assoc, inl, inr, ◌⊎◌, arith}
-use Rattle.std.specs.Prelude.{Some, slice_get, slice_range}
+use Rattle.std.proofs.Common.{◌≡◌, refl, sym, ◌∙◌, ap, subst, ℕ, suc, ◌+◌, ◌≤◌, ◌<◌, ◌==◌, Bool, true, false, not, ◌||◌, cond, ltb, List, ◌++◌, length, get_or, drop, take, add-one, append_assoc, inl, inr, ◌⊎◌, arith}
+use Rattle.std.specs.Prelude.{slice_get, slice_range}
 use Rattle.std.proofs.Math.Seq.{drop-cons}
 use Rattle.std.proofs.lemmas.Bool.{eqb-true, lt-ltb, le-ltb, cases_order, cases_Bool, or_left, cond-true, cond-false}
 use Rattle.std.proofs.lemmas.List.{append-nil, length_push, length-append, get_or_read, get_or_append_left, take_more, drop-append-le, length-map, length-take-le, take_all, take-take, take-append-le, get_or-take, get_or-map, drop-map, map_more, drop_all}

@@ -1,6 +1,6 @@
 -- The labels of regions as those of an overlay.
 use mathlib.Core.List.{[], ◌∷◌}
-use Rattle.std.proofs.Common.{slice_index, ◌≡◌, refl, sym, ◌∙◌, ap, subst, ℕ, zero, suc, ◌+◌, ◌*◌, ◌<◌, ◌≤◌, ◌%◌, ◌==◌, ◌&&◌, Bool, true, false, not, cond, ltb, List, length, get_or, count_by, Option, Some, None, slice_get, inl, inr, arith}
+use Rattle.std.proofs.Common.{slice_index, ◌≡◌, refl, sym, ◌∙◌, ap, subst, ℕ, suc, ◌+◌, ◌*◌, ◌<◌, ◌≤◌, ◌%◌, ◌==◌, ◌&&◌, Bool, true, false, not, cond, ltb, List, length, get_or, count_by, Some, slice_get, inl, inr, arith}
 use Rattle.std.specs.Prelude.{All, flat_map, option_to_list}
 use Rattle.std.proofs.lemmas.Bool.{cases_lt, lt-ltb, le-ltb, ne_eqb, and_left, both_ways}
 use Rattle.std.proofs.lemmas.List.{append-nil}

@@ -1,8 +1,7 @@
 -- The tables of labels, as each overlay of the edges has them.
-use Rattle.std.proofs.Common.{◌≡◌, sym, ◌∙◌, ap, subst, ℕ, ◌*◌, ◌<◌, List, length, Some, slice_get, slice_index, arith}
+use Rattle.std.proofs.Common.{◌≡◌, sym, ◌∙◌, ap, subst, ℕ, ◌*◌, ◌<◌, List, length, Some, slice_get, slice_index}
 use Rattle.cov_types.specs.declared.seg.Seg.{Seg}
 use Rattle.crossing_laws.proofs.Located.{one_numbering}
-use Rattle.half_edge.specs.Side.{across}
 use Rattle.plane.specs.Parity.{member_holds}
 use Rattle.plane.specs.Point.{Point}
 use Rattle.plane.specs.Region.{IsSide, AreRegions}

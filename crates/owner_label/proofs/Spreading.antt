@@ -19,7 +19,7 @@ use Rattle.region_laws.proofs.Numbered.{index, index_is, side_half_edge}
 use Rattle.owner_label.specs.declared.spread.Spread.{Spread}
 use Rattle.owner_label.specs.Grouped.{places_of, IsGrouped}
 use Rattle.owner_label.specs.Lists.{AreRegionLabels}
-use Rattle.owner_label.specs.Members.{IsFrom, IsToggled, IsToggledFrom, members_of, members_at, pair_edges}
+use Rattle.owner_label.specs.Members.{IsFrom, IsToggled, IsToggledFrom, members_at, pair_edges}
 use Rattle.half_edge.specs.Side.{across}
 use Rattle.owner_label.specs.Sided.{Sided, AreSided, region_at, uses_of, IsLabelAt, IsRegionLabel}
 use Rattle.owner_label.specs.Spread.{IsReached, IsReachedNow, IsSpread, Grows, AreReachedAcross, IsLeft, IsBegun}

@@ -1,6 +1,6 @@
 -- Sums over edges as sums over the sides of a region.
 use mathlib.Core.List.{[], ◌∷◌}
-use Rattle.std.proofs.Common.{slice_index, ◌≡◌, refl, sym, ◌∙◌, ap, ℕ, suc, ◌+◌, ◌*◌, ◌/◌, ◌%◌, ◌-◌, ◌<◌, ◌==◌, ◌||◌, ◌&&◌, Bool, true, false, cond, List, ◌++◌, length, filter, get_or, take, sum_by, Some, slice_get, ℤ, pos, ◌+ℤ◌, ◌-ℤ◌, arith}
+use Rattle.std.proofs.Common.{◌≡◌, refl, sym, ◌∙◌, ap, ℕ, suc, ◌+◌, ◌*◌, ◌/◌, ◌%◌, ◌-◌, ◌<◌, ◌==◌, ◌||◌, ◌&&◌, Bool, true, false, cond, List, ◌++◌, length, filter, get_or, take, sum_by, Some, slice_get, ℤ, pos, ◌+ℤ◌, ◌-ℤ◌, arith}
 use Rattle.std.specs.List.{enumerate_from}
 use Rattle.std.proofs.lemmas.Bool.{eq-eqb, ne_eqb, eqb-true, cond-true, cond-false}
 use Rattle.std.proofs.lemmas.Option.{slice_get_within, slice_get-get_or}
@@ -10,13 +10,9 @@ use Rattle.cov_types.specs.declared.seg.Seg.{Seg}
 use Rattle.crossing_laws.specs.Crossing.{int_sum_by}
 use Rattle.plane.specs.Label.{numbers_below}
 use Rattle.plane.specs.Length.{edge_length}
-use Rattle.plane.specs.Point.{Point}
-use Rattle.plane.specs.Region.{IsSide}
-use Rattle.plane.specs.Segment.{upper, lower}
 use Rattle.arrangement.specs.Measure.{trapezoid, area_gain, region_area2, is_border, border_with}
 use Rattle.arrangement.specs.Overlay.{Overlay, region_at, label_of}
 use Rattle.half_edge.specs.Side.{across}
-use Rattle.arrangement.proofs.Numberings.{upper_side, lower_side}
 use Rattle.owner_label.specs.Labelled.{Labelled, IsOverlay}
 use Rattle.owner_label.specs.Lists.{sided_of}
 use Rattle.owner_label.specs.Grouped.{places_of}

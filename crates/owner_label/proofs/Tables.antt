@@ -1,8 +1,7 @@
 -- Labels that stand in one list: reading one, and writing one more.
 use mathlib.Core.List.{[], ◌∷◌}
-use Rattle.std.proofs.Common.{◌≡◌, refl, sym, ◌∙◌, ap, subst, ℕ, zero, suc, ◌+◌, ◌≤◌, ◌<◌, List, ◌++◌, map, set, replicate, length, get_or, take, drop, Some, slice_get, arith}
-use Rattle.std.specs.Prelude.{All}
-use Rattle.std.proofs.lemmas.List.{length-map, length-append, take-append-le, take_all, drop_at, get_or-map, get_or-replicate, length-replicate, map-set, length-set}
+use Rattle.std.proofs.Common.{◌≡◌, refl, sym, ◌∙◌, ap, subst, ℕ, zero, suc, ◌≤◌, ◌<◌, List, ◌++◌, set, replicate, length, get_or, take, drop, Some, slice_get, arith}
+use Rattle.std.proofs.lemmas.List.{length-map, length-append, take-append-le, take_all, drop_at, get_or-map, get_or-replicate, length-replicate, map-set}
 use Rattle.std.proofs.lemmas.List.Elements.{All-head, All-tail, All-weaker, All-set}
 use Rattle.std.proofs.lemmas.Option.{slice_get-get_or}
 use Rattle.std.proofs.lemmas.Slice.{between_is}

@@ -1,5 +1,3 @@
-use Rattle.std.proofs.Common.{arith}
-use Rattle.std.proofs.lemmas.List.{length_push}
 use Rattle.owner_label.proofs.Merging.{members-more, longer_push}
 use Rattle.owner_label.proofs.toggle.append_members.Goals as goal
 

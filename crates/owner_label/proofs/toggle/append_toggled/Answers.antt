@@ -1,4 +1,4 @@
-use Rattle.std.proofs.Common.{◌≤◌, ◌<◌, ◌⊎◌, ◌≡◌, ◌∙◌, ap, sym, length, drop, inl, inr, ◌++◌, arith}
+use Rattle.std.proofs.Common.{◌≤◌, ◌<◌, ◌⊎◌, ◌∙◌, ap, length, inl, inr, ◌++◌, arith}
 use Rattle.std.proofs.lemmas.List.{get_or_read, take_rest}
 use Rattle.std.proofs.lemmas.Result.{on_ok_weaker}
 use Rattle.owner_label.specs.Members.{members_at}

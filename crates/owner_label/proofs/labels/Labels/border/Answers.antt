@@ -1,7 +1,5 @@
-use Rattle.std.proofs.Common.{◌≡◌, ◌∙◌, ap, length, sum_by, take, arith}
+use Rattle.std.proofs.Common.{◌∙◌, ap, sum_by, arith}
 use Rattle.std.proofs.lemmas.List.{take_all}
-use Rattle.arrangement.specs.Overlay.{Overlay}
-use Rattle.owner_label.specs.Labelled.{IsOverlay}
 use Rattle.owner_label.specs.Lists.{sided_of}
 use Rattle.owner_label.specs.Sides.{side_length, is_single}
 use Rattle.owner_label.proofs.Overlays.{sides_within, sides_here, sides_small}

@@ -1,4 +1,3 @@
-use Rattle.std.proofs.Common.{arith}
 use Rattle.owner_label.specs.Lists.{sided_of}
 use Rattle.owner_label.proofs.Overlays.{region_within, label_value, label_points, label_outer, label_differs, some_overlay}
 use Rattle.owner_label.proofs.labels.Labels.label.Goals as goal

@@ -1,4 +1,3 @@
-use Rattle.std.proofs.Common.{arith}
 use Rattle.owner_label.proofs.Ready.{label_beside}
 use Rattle.owner_label.proofs.Sides.{across_within}
 use Rattle.owner_label.proofs.labels.Labels.label_across.Goals as goal

@@ -1,5 +1,5 @@
 use mir.Syntax.{w128}
-use Rattle.std.proofs.Common.{◌∙◌, ◌<◌, ◌^◌, ℤ, ap, to_z, take, arith}
+use Rattle.std.proofs.Common.{◌∙◌, ◌<◌, ◌^◌, ℤ, ap, to_z, arith}
 use Rattle.std.proofs.lemmas.List.{take_all}
 use Rattle.crossing_laws.specs.Crossing.{int_sum_by}
 use Rattle.owner_label.specs.Lists.{sided_of}

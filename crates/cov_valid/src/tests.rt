@@ -158,7 +158,9 @@ fn many_holes_in_a_mixed_order_are_without_fault(rt: HostRuntime) -> Result<(), 
     assert!(rt; in_range(&c));
     let list = uses(alloc, &c)?;
     assert_eq!(rt; list.len(), 244);
-    assert!(rt; list.iter().all(|edge| plain_kind(&list, 2, *edge).is_none()));
+    for edge in &list {
+        assert!(rt; plain_kind(&list, 2, *edge).is_none());
+    }
     assert!(rt; marks(alloc, &c, 0)?.is_empty());
     Ok(())
 }

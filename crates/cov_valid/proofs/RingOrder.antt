@@ -1,5 +1,5 @@
 -- Boxes along a curve: how their order is made, and that a query of their tree gives the numbers of the boxes that touch, ascending.
-use Rattle.std.proofs.Common.{pos, ◌≡◌, refl, sym, ◌∙◌, ap, subst, ℕ, ◌+◌, ◌<◌, ◌≤◌, ◌==◌, Bool, true, List, [], ◌∷◌, ◌++◌, length, get_or, map, take, All, Contains, IsPermutation, IsSorted, Some, nat_cmp, eqb, arith, inl, inr}
+use Rattle.std.proofs.Common.{pos, ◌≡◌, sym, ◌∙◌, ap, subst, ℕ, ◌+◌, ◌<◌, ◌≤◌, Bool, List, [], ◌∷◌, ◌++◌, length, get_or, map, take, All, Contains, IsPermutation, IsSorted, Some, nat_cmp, eqb, arith, inl, inr}
 use Rattle.std.specs.Prelude.{AllPairs, slice_get}
 use Rattle.std.specs.Cmp.{nat_eq_equiv}
 use Rattle.std.proofs.lemmas.Bool.{cases_lt}
@@ -11,13 +11,13 @@ use Rattle.std.proofs.lemmas.List.Quantifiers.{all_pairs_push}
 use Rattle.std.proofs.lemmas.List.Sorted.{All-permutation, Contains-permutation, IsPermutation-map, IsPermutation-sym, IsNonDecreasingBy-from_sort}
 use Rattle.std.proofs.lemmas.Map.Keys.{IsDistinct-IsPermutation, IsStrictlyIncreasing-from_distinct}
 use Rattle.std.proofs.lemmas.Map.Made.{AllPairs-from_IsDistinct, IsDistinct-from_AllPairs}
-use Rattle.std.proofs.lemmas.Option.{slice_get-get_or, slice_get_within, get_or_from_slice_get}
+use Rattle.std.proofs.lemmas.Option.{slice_get-get_or, slice_get_within}
 use Rattle.box_tree.proofs.PlaceLaws.{place_in, place_below, places_ascend}
 use Rattle.box_tree.specs.Places.{places}
 use Rattle.box_tree.specs.Rect.{box_of_point}
 use Rattle.box_tree.specs.declared.rect.Rect.{Rect}
 use Rattle.cov_valid.proofs.Ascending.{same_ascending}
-use Rattle.cov_valid.specs.RingTree.{AreFirstNumbers, AreMoved, AreAlong}
+use Rattle.cov_valid.specs.RingTree.{AreFirstNumbers, AreAlong}
 
 -- ---- numbers that differ
 

@@ -100,11 +100,7 @@ fn boxes_at(alloc: Global, boxes: &[Rect], order: &[usize]) -> Result<Vec<Rect>,
 }
 
 // The numbers at these places of the order, written over `found`.
-fn numbers_into(
-    order: &[usize],
-    places: &[usize],
-    found: &mut Vec<usize>,
-) -> Result<(), NoMemory>
+fn numbers_into(order: &[usize], places: &[usize], found: &mut Vec<usize>) -> Result<(), NoMemory>
     requires { All (λ k. k < length order.now) places.now }
     ensures { OnOk result (found.new.items ≡ map (λ k. slice_index_or order.now k 0) places.now) }
 {

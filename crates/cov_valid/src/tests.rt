@@ -171,7 +171,10 @@ fn triangle_at(alloc: Global, n: u32) -> Result<Ring, AllocError> {
     let row = (n / 8 % 5) as i32;
     let x = column.wrapping_mul(4).wrapping_add(2);
     let y = row.wrapping_mul(4).wrapping_add(2);
-    ring(alloc, &[(x, y), (x.wrapping_add(2), y), (x, y.wrapping_add(2))])
+    ring(
+        alloc,
+        &[(x, y), (x.wrapping_add(2), y), (x, y.wrapping_add(2))],
+    )
 }
 
 #[test]

@@ -1,6 +1,6 @@
 -- The places in a list of boxes, and the boxes of segments that have a point in common.
 use mathlib.Core.List.{List, [], ◌∷◌}
-use Rattle.std.proofs.Common.{◌≡◌, refl, sym, ◌∙◌, ap, subst, ℕ, zero, suc, ◌+◌, ◌<◌, ◌≤◌, Bool, true, false, cond, length, get_or, Contains, true≢false, arith, ℤ, pos, neg_ℤ, ◌+ℤ◌, ◌-ℤ◌, ◌*ℤ◌, ◌≤ℤ◌, IsTrue, inl, inr, ◌⊎◌}
+use Rattle.std.proofs.Common.{◌≡◌, refl, sym, ◌∙◌, subst, ℕ, zero, suc, ◌+◌, ◌<◌, Bool, true, false, cond, length, get_or, Contains, true≢false, arith, ℤ, pos, neg_ℤ, ◌-ℤ◌, ◌*ℤ◌, ◌≤ℤ◌, inl, inr, ◌⊎◌}
 use Rattle.std.specs.Int.{int_min, int_max}
 use Rattle.std.proofs.lemmas.Int.{ints, clamps}
 use Rattle.crossing_laws.proofs.Lists.{contains_here, contains_there}
@@ -11,7 +11,7 @@ use Rattle.box_tree.proofs.Touching.{is_touching-is}
 use Rattle.cov_types.specs.declared.seg.Seg.{Seg}
 use Rattle.integer_laws.proofs.Order.{cancel_le_right}
 use Rattle.integer_laws.proofs.Compare.{le_trans}
-use Rattle.integer_laws.proofs.Ring.{lin, mul_one, one_mul, mul_comm, neg_mul, zero_mul}
+use Rattle.integer_laws.proofs.Ring.{lin, mul_one, one_mul, neg_mul, zero_mul}
 use Rattle.plane.specs.Contact.{MeetsBadly}
 use Rattle.plane.specs.Point.{Point, at_coord}
 use Rattle.plane.specs.Segment.{IsOn}

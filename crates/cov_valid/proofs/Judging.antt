@@ -1,17 +1,16 @@
 -- From the faults among the users of a segment to the kinds of the uses.
-use Rattle.std.proofs.Common.{◌≡◌, refl, sym, ap, ◌∙◌, subst, ℕ, suc, ◌+◌, ◌-◌, ◌<◌, ◌≤◌, ◌↔◌, Bool, true, false, IsTrue, List, [], ◌∷◌, ◌++◌, length, get_or, set, drop, replicate, All, Contains, arith, inl, inr, Option, Some, None}
-use Rattle.std.specs.Prelude.{AllPairs, slice_get, MatchOption}
-use Rattle.std.proofs.lemmas.Bool.{cases_lt, cases_eq, cases_Bool, false≢true, iff_false}
-use Rattle.std.proofs.lemmas.List.{get_or_default, get_or_append_left, get_or_push, length_push, get_or-set_same, get_or-set_other, length-set, length-replicate, drop_more, drop_all}
-use Rattle.std.proofs.lemmas.List.Elements.{Contains-get_or}
-use Rattle.std.proofs.lemmas.Option.{same_Some, slice_get-get_or, slice_get_within, get_or_from_slice_get}
+use Rattle.std.proofs.Common.{◌≡◌, refl, sym, ap, ◌∙◌, subst, ℕ, suc, ◌+◌, ◌-◌, ◌<◌, ◌≤◌, ◌↔◌, Bool, true, false, List, [], ◌∷◌, ◌++◌, length, get_or, set, drop, All, Contains, arith, inl, inr, Option, Some, None}
+use Rattle.std.specs.Prelude.{slice_get}
+use Rattle.std.proofs.lemmas.Bool.{cases_lt, false≢true}
+use Rattle.std.proofs.lemmas.List.{get_or_default, get_or_append_left, get_or_push, length_push, get_or-set_same, get_or-set_other, length-set, drop_more, drop_all}
+use Rattle.std.proofs.lemmas.Option.{slice_get-get_or, slice_get_within, get_or_from_slice_get}
 use Rattle.cov_types.specs.Range.{IsSegInRange}
 use Rattle.cov_types.specs.declared.edge_use.EdgeUse.{EdgeUse}
 use Rattle.cov_types.specs.declared.seg.Seg.{Seg}
 use Rattle.cov_valid.proofs.GroupUsers.{AreUsers, use_is, contains_at, at_contains, entry_of, entry_at, users_are, places_apart}
-use Rattle.cov_valid.specs.Among.{IsTwice, HasPeer, HasGuest, IsFaultlessAmong, IsKindAmong, AddsKinds}
-use Rattle.cov_valid.specs.Contacts.{AreContacts, IsMet}
-use Rattle.cov_valid.specs.Entries.{IsEntry, AreEntries, AreTogether}
+use Rattle.cov_valid.specs.Among.{HasPeer, HasGuest, IsFaultlessAmong, IsKindAmong, AddsKinds}
+use Rattle.cov_valid.specs.Contacts.{IsMet}
+use Rattle.cov_valid.specs.Entries.{AreEntries}
 use Rattle.cov_valid.specs.Groups.{IsGroup, AreGroupsInRow, AreMembers}
 use Rattle.cov_valid.specs.Holders.{AreHolders}
 use Rattle.cov_valid.specs.Judged.{IsKindOf, use_of, AreSorted, AreGroups, AreJudged, AreKinds}

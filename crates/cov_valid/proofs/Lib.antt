@@ -1,4 +1,5 @@
 pub mod About
+pub mod Ascending
 pub mod Peers
 pub mod Boxes
 pub mod Grouping
@@ -8,6 +9,7 @@ pub mod Meeting
 pub mod Numbers
 pub mod Presence
 pub mod RingBoxes
+pub mod RingOrder
 pub mod Runs
 pub mod Searches
 pub mod Sorting

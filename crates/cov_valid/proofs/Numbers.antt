@@ -1,5 +1,5 @@
 -- Numbers as the code reads them, in 32 and 64 bits.
-use Rattle.std.proofs.Common.{◌≡◌, refl, sym, ◌∙◌, ap, ◌^◌, Bool, true, false, not, IsTrue, ◌↔◌, int_lt, int_le, ℤ, pos, neg_ℤ, ◌+ℤ◌, ◌*ℤ◌, ◌≤ℤ◌, ◌<ℤ◌, to_z, of_z, w32, w64, arith}
+use Rattle.std.proofs.Common.{◌≡◌, refl, sym, ◌∙◌, ap, ◌^◌, Bool, true, false, not, IsTrue, ◌↔◌, int_lt, int_le, ℤ, pos, neg_ℤ, ◌+ℤ◌, ◌*ℤ◌, ◌≤ℤ◌, to_z, of_z, w32, w64, arith}
 use Rattle.std.proofs.lemmas.Int.{to_z-of_z}
 use Rattle.integer_laws.proofs.Cast.{fits_i32_is, fits_i64_is}
 use Rattle.integer_laws.proofs.Compare.{int_le_is, not_int_lt_is}

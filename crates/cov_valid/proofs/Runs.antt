@@ -1,5 +1,5 @@
 -- The members that hold a midpoint, run by run.
-use Rattle.std.proofs.Common.{◌≡◌, refl, sym, ◌∙◌, ap, ap₂, subst, ℕ, zero, suc, ◌+◌, ◌-◌, ◌*◌, ◌%◌, ◌<◌, ◌≤◌, ◌==◌, ◌↔◌, Bool, true, false, not, ◌&&◌, cond, List, [], ◌∷◌, ◌++◌, length, get_or, take, drop, All, Contains, count_by, arith, inl, inr, length-take, length-drop, ℤ, pos, int_le, int_lt, ◌+ℤ◌, ◌*ℤ◌, ◌≤ℤ◌, ◌<ℤ◌}
+use Rattle.std.proofs.Common.{◌≡◌, refl, sym, ◌∙◌, ap, ap₂, subst, ℕ, suc, ◌+◌, ◌-◌, ◌%◌, ◌<◌, ◌≤◌, ◌==◌, ◌↔◌, Bool, true, false, not, ◌&&◌, cond, List, [], ◌∷◌, ◌++◌, length, get_or, take, drop, All, Contains, count_by, arith, inl, inr, length-take, length-drop, ℤ, pos, int_le, int_lt, ◌+ℤ◌, ◌*ℤ◌, ◌≤ℤ◌, ◌<ℤ◌}
 use Rattle.std.specs.Int.{int_min, int_max}
 use Rattle.std.specs.Prelude.{AllPairs, slice_range}
 use Rattle.std.proofs.lemmas.Bool.{and_from, and_parts, cases_Bool, and_left, and_right, false≢true, cases_eq, eq-eqb, ne_eqb}
@@ -29,7 +29,7 @@ use Rattle.integer_laws.proofs.Ring.{lin, pos_times}
 use Rattle.parity_laws.proofs.Members.{member_runs}
 use Rattle.parity_laws.proofs.Parts.{odd_sum, odd_one, run-higher}
 use Rattle.parity_laws.specs.Paths.{differ}
-use Rattle.parity_laws.specs.Runs.{run_holds, runs_hold}
+use Rattle.parity_laws.specs.Runs.{run_holds}
 use Rattle.plane.proofs.Sweeps.{rises-in_range}
 use Rattle.plane.specs.Parity.{member_holds}
 use Rattle.plane.specs.Point.{Point}

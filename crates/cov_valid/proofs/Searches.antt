@@ -1,5 +1,5 @@
 -- What a search through a list answers.
-use Rattle.std.proofs.Common.{◌≡◌, ℕ, ◌<◌, ◌≤◌, List, length, get_or, Contains, sym, subst, arith}
+use Rattle.std.proofs.Common.{ℕ, ◌≤◌, List, length, Contains, sym, subst, arith}
 use Rattle.std.specs.List.{AllWithin}
 
 -- where no element of the list has the fact before its end, none has it

@@ -1,25 +1,23 @@
 -- Entries as they are made, and sorted.
-use Rattle.std.proofs.Common.{◌≡◌, refl, sym, ◌∙◌, ap, subst, ℕ, ◌+◌, ◌<◌, ◌≤◌, Bool, true, false, not, ◌&&◌, ◌||◌, List, [], ◌∷◌, ◌++◌, length, get_or, map, All, Contains, IsSorted, IsTrue, arith, inl, inr, Some, nat_cmp, is_lt, is_gt, Ordering, Less, Equal, Greater, true≢false, cond, nat_lt, length-append, ◌==◌, eqb}
+use Rattle.std.proofs.Common.{◌≡◌, refl, sym, ◌∙◌, ap, subst, ℕ, ◌+◌, ◌<◌, ◌≤◌, Bool, true, false, List, [], ◌∷◌, ◌++◌, length, get_or, map, All, Contains, IsSorted, arith, inl, inr, Some, nat_cmp, is_lt, is_gt, Ordering, Less, Equal, Greater, true≢false, cond, nat_lt, length-append, ◌==◌, eqb}
 use Rattle.std.specs.Prelude.{AllPairs, slice_get}
 use Rattle.std.specs.List.Sorted.{IsPermutation}
 use Rattle.std.specs.Cmp.{IsTotalOrder}
 use Rattle.std.specs.Ordering.{ordering_then}
-use Rattle.std.proofs.lemmas.Bool.{or_parts, and_cases, cases_lt, ltb-false, lt-ltb, eqb-true, not-false}
+use Rattle.std.proofs.lemmas.Bool.{cases_lt, lt-ltb}
 use Rattle.std.proofs.lemmas.Bool.Decides.{Decides-eqb}
 use Rattle.std.proofs.lemmas.Cmp.{nat_cmp_total, then_total}
-use Rattle.std.proofs.lemmas.List.{length-map, get_or-map, get_or_append_left, get_or_default}
-use Rattle.std.proofs.lemmas.List.Elements.{All-nil, All-push, All-contains, Contains-get_or}
+use Rattle.std.proofs.lemmas.List.{length-map, get_or-map, get_or_append_left}
+use Rattle.std.proofs.lemmas.List.Elements.{All-nil, All-push, Contains-get_or}
 use Rattle.std.proofs.lemmas.List.Sorted.{ranks_by, sorted_far, Contains-permutation, All-permutation, IsPermutation-map}
 use Rattle.std.specs.Cmp.{nat_eq_equiv}
 use Rattle.std.proofs.lemmas.Map.Keys.{IsDistinct-IsPermutation}
 use Rattle.std.proofs.lemmas.Map.Made.{AllPairs-from_IsDistinct, IsDistinct-from_AllPairs}
 use Rattle.std.proofs.lemmas.Option.{slice_get-get_or}
 use Rattle.std.proofs.Math.Seq.{get_or-append_seam}
-use Rattle.box_tree.specs.Curve.{curve_of}
 use Rattle.cov_types.proofs.SegOrder.{seg_cmp_total, is_lt-seg_cmp, is_gt-seg_cmp, is_seg_before-irrefl, same_segs_from_neither}
 use Rattle.cov_types.specs.Seg.{seg_cmp, is_seg_before}
 use Rattle.cov_types.specs.declared.edge_use.EdgeUse.{EdgeUse}
-use Rattle.cov_types.specs.declared.seg.Seg.{Seg}
 use Rattle.cov_valid.specs.Entries.{curve_of_seg, IsEntry, ArePlaced, AreEntries, AreTogether, entry_cmp}
 use Rattle.cov_valid.specs.declared.entry.Entry.{Entry}
 

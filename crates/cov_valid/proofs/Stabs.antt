@@ -1,5 +1,5 @@
 -- What uses hold of a midpoint, by where their boxes lie.
-use Rattle.std.proofs.Common.{◌≡◌, refl, sym, ◌∙◌, ap, ap₂, subst, ℕ, ◌+◌, ◌*◌, ◌/◌, ◌%◌, ◌<◌, ◌≤◌, ◌==◌, Bool, true, false, not, ◌&&◌, cond, List, [], ◌∷◌, ◌++◌, length, get_or, take, All, count_by, arith, inl, inr, ⊎_elim, IsTrue, int_le, int_lt, ℤ, pos, ◌+ℤ◌, ◌*ℤ◌, ◌<ℤ◌, ◌≤ℤ◌, true≢false}
+use Rattle.std.proofs.Common.{◌≡◌, sym, ◌∙◌, ap, subst, ℕ, ◌+◌, ◌*◌, ◌/◌, ◌%◌, ◌<◌, ◌≤◌, ◌==◌, Bool, true, false, ◌&&◌, cond, List, [], ◌∷◌, length, get_or, take, All, count_by, arith, inl, inr, int_le, int_lt, ℤ, pos, ◌+ℤ◌, ◌*ℤ◌, ◌<ℤ◌, ◌≤ℤ◌, true≢false}
 use Rattle.std.proofs.Math.Nat.{div-mul-le_self}
 use Rattle.std.proofs.lemmas.Bool.{cases_Bool, and_from}
 use Rattle.std.proofs.lemmas.List.{take_more}
@@ -15,14 +15,14 @@ use Rattle.cov_types.specs.declared.ring_run.RingRun.{RingRun}
 use Rattle.cov_types.specs.declared.seg.Seg.{Seg}
 use Rattle.cov_valid.proofs.About.{in_block, block_of}
 use Rattle.cov_valid.proofs.Boxes.{lesser, greater}
-use Rattle.cov_valid.specs.Levels.{IsLevel, AreAbout, twice_middle}
+use Rattle.cov_valid.specs.Levels.{IsLevel, twice_middle}
 use Rattle.cov_valid.specs.declared.level.Level.{Level}
 use Rattle.integer_laws.proofs.Compare.{int_le_is, int_lt_is}
 use Rattle.integer_laws.proofs.Ring.{lin, mul_comm, pos_times}
 use Rattle.parity_laws.proofs.Parts.{odd_sum, odd_one, part-none_over, part-higher}
 use Rattle.parity_laws.proofs.Under.{over_under}
 use Rattle.parity_laws.specs.Paths.{differ, is_started, IsHigher, IsUnder}
-use Rattle.parity_laws.specs.Runs.{part_holds, place_in, AreHigher}
+use Rattle.parity_laws.specs.Runs.{part_holds, place_in}
 use Rattle.plane.specs.Point.{Point}
 use Rattle.plane.specs.Ray.{is_over}
 use Rattle.plane.specs.Segment.{midpoint}

@@ -1,5 +1,5 @@
 -- The kinds of the faults of uses, in the order of the entries and in that of the uses.
-use Rattle.std.specs.Prelude.{◌≡◌, ℕ, ◌<◌, List, length, All, AllPairs, Option, MatchOption, slice_index_or}
+use Rattle.std.specs.Prelude.{◌≡◌, ℕ, ◌<◌, List, length, All, Option, MatchOption, slice_index_or}
 use Rattle.cov_types.specs.Range.{IsSegInRange}
 use Rattle.cov_types.specs.declared.edge_use.EdgeUse.{EdgeUse}
 use Rattle.cov_valid.specs.Entries.{AreEntries, AreTogether}

@@ -8,4 +8,5 @@ pub mod Kinds
 pub mod Levels
 pub mod Marks
 pub mod Parts
+pub mod RingTree
 pub mod RunIndex

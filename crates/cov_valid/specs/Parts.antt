@@ -1,7 +1,6 @@
 -- Parts of the runs of an outline, and what is known of the outline where they are looked at.
 use Rattle.std.specs.Prelude.{◌≡◌, ℕ, ◌≤◌, List, All}
 use Rattle.cov_types.specs.Range.{IsSegInRange}
-use Rattle.cov_types.specs.Rings.{IsRing}
 use Rattle.cov_types.specs.declared.outline.Outline.{Outline}
 use Rattle.cov_types.specs.declared.ring_run.RingRun.{RingRun}
 use Rattle.cov_types.specs.declared.seg.Seg.{Seg}

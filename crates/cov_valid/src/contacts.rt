@@ -3,8 +3,7 @@ ghost use Rattle.cov_types.specs.Range.{IsSegInRange};
 ghost use Rattle.cov_valid.specs.Contacts.{boxes_of, AreContacts, IsMetAt};
 
 use crate::group::Group;
-use crate::hull::hull_of;
-use box_tree::{BoxTree, Probe, Rect, narrow_into};
+use box_tree::{BoxTree, Probe, Rect, hull_of, narrow_into};
 use cov_types::{NoMemory, Seg};
 use grid_pred::meets_badly;
 use std::alloc::Global;

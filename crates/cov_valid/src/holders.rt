@@ -8,7 +8,7 @@ ghost use Rattle.plane.specs.Segment.{midpoint};
 
 use crate::run::run_holds;
 use crate::run_index::RunIndex;
-use box_tree::{Probe, Rect};
+use box_tree::Rect;
 use cov_types::{NoMemory, Outline, Seg};
 use std::alloc::Global;
 
@@ -38,10 +38,10 @@ impl Holders {
         requires in_range { IsSegInRange s }
         ensures { OnOk result (AreHolders outline.now.uses.items (midpoint s) self.new.members.items) }
     {
-        let probe = Probe::Box(Rect::of_segment(s));
+        let own = Rect::of_segment(s);
         index
             .rings
-            .meeting_into(&probe, &mut self.rings, &mut self.spare)?;
+            .meeting_into(own, &mut self.rings, &mut self.spare)?;
         members_into(outline, index, &self.rings, s, &mut self.members)
     }
 }

@@ -4,7 +4,8 @@ ghost use Rattle.cov_types.specs.Rings.{IsRing};
 ghost use Rattle.cov_valid.specs.RunIndex.{AreRingBoxes, IsIndexed};
 
 use crate::level::{Level, box_about, levels_of};
-use box_tree::{BoxTree, Rect};
+use crate::ring_tree::RingTree;
+use box_tree::Rect;
 use cov_types::{NoMemory, Outline};
 use std::alloc::Global;
 
@@ -12,19 +13,19 @@ use std::alloc::Global;
 #[derive(Drop)]
 pub struct RunIndex {
     /// The boxes about the rings, in their order.
-    pub rings: BoxTree,
+    pub rings: RingTree,
     /// The boxes about blocks of uses.
     pub levels: Vec<Level>,
 }
 
 impl RunIndex {
-    /// Linear in time and memory.
+    /// Takes linear memory, and n log n time for n rings beside what is linear.
     pub fn build(alloc: Global, outline: &Outline) -> Result<RunIndex, NoMemory>
         requires in_range { All (λ u. IsSegInRange u.seg) outline.now.uses.items }
         requires round { All (IsRing outline.now.uses.items outline.now.starts.items) outline.now.rings.items }
         ensures { IfOk result (λ index. IsIndexed outline.now index) }
     {
-        let rings = BoxTree::build(alloc, ring_boxes(alloc, outline)?)?;
+        let rings = RingTree::build(alloc, ring_boxes(alloc, outline)?)?;
         let levels = levels_of(alloc, &outline.uses)?;
         Ok(RunIndex { rings, levels })
     }

@@ -136,6 +136,47 @@ fn a_midpoint_on_the_border_of_the_range_counts_a_vertex_once(rt: HostRuntime) -
     Ok(())
 }
 
+// A frame with many holes, and a member that fills them: the rings stand in an order that leaps about the plane.
+#[test]
+fn many_holes_in_a_mixed_order_are_without_fault(rt: HostRuntime) -> Result<(), Fail> {
+    let alloc = rt.alloc();
+    let mut rings = Vec::new(alloc);
+    let mut polys = Vec::new(alloc);
+    rings.push(ring(alloc, &[(0, 0), (34, 0), (34, 22), (0, 22)])?)?;
+    for i in 0..40u32 {
+        rings.push(triangle_at(alloc, i.wrapping_mul(17))?)?;
+        let mut filled = Vec::new(alloc);
+        filled.push(triangle_at(alloc, i.wrapping_mul(23))?)?;
+        polys.push(Poly { rings: filled })?;
+    }
+    let mut frame = Vec::new(alloc);
+    frame.push(Poly { rings })?;
+    let mut members = Vec::new(alloc);
+    members.push(Member { polys: frame })?;
+    members.push(Member { polys })?;
+    let c = Coverage { members };
+    assert!(rt; in_range(&c));
+    let list = uses(alloc, &c)?;
+    assert_eq!(rt; list.len(), 244);
+    for edge in &list {
+        assert!(rt; plain_kind(&list, 2, *edge).is_none());
+    }
+    assert!(rt; marks(alloc, &c, 0)?.is_empty());
+    Ok(())
+}
+
+/// A triangle at one of forty places, row by row.
+fn triangle_at(alloc: Global, n: u32) -> Result<Ring, AllocError> {
+    let column = (n % 8) as i32;
+    let row = (n / 8 % 5) as i32;
+    let x = column.wrapping_mul(4).wrapping_add(2);
+    let y = row.wrapping_mul(4).wrapping_add(2);
+    ring(
+        alloc,
+        &[(x, y), (x.wrapping_add(2), y), (x, y.wrapping_add(2))],
+    )
+}
+
 #[test]
 fn the_marks_are_those_of_the_definition_read_use_by_use(rt: HostRuntime) -> Result<(), Fail> {
     let alloc = rt.alloc();

@@ -44,6 +44,7 @@ fn side_over_ray(a: &Arena, cycles: &Cycles, h: usize) -> Option<usize>
     requires within { h < 2 * length a.now }
     ensures { AnswersOverRay a.now cycles.now.of.items cycles.now.list.items h result }
 {
+    // The edges of an arena are planar and distinct.
     let _sides = a.len();
     let side = a.next(h);
     let cycle = cycles.list[cycles.of[side]];
@@ -79,6 +80,7 @@ fn links_down(
     requires count { length below.now ≡ length sides.now }
     ensures { IfOk result (λ v. AreLinksOf a.now cycles.now.of.items cycles.now.list.items sides.now below.now v.items) }
 {
+    // The edges of an arena are planar and distinct.
     let _sides = a.len();
     let mut links = Vec::new(alloc);
     for (i, side) in sides.iter().enumerate() {
@@ -96,6 +98,7 @@ fn cycle_below(a: &Arena, cycles: &Cycles, edge: Option<usize>) -> usize
     requires within { IsPlaceWithin a.now edge }
     ensures { result ≡ slice_index_or cycles.now.of.items (place_below a.now edge) (length cycles.now.list.items) }
 {
+    // The edges of an arena are planar and distinct.
     let _sides = a.len();
     match edge {
         Some(k) => cycles.of[Side::upper(k).number()],

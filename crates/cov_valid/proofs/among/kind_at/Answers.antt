@@ -1,4 +1,4 @@
-use Rattle.std.proofs.Common.{◌≡◌, ◌⊎◌, Bool, true, false, get_or, inl, inr}
+use Rattle.std.proofs.Common.{inl, inr}
 use Rattle.std.proofs.lemmas.Bool.{iff_false}
 use Rattle.cov_valid.proofs.Peers.{IsShared, shared_is}
 use Rattle.cov_valid.proofs.among.kind_at.Goals as goal

@@ -1,8 +1,7 @@
-use Rattle.std.proofs.Common.{◌≡◌, ◌≤◌, List, length, get_or, All, ℕ, sym, ap, subst, ◌∙◌, arith, ◌<◌}
+use Rattle.std.proofs.Common.{◌≡◌, ◌≤◌, length, ap, ◌∙◌, arith, ◌<◌}
 use Rattle.std.proofs.lemmas.List.{length-map}
 use Rattle.box_tree.specs.Places.{places}
 use Rattle.box_tree.specs.Rect.{is_touching, box_of_segment}
-use Rattle.box_tree.specs.declared.rect.Rect.{Rect}
 use Rattle.cov_valid.proofs.Meeting.{in_hull, near_within, met_here, contacts_more}
 use Rattle.cov_valid.proofs.contacts.add_block.Goals as goal
 use Rattle.cov_valid.specs.Contacts.{boxes_of}

@@ -1,4 +1,4 @@
-use Rattle.std.proofs.Common.{◌≡◌, length}
+use Rattle.std.proofs.Common.{◌≡◌}
 use Rattle.box_tree.specs.Places.{places}
 use Rattle.box_tree.specs.Rect.{is_touching}
 use Rattle.cov_valid.specs.Contacts.{AreContacts, boxes_of}

@@ -1,5 +1,5 @@
 use Rattle.std.proofs.Common.{refl}
-use Rattle.cov_valid.proofs.Sorting.{placed_none, placed_more}
+use Rattle.cov_valid.proofs.Sorting.{placed_more}
 use Rattle.cov_valid.proofs.entry.entries_of.Goals as goal
 
 pub loop-place-preserved : goal.loop-place-preserved

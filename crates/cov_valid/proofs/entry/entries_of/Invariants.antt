@@ -1,4 +1,3 @@
-use Rattle.std.proofs.Common.{take}
 use Rattle.cov_valid.specs.Entries.{ArePlaced}
 use Rattle.cov_valid.proofs.entry.entries_of.Given as goal
 

@@ -1,4 +1,4 @@
-use Rattle.std.proofs.Common.{◌≡◌, sym, ◌∙◌, ap, get_or}
+use Rattle.std.proofs.Common.{ap, get_or}
 use Rattle.std.proofs.lemmas.List.{get_or_default}
 use Rattle.cov_valid.proofs.Grouping.{groups_more}
 use Rattle.cov_valid.proofs.group.groups_of.Goals as goal

@@ -1,4 +1,4 @@
-use Rattle.std.proofs.Common.{◌≡◌, ◌+◌, ◌↔◌, ℕ, false, IsTrue, List, Option, Vec, Global, length, get_or, drop, sym, ap, ◌∙◌, subst}
+use Rattle.std.proofs.Common.{◌≡◌, ◌+◌, ◌↔◌, ℕ, false, IsTrue, Option, Vec, Global, length, get_or, drop, sym, ap, ◌∙◌, subst}
 use Rattle.std.proofs.lemmas.Bool.{false≢true}
 use Rattle.cov_valid.proofs.Judging.{met_is, judged_met, next_group}
 use Rattle.cov_valid.proofs.kinds.kinds_of.Goals as goal

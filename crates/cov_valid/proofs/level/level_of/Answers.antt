@@ -1,4 +1,3 @@
-use Rattle.std.proofs.Common.{◌≡◌, [], sym, ◌∙◌, subst, append-nil}
 use Rattle.cov_valid.proofs.About.{all_blocks}
 use Rattle.cov_valid.proofs.level.level_of.Goals as goal
 

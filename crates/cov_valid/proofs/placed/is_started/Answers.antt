@@ -1,4 +1,4 @@
-use Rattle.std.proofs.Common.{◌≡◌, ◌^◌, ◌∙◌, ap, subst, int_le, int_lt, not, ℤ, pos, neg_ℤ, ◌+ℤ◌, ◌*ℤ◌, ◌≤ℤ◌, arith}
+use Rattle.std.proofs.Common.{◌≡◌, ◌^◌, ◌∙◌, ap, int_le, pos, ◌+ℤ◌, ◌*ℤ◌, arith}
 use Rattle.integer_laws.proofs.Ring.{lin}
 use Rattle.cov_types.specs.declared.coord.Coord.{Coord}
 use Rattle.cov_valid.proofs.Numbers.{read64, at_most_is, sweep_small}

@@ -1,4 +1,3 @@
-use Rattle.std.proofs.Common.{◌≡◌}
 use Rattle.cov_valid.proofs.Numbers.{sum_is}
 use Rattle.cov_valid.proofs.placed.twice_middle.Goals as goal
 

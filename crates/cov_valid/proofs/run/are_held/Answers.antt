@@ -1,4 +1,4 @@
-use Rattle.std.proofs.Common.{◌≡◌, ◌∙◌, sym, ap₂}
+use Rattle.std.proofs.Common.{◌∙◌, sym, ap₂}
 use Rattle.cov_valid.proofs.Stabs.{odd_more}
 use Rattle.cov_valid.proofs.run.are_held.Goals as goal
 use Rattle.parity_laws.specs.Paths.{differ}

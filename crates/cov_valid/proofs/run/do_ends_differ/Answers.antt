@@ -1,4 +1,4 @@
-use Rattle.std.proofs.Common.{◌≡◌, ◌<◌, ◌≤◌, sym, subst, arith}
+use Rattle.std.proofs.Common.{◌<◌, ◌≤◌, sym, subst, arith}
 use Rattle.cov_types.specs.Range.{IsInRange}
 use Rattle.cov_valid.proofs.Stabs.{start_in_range}
 use Rattle.cov_valid.proofs.run.do_ends_differ.Goals as goal

@@ -1,4 +1,4 @@
-use Rattle.std.proofs.Common.{◌≡◌, ◌∙◌, sym, ap₂, arith}
+use Rattle.std.proofs.Common.{◌∙◌, sym, ap₂, arith}
 use Rattle.cov_valid.proofs.run.run_holds.Goals as goal
 use Rattle.parity_laws.proofs.Parts.{part-joined}
 use Rattle.parity_laws.specs.Paths.{differ}

@@ -1,15 +1,11 @@
-use Rattle.std.proofs.Common.{◌≡◌, ◌<◌, ◌*◌, ◌/◌, false, length, sym, subst, ap, ◌∙◌, arith, refl, pos, ◌*ℤ◌, ◌<ℤ◌, Bool}
-use Rattle.std.proofs.lemmas.List.{get_or_default}
+use Rattle.std.proofs.Common.{◌≡◌, ◌<◌, ◌/◌, false, length, sym, subst, arith, pos, ◌*ℤ◌, ◌<ℤ◌}
 use Rattle.box_tree.specs.Probe.{is_above_point}
-use Rattle.box_tree.specs.declared.rect.Rect.{Rect}
 use Rattle.cov_types.specs.declared.coord.Coord.{Coord}
 use Rattle.cov_valid.proofs.Stabs.{AreIn, block_within, in_level, beside_holds, higher_holds}
 use Rattle.cov_valid.proofs.run.widest_block.Goals as goal
 use Rattle.cov_valid.proofs.run.widest_block.Goals.{in-Beside, in-Higher}
 use Rattle.cov_valid.specs.Levels.{IsLevel, IsPlaced, twice_middle}
 use Rattle.cov_valid.specs.Parts.{IsPart}
-use Rattle.cov_valid.specs.declared.level.Level.{Level}
-use Rattle.cov_valid.specs.declared.placed.Placed.{Placed}
 
 pub index-requires : goal.index-requires
 index-requires c =

@@ -1,4 +1,4 @@
-use Rattle.std.proofs.Common.{◌≡◌, ◌↔◌, Bool, IsTrue, true, false, List, sym, ◌∙◌, subst}
+use Rattle.std.proofs.Common.{◌↔◌, Bool, IsTrue, true, false, List, sym, ◌∙◌, subst}
 use Rattle.cov_valid.proofs.Peers.{adds_more, guest_is}
 use Rattle.cov_valid.proofs.among.Sides.add_kinds.Goals as goal
 use Rattle.cov_valid.specs.Among.{AreFaults, ArePresent, AreTwo, HasGuest}

@@ -1,4 +1,4 @@
-ghost use Rattle.shell_laws.specs.Laws.{WholeLaw, SimpleLaw, OutsideLaw, RegionPartLaw};
+ghost use Rattle.shell_laws.specs.Laws.{WholeLaw, SimpleLaw, OutsideLaw, RegionPartLaw, AllOrNoneLaw, OneShellLaw};
 
 /// Edges of a part's boundary with even ends have two half-edges that follow one another, or neither; so a way round a part passes no vertex twice. A call does nothing.
 pub fn part_law()
@@ -14,4 +14,10 @@ pub fn outside_law()
 /// A region that is not outer is a part. A call does nothing.
 pub fn region_law()
     ensures { RegionPartLaw }
+{}
+
+/// A ring round a part holds all of the part or none of it, and exactly one of the part's rings, its shell, holds it. A call does nothing.
+pub fn shell_law()
+    ensures all_or_none { AllOrNoneLaw }
+    ensures one_shell { OneShellLaw }
 {}

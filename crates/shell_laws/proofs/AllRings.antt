@@ -121,7 +121,7 @@ module _ (edges : List Seg) (passes : HalfEdge → Bool) where
 -- ---- one ring holds the part
 
 module _ (edges : List Seg) (planar : IsPlanar edges) (distinct : AreDistinct edges) (passes : HalfEdge → Bool) (part : IsPart edges passes) (rings : List (List HalfEdge)) (are : AreRings edges passes rings) where
-  test : IsSideTest edges passes
+  pub test : IsSideTest edges passes
   test = record { same = part.same; outside = part.outside }
 
   pub wind_all_side : (h : HalfEdge) → Contains edges h.edge → wind_all rings (left h) ≡ side_weight passes h

@@ -5,3 +5,5 @@ pub mod RegionPart
 pub mod Winding
 pub mod OneRing
 pub mod AllRings
+pub mod LeastVertex
+pub mod Points

@@ -24,10 +24,10 @@ by_direction P up down h = by h.edge h.forwards
     by e true = up e
     by e false = down e
 
-twin_from : (h : HalfEdge) → origin (twin h) ≡ target h
+pub twin_from : (h : HalfEdge) → origin (twin h) ≡ target h
 twin_from = by_direction (λ h. origin (twin h) ≡ target h) (λ e. refl) (λ e. refl)
 
-twin_to : (h : HalfEdge) → target (twin h) ≡ origin h
+pub twin_to : (h : HalfEdge) → target (twin h) ≡ origin h
 twin_to = by_direction (λ h. target (twin h) ≡ origin h) (λ e. refl) (λ e. refl)
 
 pub meets : (boundary : List Seg) (c k : HalfEdge) → IsTurn boundary c k → target c ≡ origin k

@@ -169,7 +169,7 @@ one_over true true = (1, refl)
 one_over true false = (0, refl)
 one_over false f = (0, refl)
 
-over_way : (way : List HalfEdge) (p : Point) → (n : ℕ) × (winds way p +ℤ pos (n + n) ≡ pos (count_by (λ e. is_over e p) (way_edges way)))
+pub over_way : (way : List HalfEdge) (p : Point) → (n : ℕ) × (winds way p +ℤ pos (n + n) ≡ pos (count_by (λ e. is_over e p) (way_edges way)))
 over_way [] p = (0, refl)
 over_way (h ∷ way) p =
     let rest = over_way way p in

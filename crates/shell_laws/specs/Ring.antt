@@ -1,11 +1,12 @@
 -- Rings round parts: closed ways, and the rings of a part.
-use Rattle.std.specs.Prelude.{Bool, ◌&&◌, not, List, [], ◌∷◌, ◌++◌, map, flat_map, All}
+use Rattle.std.specs.Prelude.{◌≡◌, Bool, true, Contains, ◌&&◌, not, List, [], ◌∷◌, ◌++◌, map, flat_map, All}
 use Rattle.std.specs.List.{list_any}
 use Rattle.std.specs.List.Sorted.{IsPermutation}
 use Rattle.cov_types.specs.declared.seg.Seg.{Seg}
+use Rattle.plane.specs.Joined.{Joined}
 use Rattle.plane.specs.Parity.{holds}
 use Rattle.plane.specs.Point.{Point}
-use Rattle.sector_laws.specs.Sector.{HalfEdge}
+use Rattle.sector_laws.specs.Sector.{HalfEdge, left}
 use Rattle.shell_laws.specs.Part.{boundary_of, AreTurns, IsWayRound}
 
 -- the edges of a way
@@ -34,3 +35,12 @@ ring_holds ring p = holds (way_edges ring) p
 -- p is in the shell and in no hole
 abbrev pub is_within : List HalfEdge → List (List HalfEdge) → Point → Bool
 is_within shell holes p = ring_holds shell p && not (list_any (λ hole. ring_holds hole p) holes)
+
+-- the last half-edge of a way that begins with h
+abbrev pub last_of : HalfEdge → List HalfEdge → HalfEdge
+last_of h [] = h
+last_of h (k ∷ way) = last_of k way
+
+-- p is in the part: joined with the left of a half-edge that passes
+abbrev pub IsInPart : List Seg → (HalfEdge → Bool) → Point → Type 0
+IsInPart edges passes p = (h : HalfEdge) × Contains edges h.edge × (passes h ≡ true) × Joined edges p (left h)

@@ -1,4 +1,4 @@
-ghost use Rattle.shell_laws.specs.Laws.{WholeLaw, SimpleLaw, OutsideLaw, RegionPartLaw, AllOrNoneLaw, OneShellLaw};
+ghost use Rattle.shell_laws.specs.Laws.{WholeLaw, SimpleLaw, OutsideLaw, RegionPartLaw, AllOrNoneLaw, OneShellLaw, LeastVertexLaw, InPartLaw, EvenOddLaw};
 
 /// Edges of a part's boundary with even ends have two half-edges that follow one another, or neither; so a way round a part passes no vertex twice. A call does nothing.
 pub fn part_law()
@@ -20,4 +20,15 @@ pub fn region_law()
 pub fn shell_law()
     ensures all_or_none { AllOrNoneLaw }
     ensures one_shell { OneShellLaw }
+{}
+
+/// At the least vertex of a ring the order of its two half-edges by angle tells whether it is the shell. A call does nothing.
+pub fn least_vertex_law()
+    ensures { LeastVertexLaw }
+{}
+
+/// Off the edges a point is in a part exactly where the shell holds it and no hole does, and exactly where the edges of all the part's rings hold it. A call does nothing.
+pub fn point_law()
+    ensures in_part { InPartLaw }
+    ensures even_odd { EvenOddLaw }
 {}

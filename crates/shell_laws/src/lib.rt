@@ -13,9 +13,11 @@
 //! - `Outside`: sides that are joined round the boundary alone are both in the part or both out (`outside_kept`).
 //! - `Winding`: how often a closed way winds round a point (`winds`). `OneRing`: a ring holds all of the part or none of it
 //!   (`all_or_none`). `AllRings`: all rings together wind once round the part, so exactly one of them holds it (`one_shell`).
+//! - `LeastVertex`: at its least vertex a ring tells whether it is the shell (`told_at_least`). `Points`: off the edges, in the part, in
+//!   the shell and in no hole, and held by all rings' edges are the same (`in_part_within`, `even_odd`).
 //! - `RegionPart`: a region that is not outer is a part (`region_part`).
 #![tactic(auto)]
 
 mod laws;
 
-pub use laws::{outside_law, part_law, region_law, shell_law};
+pub use laws::{least_vertex_law, outside_law, part_law, point_law, region_law, shell_law};

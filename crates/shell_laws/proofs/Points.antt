@@ -17,6 +17,7 @@ use Rattle.crossing_laws.proofs.Ways.{joined-fewer}
 use Rattle.sector_laws.specs.Sector.{HalfEdge, left, AreDistinct, IsPlanar}
 use Rattle.sector_laws.proofs.Angles.{true_or_false}
 use Rattle.region_owners.proofs.OwnEdges.{sum_joined, own_sum}
+use Rattle.region_laws.proofs.Balance.{first_or_later}
 use Rattle.region_laws.proofs.Edge.{below_joined, none_below_outer}
 use Rattle.region_laws.proofs.Nearest.{nearest_or_none}
 use Rattle.shell_laws.specs.Part.{IsPart}
@@ -34,6 +35,15 @@ zero_false false h = refl
 one_true : (b : Bool) → pos (cond b 1 0) ≡ pos 1 → b ≡ true
 one_true true h = refl
 one_true false h = absurd (omega (arith, lin))
+
+none_of : {X : Type 0} (f : X → Bool) (xs : List X) (x : X) → count_by f xs ≡ 0 → Contains xs x → f x ≡ false
+none_of f [] x none has = absurd (omega (arith, has.1))
+none_of f (y ∷ xs) x none has =
+    let sum = sum_by-cons (λ z. cond (f z) 1 0) y xs in
+    elim (first_or_later y xs x has) [
+      | inl here ↦ ap f (sym here) ∙ zero_false (f y) (omega (arith, sum, none))
+      | inr later ↦ none_of f xs x (omega (arith, sum, none)) later
+    ]
 
 any_or_none : {X : Type 0} (f : X → Bool) (xs : List X) → ((list_any f xs ≡ true) × (1 ≤ count_by f xs)) ⊎ ((list_any f xs ≡ false) × (count_by f xs ≡ 0))
 any_or_none f [] = inr (refl, refl)
@@ -132,6 +142,10 @@ module _ (edges : List Seg) (planar : IsPlanar edges) (distinct : AreDistinct ed
       let first = far edges planar passes part ring is p (joined-fewer edges (way_edges ring) (among edges planar passes part ring is) p far_point out) in
       let rest = none_outer p out some (All-tail (IsRing edges passes) ring some each) in
       omega (arith, lin)
+
+  -- no hole holds the part
+  pub no_hole : (hole : List HalfEdge) → Contains holes hole → ring_holds hole (left h) ≡ false
+  no_hole hole has = none_of (λ ring. ring_holds ring (left h)) holes hole holes_none has
 
   module _ (p : Point) (off : IsOff edges p) where
     total : wind_all rings p +ℤ pos (count_by (λ ring. ring_holds ring p) holes) ≡ pos (cond (ring_holds shell p) 1 0)

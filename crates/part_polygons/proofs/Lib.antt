@@ -1,0 +1,4 @@
+pub mod Sides
+pub mod Boundary
+pub mod Corners
+pub mod Sound

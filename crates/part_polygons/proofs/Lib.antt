@@ -2,3 +2,5 @@ pub mod Sides
 pub mod Boundary
 pub mod Corners
 pub mod Sound
+pub mod PartTest
+pub mod PolygonPoints

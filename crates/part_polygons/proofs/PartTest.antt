@@ -1,6 +1,6 @@
 -- A part of an owner is a part for half-edges: a test that is the same at joined side points, false outside, and connected.
 use mathlib.Core.List.{[], ◌∷◌}
-use Rattle.std.proofs.Common.{◌≡◌, ◌⊎◌, refl, sym, ◌∙◌, ap, subst, ℕ, zero, suc, ◌+◌, ◌*◌, ◌<◌, Bool, true, false, cond, List, length, IsTrue, Option, Some, inl, inr, arith}
+use Rattle.std.proofs.Common.{◌≡◌, refl, sym, ◌∙◌, ap, subst, ℕ, zero, suc, ◌+◌, ◌*◌, ◌<◌, Bool, true, false, List, length, Option, Some, inl, inr, arith}
 use Rattle.std.specs.Prelude.{Contains, slice_get}
 use Rattle.std.specs.List.{enumerate_from}
 use Rattle.std.proofs.lemmas.Bool.{false_from_ne_true}
@@ -15,7 +15,7 @@ use Rattle.crossing_laws.proofs.Ways.{joined-sym, joined-trans}
 use Rattle.sector_laws.specs.Sector.{HalfEdge, left, twin}
 use Rattle.sector_laws.proofs.Numbers.{half_edge_side, half_edge_among, forwards_number, back_number}
 use Rattle.region_laws.proofs.Balance.{first_or_later}
-use Rattle.arrangement.specs.Overlay.{Overlay, numbered_edges, region_above, region_below, AreBeside}
+use Rattle.arrangement.specs.Overlay.{Overlay, region_above, region_below, AreBeside}
 use Rattle.shell_laws.specs.Part.{LeadsAcross, IsPart}
 use Rattle.sound_polygons.specs.Parts.{LeadsWithin, InOnePart, IsPartOf}
 use Rattle.sound_polygons.proofs.SameParts.{part_equivalence}

@@ -1,22 +1,19 @@
 -- The rings of a part, its shell first, are a polygon that is sound for it.
 use mathlib.Core.List.{[], ◌∷◌}
-use Rattle.std.proofs.Common.{◌≡◌, refl, sym, ◌∙◌, ap, subst, ℕ, Bool, true, false, not, List, ◌++◌, map, flat_map, IsTrue, inl, inr, arith}
+use Rattle.std.proofs.Common.{◌≡◌, sym, ◌∙◌, ap, subst, ℕ, Bool, true, not, List, map, flat_map, IsTrue, inl, inr, arith}
 use Rattle.std.specs.Prelude.{Contains, All}
 use Rattle.std.specs.List.{list_all}
 use Rattle.std.proofs.lemmas.List.Elements.{All-nil, All-cons, All-contains, All-append, Contains-append_cases}
-use Rattle.cov_types.specs.declared.coord.Coord.{Coord}
 use Rattle.cov_types.specs.declared.seg.Seg.{Seg}
-use Rattle.cov_types.specs.Uses.{sides}
 use Rattle.plane.specs.Noded.{IsNodedFully}
 use Rattle.plane.specs.Parity.{holds}
 use Rattle.crossing_laws.proofs.Lists.{contains_here, contains_there}
 use Rattle.sector_laws.specs.Sector.{HalfEdge, left, AreDistinct, IsPlanar}
-use Rattle.region_laws.proofs.Balance.{first_or_later}
 use Rattle.arrangement.specs.Overlay.{Overlay}
 use Rattle.arrangement.proofs.LiveOverlays.{kept_is}
 use Rattle.shell_laws.specs.Laws.{HasShellFirst}
 use Rattle.shell_laws.specs.Part.{IsPart, is_border, boundary_of, IsTurn}
-use Rattle.shell_laws.specs.Ring.{way_edges, IsRing, ring_holds}
+use Rattle.shell_laws.specs.Ring.{IsRing, ring_holds}
 use Rattle.shell_laws.proofs.OneRing.{planar_fewer, planar_own, all_or_none}
 use Rattle.shell_laws.proofs.Points.{no_hole}
 use Rattle.shell_laws.proofs.Simple.{no_vertex_twice}

@@ -7,3 +7,4 @@ pub mod OneRing
 pub mod AllRings
 pub mod LeastVertex
 pub mod Points
+pub mod Reversed

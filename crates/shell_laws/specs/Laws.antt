@@ -1,5 +1,5 @@
 -- The laws of parts and of the rings round them.
-use Rattle.std.specs.Prelude.{◌≡◌, ◌↔◌, ℕ, Bool, true, not, List, ◌∷◌, flat_map, All, AllPairs, Contains, IsTrue, count_by}
+use Rattle.std.specs.Prelude.{◌≡◌, ◌↔◌, ℕ, Bool, true, not, List, ◌∷◌, map, reverse, flat_map, All, AllPairs, Contains, IsTrue, count_by}
 use Rattle.cov_types.specs.declared.seg.Seg.{Seg}
 use Rattle.cov_types.specs.Coord.{is_before}
 use Rattle.plane.specs.Joined.{IsOff, Joined}
@@ -9,7 +9,7 @@ use Rattle.plane.specs.Region.{IsOuterRegion, IsRegionOf}
 use Rattle.crossing_laws.specs.Crossing.{HaveEvenEnds}
 use Rattle.sector_laws.specs.Sector.{HalfEdge, origin, left, twin, is_before_by_angle, AreDistinct, IsPlanar}
 use Rattle.shell_laws.specs.Part.{IsPart, boundary_of, IsTurn, IsWayRound}
-use Rattle.shell_laws.specs.Ring.{way_edges, IsRing, AreRings, ring_holds, is_within, last_of, IsInPart}
+use Rattle.shell_laws.specs.Ring.{way_edges, IsRing, AreRings, ring_holds, is_within, last_of, IsInPart, IsWalkOutside}
 
 -- of two half-edges that follow one another round a part, distinct edges of its boundary with even ends have both or neither
 abbrev pub WholeLaw : Type 0
@@ -33,6 +33,10 @@ pub record TellsRegion (edges : List Seg) (r : ℕ) (passes : HalfEdge → Bool)
 -- a region that is not outer is a part
 abbrev pub RegionPartLaw : Type 0
 RegionPartLaw = (edges : List Seg) → IsPlanar edges → AreDistinct edges → (r : ℕ) → ¬ IsOuterRegion edges r → (passes : HalfEdge → Bool) × TellsRegion edges r passes
+
+-- a walk round a part from outside, by next half-edges, is a ring round it when it is taken back
+abbrev pub WalkLaw : Type 0
+WalkLaw = (edges : List Seg) (passes : HalfEdge → Bool) (f : HalfEdge) (walk : List HalfEdge) → IsWalkOutside edges passes f walk → IsRing edges passes (reverse (map twin (f ∷ walk)))
 
 -- a ring round a part holds all of the part or none of it
 abbrev pub AllOrNoneLaw : Type 0

@@ -1,12 +1,12 @@
 -- Rings round parts: closed ways, and the rings of a part.
-use Rattle.std.specs.Prelude.{◌≡◌, Bool, true, Contains, ◌&&◌, not, List, [], ◌∷◌, ◌++◌, map, flat_map, All}
+use Rattle.std.specs.Prelude.{◌≡◌, ⊤, Bool, true, Contains, AllPairs, ◌&&◌, not, List, [], ◌∷◌, ◌++◌, map, flat_map, All}
 use Rattle.std.specs.List.{list_any}
 use Rattle.std.specs.List.Sorted.{IsPermutation}
 use Rattle.cov_types.specs.declared.seg.Seg.{Seg}
 use Rattle.plane.specs.Joined.{Joined}
 use Rattle.plane.specs.Parity.{holds}
 use Rattle.plane.specs.Point.{Point}
-use Rattle.sector_laws.specs.Sector.{HalfEdge, left}
+use Rattle.sector_laws.specs.Sector.{HalfEdge, left, twin, IsNext}
 use Rattle.shell_laws.specs.Part.{boundary_of, AreTurns, IsWayRound}
 
 -- the edges of a way
@@ -44,3 +44,16 @@ last_of h (k ∷ way) = last_of k way
 -- p is in the part: joined with the left of a half-edge that passes
 abbrev pub IsInPart : List Seg → (HalfEdge → Bool) → Point → Type 0
 IsInPart edges passes p = (h : HalfEdge) × Contains edges h.edge × (passes h ≡ true) × Joined edges p (left h)
+
+-- each half-edge of the walk has the following one as its next
+abbrev pub AreNexts : List Seg → List HalfEdge → Type 0
+AreNexts boundary [] = ⊤
+AreNexts boundary (f ∷ []) = ⊤
+AreNexts boundary (f ∷ g ∷ walk) = IsNext boundary f g × AreNexts boundary (g ∷ walk)
+
+-- a walk round the part from outside, from f: along its boundary with the part on the right, the next of the last one is the first, and no edge twice
+pub record IsWalkOutside (edges : List Seg) (passes : HalfEdge → Bool) (f : HalfEdge) (walk : List HalfEdge) : Type 0 where
+  pub border : All (λ k. Contains (boundary_of edges passes) k.edge) (f ∷ walk)
+  pub inside : All (λ k. passes (twin k) ≡ true) (f ∷ walk)
+  pub nexts : AreNexts (boundary_of edges passes) (f ∷ (walk ++ f ∷ []))
+  pub once : AllPairs (λ h g. ¬ (h.edge ≡ g.edge)) (f ∷ walk)

@@ -4,3 +4,4 @@ pub mod Corners
 pub mod Sound
 pub mod PartTest
 pub mod PolygonPoints
+pub mod Begins

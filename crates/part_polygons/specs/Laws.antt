@@ -1,13 +1,15 @@
 -- The laws of the polygon of a part.
-use Rattle.std.specs.Prelude.{◌≡◌, ℕ, Bool, List, ◌∷◌, map, flat_map, Option, Some}
+use Rattle.std.specs.Prelude.{◌≡◌, ℕ, Bool, List, ◌∷◌, map, flat_map, All, IsTrue, Option, Some}
+use Rattle.cov_types.specs.Coord.{is_before}
 use Rattle.plane.specs.Joined.{IsOff}
 use Rattle.plane.specs.Parity.{holds}
 use Rattle.plane.specs.Point.{Point}
 use Rattle.plane.specs.Region.{IsOuterRegion, IsRegionOf, AreRegions}
-use Rattle.sector_laws.specs.Sector.{HalfEdge, AreDistinct, IsPlanar}
+use Rattle.sector_laws.specs.Sector.{HalfEdge, origin, AreDistinct, IsPlanar}
 use Rattle.arrangement.specs.Overlay.{Overlay}
 use Rattle.shell_laws.specs.Laws.{HasShellFirst}
 use Rattle.shell_laws.specs.Part.{IsPart}
+use Rattle.sound_polygons.specs.Cleaned.{BeginsAtLeast}
 use Rattle.sound_polygons.specs.Parts.{IsPartOf, ring_edges, IsSound, is_in_polygon}
 use Rattle.part_polygons.specs.Inside.{TellsInside, points_of}
 
@@ -32,3 +34,7 @@ abbrev pub EvenOddLaw : Type 0
 EvenOddLaw = (o : Overlay) → IsPlanar o.edges → AreDistinct o.edges → (passes : HalfEdge → Bool) → IsPart o.edges passes
     → (shell : List HalfEdge) (holes : List (List HalfEdge)) → HasShellFirst o.edges passes shell holes
     → (p : Point) → IsOff o.edges p → holds (flat_map ring_edges (map points_of (shell ∷ holes))) p ≡ is_in_polygon (map points_of (shell ∷ holes)) p
+
+-- a ring whose first half-edge leaves before each other one begins at its least point
+abbrev pub BeginsLaw : Type 0
+BeginsLaw = (h : HalfEdge) (way : List HalfEdge) → All (λ k. IsTrue (is_before (origin h) (origin k))) way → BeginsAtLeast (points_of (h ∷ way))

@@ -7,7 +7,7 @@ use Rattle.plane.specs.Parity.{holds}
 use Rattle.plane.specs.Point.{Point}
 use Rattle.plane.specs.Region.{IsOuterRegion, IsRegionOf}
 use Rattle.crossing_laws.specs.Crossing.{HaveEvenEnds}
-use Rattle.sector_laws.specs.Sector.{HalfEdge, origin, left, twin, is_before_by_angle, AreDistinct, IsPlanar}
+use Rattle.sector_laws.specs.Sector.{HalfEdge, origin, left, twin, is_before_by_angle, IsNext, AreDistinct, IsPlanar}
 use Rattle.shell_laws.specs.Part.{IsPart, boundary_of, IsTurn, IsWayRound}
 use Rattle.shell_laws.specs.Ring.{way_edges, IsRing, AreRings, ring_holds, is_within, last_of, IsInPart, IsWalkOutside}
 
@@ -33,6 +33,11 @@ pub record TellsRegion (edges : List Seg) (r : ℕ) (passes : HalfEdge → Bool)
 -- a region that is not outer is a part
 abbrev pub RegionPartLaw : Type 0
 RegionPartLaw = (edges : List Seg) → IsPlanar edges → AreDistinct edges → (r : ℕ) → ¬ IsOuterRegion edges r → (passes : HalfEdge → Bool) × TellsRegion edges r passes
+
+-- round the boundary alone the next half-edge of one with the part on the right has it on the right
+abbrev pub NextOutsideLaw : Type 0
+NextOutsideLaw = (edges : List Seg) → IsPlanar edges → AreDistinct edges → (passes : HalfEdge → Bool) → IsPart edges passes → (f g : HalfEdge) → IsNext (boundary_of edges passes) f g
+    → passes (twin f) ≡ true → passes (twin g) ≡ true
 
 -- a walk round a part from outside, by next half-edges, is a ring round it when it is taken back
 abbrev pub WalkLaw : Type 0

@@ -1,4 +1,4 @@
-ghost use Rattle.shell_laws.specs.Laws.{WholeLaw, SimpleLaw, OutsideLaw, RegionPartLaw, WalkLaw, AllOrNoneLaw, OneShellLaw, LeastVertexLaw, InPartLaw, EvenOddLaw};
+ghost use Rattle.shell_laws.specs.Laws.{WholeLaw, SimpleLaw, OutsideLaw, RegionPartLaw, NextOutsideLaw, WalkLaw, AllOrNoneLaw, OneShellLaw, LeastVertexLaw, InPartLaw, EvenOddLaw};
 
 /// Edges of a part's boundary with even ends have two half-edges that follow one another, or neither; so a way round a part passes no vertex twice. A call does nothing.
 pub fn part_law()
@@ -16,9 +16,10 @@ pub fn region_law()
     ensures { RegionPartLaw }
 {}
 
-/// A walk round a part from outside, by next half-edges, is a ring round it when it is taken back. A call does nothing.
+/// Next half-edges round a part's boundary keep the part on the right, and a walk of them round it is a ring when it is taken back. A call does nothing.
 pub fn walk_law()
-    ensures { WalkLaw }
+    ensures outside { NextOutsideLaw }
+    ensures ring { WalkLaw }
 {}
 
 /// A ring round a part holds all of the part or none of it, and exactly one of the part's rings, its shell, holds it. A call does nothing.

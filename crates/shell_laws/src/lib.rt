@@ -10,7 +10,8 @@
 //!
 //! - `Whole`: of two half-edges that follow one another round a part, edges of its boundary with even ends have both or neither
 //!   (`both_or_neither`). `Simple`: so a way round a part passes no vertex twice (`no_vertex_twice`).
-//! - `Outside`: sides that are joined round the boundary alone are both in the part or both out (`outside_kept`).
+//! - `Outside`: sides that are joined round the boundary alone are both in the part or both out (`outside_kept`), so next
+//!   half-edges round it keep the part on the right (`next_outside`).
 //! - `Reversed`: a walk round a part from outside, taken back, is a ring round it (`walk_ring`).
 //! - `Winding`: how often a closed way winds round a point (`winds`). `OneRing`: a ring holds all of the part or none of it
 //!   (`all_or_none`). `AllRings`: all rings together wind once round the part, so exactly one of them holds it (`one_shell`).

@@ -5,3 +5,4 @@ pub mod Sound
 pub mod PartTest
 pub mod PolygonPoints
 pub mod Begins
+pub mod TestExists

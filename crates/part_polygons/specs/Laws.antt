@@ -13,6 +13,10 @@ use Rattle.sound_polygons.specs.Cleaned.{BeginsAtLeast}
 use Rattle.sound_polygons.specs.Parts.{IsPartOf, ring_edges, IsSound, is_in_polygon}
 use Rattle.part_polygons.specs.Inside.{TellsInside, points_of}
 
+-- some test tells the half-edges with a region inside on their left
+abbrev pub TestExistsLaw : Type 0
+TestExistsLaw = (o : Overlay) → AreDistinct o.edges → (inside : ℕ → Bool) → (passes : HalfEdge → Bool) × TellsInside o inside passes
+
 -- the half-edges with a part of an owner on their left are a part, where the owner does not have the outer region
 abbrev pub PartTestLaw : Type 0
 PartTestLaw = (o : Overlay) → AreRegions o.edges o.numbers → (inside : ℕ → Bool) (passes : HalfEdge → Bool) → TellsInside o inside passes

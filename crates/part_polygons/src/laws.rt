@@ -1,8 +1,9 @@
-ghost use Rattle.part_polygons.specs.Laws.{PartTestLaw, SoundLaw, PointLaw, EvenOddLaw, BeginsLaw};
+ghost use Rattle.part_polygons.specs.Laws.{TestExistsLaw, PartTestLaw, SoundLaw, PointLaw, EvenOddLaw, BeginsLaw};
 
-/// The half-edges with a part of an owner on their left are a part. A call does nothing.
+/// Some test tells the half-edges with regions inside on their left; where these regions are a part of an owner, the test is one of a part. A call does nothing.
 pub fn part_test_law()
-    ensures { PartTestLaw }
+    ensures exists { TestExistsLaw }
+    ensures part { PartTestLaw }
 {}
 
 /// The rings of a part, its shell first, are a polygon that is sound for it, and a ring that leaves its least vertex first begins at its least point. A call does nothing.

@@ -9,9 +9,10 @@
 //!
 //! - `Sides`: the sides of a ring's points are its half-edges (`sides_are`), and so are its edges, the points on its left and its
 //!   corners. `Boundary`: the sides of all rings are the boundary (`go_round`). `Corners`: corners are free (`free_corner`).
-//! - `Sound`: the polygon is sound (`sound`). `Begins`: a ring begins at its least point (`begins_at_least`). `PolygonPoints`: in the polygon, in a region inside, and even-odd are the same off the
-//!   edges (`polygon_points`, `polygon_even_odd`).
-//! - `PartTest`: the half-edges with a part of an owner on their left are a part (`part_test`).
+//! - `Sound`: the polygon is sound (`sound`). `Begins`: a ring begins at its least point (`begins_at_least`). `PolygonPoints`: in the
+//!   polygon, in a region inside, and even-odd are the same off the edges (`polygon_points`, `polygon_even_odd`).
+//! - `PartTest`: the half-edges with a part of an owner on their left are a part (`part_test`). `TestExists`: some test tells
+//!   the half-edges with regions inside on their left (`test_exists`).
 #![tactic(auto)]
 
 mod laws;

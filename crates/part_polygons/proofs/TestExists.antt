@@ -1,6 +1,6 @@
 -- Some test tells the half-edges with regions inside on their left.
 use mathlib.Core.List.{[], ◌∷◌}
-use Rattle.std.proofs.Common.{◌≡◌, refl, sym, ◌∙◌, ap, subst, ℕ, zero, suc, ◌+◌, ◌*◌, Bool, true, false, List, Option, Some, inl, inr, arith}
+use Rattle.std.proofs.Common.{◌≡◌, ap, subst, ℕ, suc, ◌+◌, ◌*◌, Bool, true, false, List, Some, inl, inr, arith}
 use Rattle.std.specs.Prelude.{Contains, slice_get}
 use Rattle.std.specs.List.{enumerate_from}
 use Rattle.cov_types.specs.declared.seg.Seg.{Seg}

@@ -2,3 +2,9 @@ pub mod Whole
 pub mod Simple
 pub mod Outside
 pub mod RegionPart
+pub mod Winding
+pub mod OneRing
+pub mod AllRings
+pub mod LeastVertex
+pub mod Points
+pub mod Reversed

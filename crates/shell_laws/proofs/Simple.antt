@@ -17,20 +17,20 @@ use Rattle.shell_laws.proofs.Whole.{both_or_neither}
 
 -- ---- ends of half-edges
 
-by_direction : (P : HalfEdge → Type 0) → ((e : Seg) → P (record { edge = e; forwards = true })) → ((e : Seg) → P (record { edge = e; forwards = false })) → (h : HalfEdge) → P h
+pub by_direction : (P : HalfEdge → Type 0) → ((e : Seg) → P (record { edge = e; forwards = true })) → ((e : Seg) → P (record { edge = e; forwards = false })) → (h : HalfEdge) → P h
 by_direction P up down h = by h.edge h.forwards
   where
     by : (e : Seg) (b : Bool) → P (record { edge = e; forwards = b })
     by e true = up e
     by e false = down e
 
-twin_from : (h : HalfEdge) → origin (twin h) ≡ target h
+pub twin_from : (h : HalfEdge) → origin (twin h) ≡ target h
 twin_from = by_direction (λ h. origin (twin h) ≡ target h) (λ e. refl) (λ e. refl)
 
-twin_to : (h : HalfEdge) → target (twin h) ≡ origin h
+pub twin_to : (h : HalfEdge) → target (twin h) ≡ origin h
 twin_to = by_direction (λ h. target (twin h) ≡ origin h) (λ e. refl) (λ e. refl)
 
-meets : (boundary : List Seg) (c k : HalfEdge) → IsTurn boundary c k → target c ≡ origin k
+pub meets : (boundary : List Seg) (c k : HalfEdge) → IsTurn boundary c k → target c ≡ origin k
 meets boundary c k turn = sym (twin_from c) ∙ turn.leaves.from ∙ twin_to k
 
 -- 1 where the point passes

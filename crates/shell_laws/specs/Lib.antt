@@ -1,2 +1,3 @@
 pub mod Part
+pub mod Ring
 pub mod Laws

@@ -1,0 +1,17 @@
+//! Taking a point out of a shared border: the laws by which a coverage stays valid.
+//!
+//! It has definitions and laws, and no code. Its promise: where a triangle of two neighbouring segments is free of all other
+//! ends, nothing else comes into it. The laws are the public functions.
+//!
+//! The files of `specs/`: `Ear`, triangles of two neighbouring segments and what stays out of them; `Laws`.
+//!
+//! A crate above takes a lemma by `use Rattle.removal_laws.proofs.FILE.{NAME}` in its `proofs/`. The files:
+//!
+//! - `Cuts`: points between points (`between-trans`, `only_first`), and where a way leaves the points of three half-planes (`leave`).
+//! - `Inside`: a closed triangle by the signs of its three sides (`inside-within`, `within-inside`, `on_side`).
+//! - `Pasch`: a segment that meets two sides in ends alone has no point in the triangle but such an end (`pasch`).
+#![tactic(auto)]
+
+mod laws;
+
+pub use laws::pasch_law;

@@ -13,7 +13,7 @@ use Rattle.plane.proofs.Meeting.{turn_term}
 use Rattle.plane.proofs.Points.{d_positive, between_by}
 use Rattle.plane.proofs.Sides.{turn-round, turn-same_ends, turn-same_last}
 use Rattle.greedy_run.specs.Run.{Triangle}
-use Rattle.removal_laws.specs.Ear.{IsWithin}
+use Rattle.removal_laws.specs.Ear.{IsWithin, IsStrictlyWithin}
 use Rattle.removal_laws.proofs.Cuts.{HalfPlane, depth, IsInAll}
 
 -- ---- forms at means of three points
@@ -92,7 +92,7 @@ within-same t p q same h =
 abbrev pub left_of : Coord → Coord → HalfPlane
 left_of u v = record { a = neg_ℤ (v.y -ℤ u.y); b = v.x -ℤ u.x; c = ((v.y -ℤ u.y) *ℤ u.x) -ℤ ((v.x -ℤ u.x) *ℤ u.y) }
 
-abbrev left_term : (ux uy vx vy px py pd : Term) → Term
+abbrev pub left_term : (ux uy vx vy px py pd : Term) → Term
 left_term ux uy vx vy px py pd = (Neg (vy ⊖ uy) ⊗ px ⊕ (vx ⊖ ux) ⊗ py) ⊕ ((vy ⊖ uy) ⊗ ux ⊖ (vx ⊖ ux) ⊗ uy) ⊗ pd
 
 pub left-turn : (u v w : Coord) → depth (left_of u v) (at_coord w) ≡ turn_of u v w
@@ -151,16 +151,16 @@ within-inside t p positive h = record {
 
 -- ---- the sides as weights
 
-abbrev points_of : (t : Triangle) (p : Point) → List ℤ
+abbrev pub points_of : (t : Triangle) (p : Point) → List ℤ
 points_of t p = t.a.x ∷ t.a.y ∷ t.b.x ∷ t.b.y ∷ t.c.x ∷ t.c.y ∷ p.x ∷ p.y ∷ pos p.d ∷ []
 
-abbrev a_term : Term
+abbrev pub a_term : Term
 a_term = left_term (Var 2) (Var 3) (Var 4) (Var 5) (Var 6) (Var 7) (Var 8)
 
-abbrev b_term : Term
+abbrev pub b_term : Term
 b_term = left_term (Var 4) (Var 5) (Var 0) (Var 1) (Var 6) (Var 7) (Var 8)
 
-abbrev c_term : Term
+abbrev pub c_term : Term
 c_term = left_term (Var 0) (Var 1) (Var 2) (Var 3) (Var 6) (Var 7) (Var 8)
 
 abbrev area_term : Term
@@ -188,7 +188,7 @@ combined k r d p q s i j l h g =
     (Var 2) (Var 0 ⊗ Var 1) sum (Neg (Var 1)) (Var 0 ⊗ Var 2) total refl h g
 
 -- k times the vector of p is the sum of the corners with these weights
-within_by : (t : Triangle) (p : Point) (k i j l : ℤ) → pos 0 ≤ℤ i → pos 0 ≤ℤ j → pos 0 ≤ℤ l → pos 0 <ℤ ((i +ℤ j) +ℤ l)
+pub within_by : (t : Triangle) (p : Point) (k i j l : ℤ) → pos 0 ≤ℤ i → pos 0 ≤ℤ j → pos 0 ≤ℤ l → pos 0 <ℤ ((i +ℤ j) +ℤ l)
     → k *ℤ p.x ≡ ((i *ℤ t.a.x) +ℤ (j *ℤ t.b.x)) +ℤ (l *ℤ t.c.x) → k *ℤ p.y ≡ ((i *ℤ t.a.y) +ℤ (j *ℤ t.b.y)) +ℤ (l *ℤ t.c.y)
     → k *ℤ pos p.d ≡ (i +ℤ j) +ℤ l → IsWithin t p
 within_by t p k (pos i) (pos j) (pos l) hi hj hl positive x y d = record {
@@ -242,3 +242,25 @@ inside_or_not k l m p =
         ]
       ]
     ]
+
+-- the same with positive weights
+pub strictly_by : (t : Triangle) (p : Point) (k i j l : ℤ) → pos 0 <ℤ i → pos 0 <ℤ j → pos 0 <ℤ l → ¬ (area t ≡ pos 0)
+    → k *ℤ p.x ≡ ((i *ℤ t.a.x) +ℤ (j *ℤ t.b.x)) +ℤ (l *ℤ t.c.x) → k *ℤ p.y ≡ ((i *ℤ t.a.y) +ℤ (j *ℤ t.b.y)) +ℤ (l *ℤ t.c.y)
+    → k *ℤ pos p.d ≡ (i +ℤ j) +ℤ l → IsStrictlyWithin t p
+strictly_by t p k (pos i) (pos j) (pos l) hi hj hl bent x y d = record {
+  within = record {
+    first = i;
+    second = j;
+    third = l;
+    weighted = omega (arith, lin);
+    x = combined k p.x (pos p.d) t.a.x t.b.x t.c.x (pos i) (pos j) (pos l) x d;
+    y = combined k p.y (pos p.d) t.a.y t.b.y t.c.y (pos i) (pos j) (pos l) y d;
+  };
+  first = omega (arith, lin);
+  second = omega (arith, lin);
+  third = omega (arith, lin);
+  bent = bent;
+}
+strictly_by t p k (pos i) (pos j) (negsuc l) hi hj hl bent x y d = absurd hl.lt
+strictly_by t p k (pos i) (negsuc j) l hi hj hl bent x y d = absurd hj.lt
+strictly_by t p k (negsuc i) j l hi hj hl bent x y d = absurd hi.lt

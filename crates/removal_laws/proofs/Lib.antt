@@ -1,3 +1,5 @@
 pub mod Cuts
 pub mod Inside
 pub mod Pasch
+pub mod Ear
+pub mod Odd

@@ -170,18 +170,18 @@ flat_on_first t flat r h =
     omega (arith, lin)
 
 -- a segment and its sweep values in the order from a to b
-record IsUpwards (a b : Coord) (e : Seg) : Type 0 where
-  lo : e.lo ≡ a
-  hi : e.hi ≡ b
-  rises : sweep (at_coord a) <ℤ sweep (at_coord b)
+pub record IsUpwards (a b : Coord) (e : Seg) : Type 0 where
+  pub lo : e.lo ≡ a
+  pub hi : e.hi ≡ b
+  pub rises : sweep (at_coord a) <ℤ sweep (at_coord b)
 
-upwards_of : (a b : Coord) (e : Seg) → Rises e → IsSegBetween a b e → IsUpwards a b e ⊎ IsUpwards b a e
+pub upwards_of : (a b : Coord) (e : Seg) → Rises e → IsSegBetween a b e → IsUpwards a b e ⊎ IsUpwards b a e
 upwards_of a b e up (inl (lo, hi)) =
     inl (record { lo = lo; hi = hi; rises = (let low = ap (λ (v : Coord). sweep (at_coord v)) lo in let high = ap (λ (v : Coord). sweep (at_coord v)) hi in omega (arith, lin)) })
 upwards_of a b e up (inr (lo, hi)) =
     inr (record { lo = lo; hi = hi; rises = (let low = ap (λ (v : Coord). sweep (at_coord v)) lo in let high = ap (λ (v : Coord). sweep (at_coord v)) hi in omega (arith, lin)) })
 
-on_by_sweep : (a b : Coord) (e : Seg) (r : Point) → Rises e → IsUpwards a b e → depth (left_of a b) r ≡ pos 0
+pub on_by_sweep : (a b : Coord) (e : Seg) (r : Point) → Rises e → IsUpwards a b e → depth (left_of a b) r ≡ pos 0
     → (sweep (at_coord a) *ℤ pos r.d) ≤ℤ sweep r → sweep r ≤ℤ (sweep (at_coord b) *ℤ pos r.d) → IsOn e r
 on_by_sweep a b e r up is line low high =
     on_from_sweep e r up

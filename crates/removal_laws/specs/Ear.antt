@@ -6,7 +6,7 @@ use Rattle.cov_types.specs.Range.{IsSegInRange}
 use Rattle.cov_types.specs.Seg.{IsSegBetween}
 use Rattle.plane.specs.Contact.{IsCommon}
 use Rattle.plane.specs.Point.{Point, at_coord, SamePoint}
-use Rattle.plane.specs.Segment.{IsEnd}
+use Rattle.plane.specs.Segment.{IsEnd, turn_of}
 use Rattle.greedy_run.specs.Run.{Triangle}
 
 -- p is in the closed triangle: a mean of the three corners with whole weights that are not all 0
@@ -24,6 +24,20 @@ pub record AreSides (t : Triangle) (ab bc : Seg) : Type 0 where
   pub second : IsSegBetween t.b t.c bc
   pub first_in_range : IsSegInRange ab
   pub second_in_range : IsSegInRange bc
+
+-- and ac is the segment from a to c, in range
+pub record AreThreeSides (t : Triangle) (ab bc ac : Seg) : Type 0 where
+  pub two : AreSides t ab bc
+  pub third : IsSegBetween t.a t.c ac
+  pub third_in_range : IsSegInRange ac
+
+-- p is strictly in the triangle: all weights are positive, and the triangle is not flat
+pub record IsStrictlyWithin (t : Triangle) (p : Point) : Type 0 where
+  pub within : IsWithin t p
+  pub first : 1 ≤ within.first
+  pub second : 1 ≤ within.second
+  pub third : 1 ≤ within.third
+  pub bent : ¬ (turn_of t.a t.b t.c ≡ pos 0)
 
 -- the vertex is free: it is a or c, or not in the triangle
 abbrev pub IsFree : Triangle → Coord → Type 0

@@ -1,10 +1,22 @@
 -- The laws of taking a point out of a border.
+use Rattle.std.specs.Prelude.{◌≡◌, true, [], ◌∷◌}
 use Rattle.cov_types.specs.declared.seg.Seg.{Seg}
+use Rattle.cov_types.specs.Seg.{IsSegBetween}
+use Rattle.plane.specs.Parity.{holds}
 use Rattle.plane.specs.Point.{Point}
 use Rattle.plane.specs.Segment.{IsOn}
 use Rattle.greedy_run.specs.Run.{Triangle}
-use Rattle.removal_laws.specs.Ear.{IsWithin, AreSides, IsFreeOf, IsOuterEnd}
+use Rattle.removal_laws.specs.Ear.{IsWithin, IsStrictlyWithin, AreSides, AreThreeSides, MeetsInEndsAlone, IsFreeOf, IsOuterEnd}
 
 -- a segment that meets two sides in ends alone, is not the third, and has free ends, comes into the closed triangle at such an end alone, which is a or c
 abbrev pub PaschLaw : Type 0
 PaschLaw = (t : Triangle) (ab bc : Seg) → AreSides t ab bc → (s : Seg) → IsFreeOf t ab bc s → (r : Point) → IsWithin t r → IsOn s r → IsOuterEnd t s r
+
+-- so it meets the third side in ends alone
+abbrev pub EarLaw : Type 0
+EarLaw = (t : Triangle) (ab bc ac : Seg) → AreSides t ab bc → IsSegBetween t.a t.c ac → (s : Seg) → IsFreeOf t ab bc s → MeetsInEndsAlone s ac
+
+-- a point off the three sides over which an odd number of them is, is strictly in the triangle
+abbrev pub OddLaw : Type 0
+OddLaw = (t : Triangle) (ab bc ac : Seg) → AreThreeSides t ab bc ac → (p : Point) → ¬ IsOn ab p → ¬ IsOn bc p → ¬ IsOn ac p
+    → holds (ab ∷ bc ∷ ac ∷ []) p ≡ true → IsStrictlyWithin t p

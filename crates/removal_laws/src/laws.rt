@@ -1,6 +1,12 @@
-ghost use Rattle.removal_laws.specs.Laws.{PaschLaw};
+ghost use Rattle.removal_laws.specs.Laws.{PaschLaw, EarLaw, OddLaw};
 
-/// A segment that meets two sides of a triangle in ends alone, and has no end in it but at the third side, comes into it nowhere else. A call does nothing.
-pub fn pasch_law()
-    ensures { PaschLaw }
+/// A segment that meets two sides of a triangle in ends alone, and has no end in it but at the third side, comes into it nowhere else; so it meets the third side in ends alone. A call does nothing.
+pub fn ear_law()
+    ensures pasch { PaschLaw }
+    ensures third { EarLaw }
+{}
+
+/// A point off the three sides of a triangle over which an odd number of them is, is strictly inside. A call does nothing.
+pub fn odd_law()
+    ensures { OddLaw }
 {}

@@ -9,9 +9,11 @@
 //!
 //! - `Cuts`: points between points (`between-trans`, `only_first`), and where a way leaves the points of three half-planes (`leave`).
 //! - `Inside`: a closed triangle by the signs of its three sides (`inside-within`, `within-inside`, `on_side`).
-//! - `Pasch`: a segment that meets two sides in ends alone has no point in the triangle but such an end (`pasch`).
+//! - `Pasch`: a segment that meets two sides in ends alone has no point in the triangle but such an end (`pasch`). `Ear`: so it meets the
+//!   third side in ends alone (`ear`).
+//! - `Odd`: an odd number of sides is over points inside alone (`odd`).
 #![tactic(auto)]
 
 mod laws;
 
-pub use laws::pasch_law;
+pub use laws::{ear_law, odd_law};

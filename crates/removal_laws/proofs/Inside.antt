@@ -1,7 +1,7 @@
 -- A closed triangle by weights, and by the signs of its three sides.
 use mathlib.Core.List.{[], ◌∷◌}
 use Rattle.std.proofs.Common.{◌≡◌, ◌⊎◌, inl, inr, refl, sym, ◌∙◌, ap, ℕ, ◌+◌, ◌≤◌, List, ℤ, pos, negsuc, neg_ℤ, ◌+ℤ◌, ◌-ℤ◌, ◌*ℤ◌, ◌<ℤ◌, ◌≤ℤ◌, arith}
-use Rattle.integer_laws.proofs.Ring.{lin, by_ring, by_two, Term, Var, Lit, ◌⊕◌, ◌⊖◌, ◌⊗◌, Neg, mul_comm, mul_one, zero_mul}
+use Rattle.integer_laws.proofs.Ring.{lin, by_ring, by_two, Term, Var, Lit, ◌⊕◌, ◌⊖◌, ◌⊗◌, Neg, mul_comm, mul_one, mul_assoc, zero_mul}
 use Rattle.integer_laws.proofs.Compare.{lt_or_ge, le_of_eq}
 use Rattle.integer_laws.proofs.Order.{cancel_eq}
 use Rattle.integer_laws.proofs.Sign.{nonneg_times_nonneg, positive_times_positive, nonneg_factor}
@@ -264,3 +264,27 @@ strictly_by t p k (pos i) (pos j) (pos l) hi hj hl bent x y d = record {
 strictly_by t p k (pos i) (pos j) (negsuc l) hi hj hl bent x y d = absurd hl.lt
 strictly_by t p k (pos i) (negsuc j) l hi hj hl bent x y d = absurd hj.lt
 strictly_by t p k (negsuc i) j l hi hj hl bent x y d = absurd hi.lt
+
+-- a point of the triangle on the line of ac is on ac
+pub on_third : (t : Triangle) (p : Point) → pos 0 <ℤ area t → IsInside t p → depth (to_b t) p ≡ pos 0 → IsBetween p (at_coord t.a) (at_coord t.c)
+on_third t p positive h zero =
+    let total = positive_times_positive {x = area t} {y = pos p.d} positive (d_positive p) in
+    let split = split-d t p in
+    let x_part = ap (λ z. z *ℤ t.b.x) zero ∙ zero_mul t.b.x in
+    let y_part = ap (λ z. z *ℤ t.b.y) zero ∙ zero_mul t.b.y in
+    between_by p (at_coord t.a) (at_coord t.c) (area t) (depth (to_a t) p) (depth (to_c t) p) h.first h.third (omega (arith, lin))
+    (omega (arith, lin, split-x t p)) (omega (arith, lin, split-y t p)) (omega (arith, lin, mul_one (depth (to_a t) p), mul_one (depth (to_c t) p)))
+
+-- a point on the lines of ab and of ac is a
+pub first_corner : (t : Triangle) (p : Point) → pos 0 <ℤ area t → depth (to_b t) p ≡ pos 0 → depth (to_c t) p ≡ pos 0 → SamePoint p (at_coord t.a)
+first_corner t p positive on_b on_c =
+    let split = split-d t p in
+    let a = depth (to_a t) p in
+    let depth_a : area t *ℤ pos p.d ≡ a = omega (arith, lin) in
+    let x_b = ap (λ z. z *ℤ t.b.x) on_b ∙ zero_mul t.b.x in
+    let x_c = ap (λ z. z *ℤ t.c.x) on_c ∙ zero_mul t.c.x in
+    let y_b = ap (λ z. z *ℤ t.b.y) on_b ∙ zero_mul t.b.y in
+    let y_c = ap (λ z. z *ℤ t.c.y) on_c ∙ zero_mul t.c.y in (
+      cancel_eq (area t) (p.x *ℤ pos 1) (t.a.x *ℤ pos p.d) positive (omega (arith, lin, ap (λ z. area t *ℤ z) (mul_one p.x), split-x t p, ap (λ z. z *ℤ t.a.x) depth_a, mul_assoc (area t) (pos p.d) t.a.x, ap (λ z. area t *ℤ z) (mul_comm (pos p.d) t.a.x))),
+      cancel_eq (area t) (p.y *ℤ pos 1) (t.a.y *ℤ pos p.d) positive (omega (arith, lin, ap (λ z. area t *ℤ z) (mul_one p.y), split-y t p, ap (λ z. z *ℤ t.a.y) depth_a, mul_assoc (area t) (pos p.d) t.a.y, ap (λ z. area t *ℤ z) (mul_comm (pos p.d) t.a.y))),
+    )

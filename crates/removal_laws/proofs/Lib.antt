@@ -3,3 +3,4 @@ pub mod Inside
 pub mod Pasch
 pub mod Ear
 pub mod Odd
+pub mod Inner

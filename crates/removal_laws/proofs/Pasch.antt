@@ -39,7 +39,7 @@ inside-same t p q same h = record {
 }
 
 -- x between a point of a segment and an end is on the segment
-nested_on : (x r p q : Point) → IsBetween x r q → IsBetween r p q → IsBetween x p q
+pub nested_on : (x r p q : Point) → IsBetween x r q → IsBetween r p q → IsBetween x p q
 nested_on x r p q h k = between-sym x q p (between-trans x q r p (between-sym x r q h) (between-sym r p q k))
 
 corner_on_third : (t : Triangle) (u : Coord) → (u ≡ t.a) ⊎ (u ≡ t.c) → depth (to_b t) (at_coord u) ≡ pos 0
@@ -93,7 +93,7 @@ none_inside t positive u v bare outside_u outside_v r inside between =
 
 -- ---- a triangle to the left
 
-on_between : (a b : Coord) (e : Seg) (x : Point) → IsSegBetween a b e → IsBetween x (at_coord a) (at_coord b) → IsOn e x
+pub on_between : (a b : Coord) (e : Seg) (x : Point) → IsSegBetween a b e → IsBetween x (at_coord a) (at_coord b) → IsOn e x
 on_between a b e x (inl (lo, hi)) h =
     subst (λ (v : Coord). IsBetween x (at_coord e.lo) (at_coord v)) (sym hi) (subst (λ (v : Coord). IsBetween x (at_coord v) (at_coord b)) (sym lo) h)
 on_between a b e x (inr (lo, hi)) h =
@@ -135,7 +135,7 @@ pasch_left t positive s bare not_third lo hi r inside on =
 -- ---- flat triangles
 
 -- the sweep value of a point of the triangle is not below one that is not above those of the corners
-sweep_least : (t : Triangle) (r : Point) → IsWithin t r → (m : ℤ)
+pub sweep_least : (t : Triangle) (r : Point) → IsWithin t r → (m : ℤ)
     → m ≤ℤ sweep (at_coord t.a) → m ≤ℤ sweep (at_coord t.b) → m ≤ℤ sweep (at_coord t.c) → (m *ℤ pos r.d) ≤ℤ sweep r
 sweep_least t r h m ha hb hc =
     let l : HalfPlane = record { a = pos (2 ^ 30); b = pos 1; c = neg_ℤ m } in
@@ -147,7 +147,7 @@ sweep_least t r h m ha hb hc =
     let inside = within_not_negative l t r h (omega (arith, lin)) (omega (arith, lin)) (omega (arith, lin)) in
     omega (arith, lin)
 
-sweep_most : (t : Triangle) (r : Point) → IsWithin t r → (m : ℤ)
+pub sweep_most : (t : Triangle) (r : Point) → IsWithin t r → (m : ℤ)
     → sweep (at_coord t.a) ≤ℤ m → sweep (at_coord t.b) ≤ℤ m → sweep (at_coord t.c) ≤ℤ m → sweep r ≤ℤ (m *ℤ pos r.d)
 sweep_most t r h m ha hb hc =
     let l : HalfPlane = record { a = pos (2 ^ 30); b = pos 1; c = neg_ℤ m } in
@@ -160,7 +160,7 @@ sweep_most t r h m ha hb hc =
     omega (arith, lin)
 
 -- the points of a flat triangle are on the line of each side
-flat_on_first : (t : Triangle) → area t ≡ pos 0 → (r : Point) → IsWithin t r → depth (to_c t) r ≡ pos 0
+pub flat_on_first : (t : Triangle) → area t ≡ pos 0 → (r : Point) → IsWithin t r → depth (to_c t) r ≡ pos 0
 flat_on_first t flat r h =
     let first = left-first t.a t.b in
     let second = left-second t.a t.b in
@@ -268,7 +268,7 @@ within-mirror t p h =
 pub free-mirror : (t : Triangle) (v : Coord) → IsFree t v → IsFree (mirror t) v
 free-mirror t v free h = ⊎_elim inr inl (free (within-mirror (mirror t) (at_coord v) h))
 
-not_third-mirror : (t : Triangle) (s : Seg) → ¬ IsSegBetween t.a t.c s → ¬ IsSegBetween t.c t.a s
+pub not_third-mirror : (t : Triangle) (s : Seg) → ¬ IsSegBetween t.a t.c s → ¬ IsSegBetween t.c t.a s
 not_third-mirror t s not_third h = not_third (⊎_elim inr inl h)
 
 -- in a triangle that is not flat, the sides change places where it lies to the right
@@ -280,13 +280,13 @@ pasch_bent t ab bc is_ab is_bc bent s h r within on =
           let m = mirror t in
           let positive : pos 0 <ℤ area m = (let e = area-mirror t in omega (arith, lin)) in
           pasch_left m positive s (bare_of m bc ab s (⊎_elim inr inl is_bc) (⊎_elim inr inl is_ab) h.second h.first)
-          (not_third-mirror t s h.not_third) (free-mirror t s.lo h.lo) (free-mirror t s.hi h.hi) r
+          (not_third-mirror t s h.free.not_third) (free-mirror t s.lo h.free.lo) (free-mirror t s.hi h.free.hi) r
           (within-inside m r (le_of_lt positive) (within-mirror t r within)) on
           )
       | inr others ↦ elim others [
         | inl flat ↦ absurd (bent flat)
         | inr left ↦
-            pasch_left t left s (bare_of t ab bc s is_ab is_bc h.first h.second) h.not_third h.lo h.hi r (within-inside t r (le_of_lt left) within) on
+            pasch_left t left s (bare_of t ab bc s is_ab is_bc h.first h.second) h.free.not_third h.free.lo h.free.hi r (within-inside t r (le_of_lt left) within) on
       ]
     ]
 
@@ -317,7 +317,7 @@ outer_end t s lo hi r within e = record { is_end = e; corner = elim e [ inl same
 
 pub pasch : (t : Triangle) (ab bc : Seg) → AreSides t ab bc → (s : Seg) → IsFreeOf t ab bc s → (r : Point) → IsWithin t r → IsOn s r → IsOuterEnd t s r
 pasch t ab bc sides s h r within on =
-    outer_end t s h.lo h.hi r within
+    outer_end t s h.free.lo h.free.hi r within
     (elim (eq_or_not (area t) (pos 0)) [
       | inl flat ↦ elim (flat_on_sides t ab bc sides flat r within) [
         | inl on_ab ↦ (h.first r (on, on_ab)).0

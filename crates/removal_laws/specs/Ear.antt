@@ -47,13 +47,21 @@ IsFree t v = IsWithin t (at_coord v) → (v ≡ t.a) ⊎ (v ≡ t.c)
 abbrev pub MeetsInEndsAlone : Seg → Seg → Type 0
 MeetsInEndsAlone s t = (r : Point) → IsCommon s t r → IsEnd s r × IsEnd t r
 
--- s is not ac, meets ab and bc in ends alone, and has free ends
-pub record IsFreeOf (t : Triangle) (ab bc s : Seg) : Type 0 where
-  pub first : MeetsInEndsAlone s ab
-  pub second : MeetsInEndsAlone s bc
+-- s is not ac, and has free ends
+pub record HasFreeEnds (t : Triangle) (s : Seg) : Type 0 where
   pub not_third : ¬ IsSegBetween t.a t.c s
   pub lo : IsFree t s.lo
   pub hi : IsFree t s.hi
+
+-- and it meets ab and bc in ends alone
+pub record IsFreeOf (t : Triangle) (ab bc s : Seg) : Type 0 where
+  pub first : MeetsInEndsAlone s ab
+  pub second : MeetsInEndsAlone s bc
+  pub free : HasFreeEnds t s
+
+-- s is ac, or stays out of the triangle
+abbrev pub IsOther : Triangle → Seg → Seg → Seg → Seg → Type 0
+IsOther t ab bc ac s = (s ≡ ac) ⊎ IsFreeOf t ab bc s
 
 -- r is an end of s, and it is a or c
 pub record IsOuterEnd (t : Triangle) (s : Seg) (r : Point) : Type 0 where

@@ -1,12 +1,13 @@
 -- The laws of taking a point out of a border.
-use Rattle.std.specs.Prelude.{◌≡◌, true, [], ◌∷◌}
+use Rattle.std.specs.Prelude.{◌≡◌, true, List, [], ◌∷◌, Contains}
 use Rattle.cov_types.specs.declared.seg.Seg.{Seg}
 use Rattle.cov_types.specs.Seg.{IsSegBetween}
 use Rattle.plane.specs.Parity.{holds}
+use Rattle.plane.specs.Joined.{IsClear}
 use Rattle.plane.specs.Point.{Point}
 use Rattle.plane.specs.Segment.{IsOn}
 use Rattle.greedy_run.specs.Run.{Triangle}
-use Rattle.removal_laws.specs.Ear.{IsWithin, IsStrictlyWithin, AreSides, AreThreeSides, MeetsInEndsAlone, IsFreeOf, IsOuterEnd}
+use Rattle.removal_laws.specs.Ear.{IsWithin, IsStrictlyWithin, AreSides, AreThreeSides, MeetsInEndsAlone, IsFreeOf, IsOther, IsOuterEnd}
 
 -- a segment that meets two sides in ends alone, is not the third, and has free ends, comes into the closed triangle at such an end alone, which is a or c
 abbrev pub PaschLaw : Type 0
@@ -20,3 +21,9 @@ EarLaw = (t : Triangle) (ab bc ac : Seg) → AreSides t ab bc → IsSegBetween t
 abbrev pub OddLaw : Type 0
 OddLaw = (t : Triangle) (ab bc ac : Seg) → AreThreeSides t ab bc ac → (p : Point) → ¬ IsOn ab p → ¬ IsOn bc p → ¬ IsOn ac p
     → holds (ab ∷ bc ∷ ac ∷ []) p ≡ true → IsStrictlyWithin t p
+
+-- where each segment is ac or stays out of the triangle, nothing comes between two points of the triangle off ac
+abbrev pub InnerLaw : Type 0
+InnerLaw = (t : Triangle) (ab bc ac : Seg) → AreThreeSides t ab bc ac → MeetsInEndsAlone ab bc
+    → (edges : List Seg) → ((e : Seg) → Contains edges e → IsOther t ab bc ac e)
+    → (p q : Point) → IsWithin t p → ¬ IsOn ac p → IsWithin t q → ¬ IsOn ac q → IsClear edges p q

@@ -1,4 +1,4 @@
-ghost use Rattle.removal_laws.specs.Laws.{PaschLaw, EarLaw, OddLaw};
+ghost use Rattle.removal_laws.specs.Laws.{PaschLaw, EarLaw, OddLaw, InnerLaw};
 
 /// A segment that meets two sides of a triangle in ends alone, and has no end in it but at the third side, comes into it nowhere else; so it meets the third side in ends alone. A call does nothing.
 pub fn ear_law()
@@ -9,4 +9,9 @@ pub fn ear_law()
 /// A point off the three sides of a triangle over which an odd number of them is, is strictly inside. A call does nothing.
 pub fn odd_law()
     ensures { OddLaw }
+{}
+
+/// Without its third side, nothing comes between two points of the triangle. A call does nothing.
+pub fn inner_law()
+    ensures { InnerLaw }
 {}

@@ -12,8 +12,10 @@
 //! - `Pasch`: a segment that meets two sides in ends alone has no point in the triangle but such an end (`pasch`). `Ear`: so it meets the
 //!   third side in ends alone (`ear`).
 //! - `Odd`: an odd number of sides is over points inside alone (`odd`).
+//! - `Inner`: points of the triangle off ac are joined by one step (`inner`), and with a point out of it (`way_out`); a flat
+//!   triangle is ac (`flat_third`).
 #![tactic(auto)]
 
 mod laws;
 
-pub use laws::{ear_law, odd_law};
+pub use laws::{ear_law, inner_law, odd_law};

@@ -20,7 +20,7 @@ use Rattle.crossing_laws.proofs.Ways.{joined_by_clear, joined-trans}
 use Rattle.greedy_run.specs.Run.{Triangle}
 use Rattle.removal_laws.specs.Ear.{IsWithin, AreSides, AreThreeSides, MeetsInEndsAlone, IsFreeOf, IsOther}
 use Rattle.removal_laws.proofs.Cuts.{HalfPlane, depth, between-trans, zero-same, IsInAll}
-use Rattle.removal_laws.proofs.Inside.{left_of, left-first, left-second, left-exchanged, area, to_a, to_b, to_c, IsInside, depth-a, depth-b, depth-c, within-inside, inside-within, within_not_negative, within_not_positive, on_third, first_corner}
+use Rattle.removal_laws.proofs.Inside.{left_of, left-first, left-second, left-exchanged, area, to_a, to_b, to_c, IsInside, depth-a, depth-b, depth-c, within-inside, inside-within, within_not_negative, within_not_positive, on_third, first_corner, inside_or_not}
 use Rattle.removal_laws.proofs.Pasch.{nested_on, IsUpwards, upwards_of, on_by_sweep, on_between, sweep_least, sweep_most, flat_on_first, flat_on_second, mirror, area-mirror, within-mirror, free-mirror, not_third-mirror, pasch}
 use Rattle.removal_laws.proofs.Ear.{within_first, between_ends, end_of}
 
@@ -305,5 +305,21 @@ way_out t ab bc ac sides apart edges others range p within off =
       | inr rest ↦ elim rest [
         | inl flat ↦ absurd (off (flat_third t ab bc ac sides apart flat p within))
         | inr left ↦ way_out_left t ab bc ac sides edges others range left p within off
+      ]
+    ]
+
+-- the triangle is flat, or a point is in it or not
+pub within_or_not : (t : Triangle) (p : Point) → (area t ≡ pos 0) ⊎ (IsWithin t p ⊎ ¬ IsWithin t p)
+within_or_not t p =
+    elim (trichotomy (area t) (pos 0)) [
+      | inl right ↦ (
+          let m = mirror t in
+          let positive : pos 0 <ℤ area m = (let e = area-mirror t in omega (arith, lin)) in
+          inr (⊎_elim (λ inside. inl (within-mirror m p (inside-within m p positive inside))) (λ out. inr (λ w. out (within-inside m p (le_of_lt positive) (within-mirror t p w))))
+          (inside_or_not (to_a m) (to_b m) (to_c m) p))
+          )
+      | inr rest ↦ elim rest [
+        | inl flat ↦ inl flat
+        | inr left ↦ inr (⊎_elim (λ inside. inl (inside-within t p left inside)) (λ out. inr (λ w. out (within-inside t p (le_of_lt left) w))) (inside_or_not (to_a t) (to_b t) (to_c t) p))
       ]
     ]

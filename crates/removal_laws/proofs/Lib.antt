@@ -4,3 +4,5 @@ pub mod Pasch
 pub mod Ear
 pub mod Odd
 pub mod Inner
+pub mod Counts
+pub mod Exchange

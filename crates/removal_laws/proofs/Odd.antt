@@ -220,7 +220,7 @@ odd_reversed x y z h = ap (λ n. n % 2) (omega arith) ∙ h
 odd_last : (x y z : Bool) → IsOddOf x y z → IsOddOf x z y
 odd_last x y z h = ap (λ n. n % 2) (omega arith) ∙ h
 
-one_side : (t : Triangle) (ab bc ac : Seg) → AreThreeSides t ab bc ac → (p : Point) → ¬ IsOn ab p → ¬ IsOn bc p → ¬ IsOn ac p
+pub one_side : (t : Triangle) (ab bc ac : Seg) → AreThreeSides t ab bc ac → (p : Point) → ¬ IsOn ab p → ¬ IsOn bc p → ¬ IsOn ac p
     → IsOddOf (is_over ab p) (is_over bc p) (is_over ac p) → IsOneSide t p
 one_side t ab bc ac sides p off_ab off_bc off_ac odd =
     let up_ab = rises-in_range ab sides.two.first_in_range in

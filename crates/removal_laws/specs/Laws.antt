@@ -1,12 +1,17 @@
 -- The laws of taking a point out of a border.
-use Rattle.std.specs.Prelude.{◌≡◌, true, List, [], ◌∷◌, Contains}
+use Rattle.std.specs.Prelude.{◌≡◌, ℕ, true, List, [], ◌∷◌, Contains}
+use Rattle.cov_types.specs.declared.edge_use.EdgeUse.{EdgeUse}
 use Rattle.cov_types.specs.declared.seg.Seg.{Seg}
+use Rattle.cov_types.specs.Range.{IsSegInRange}
 use Rattle.cov_types.specs.Seg.{IsSegBetween}
-use Rattle.plane.specs.Parity.{holds}
+use Rattle.cov_types.specs.Uses.{HasEvenEnds}
+use Rattle.plane.specs.Parity.{holds, member_holds}
+use Rattle.plane.specs.Validity.{IsValid}
 use Rattle.plane.specs.Joined.{IsClear}
 use Rattle.plane.specs.Point.{Point}
 use Rattle.plane.specs.Segment.{IsOn}
 use Rattle.greedy_run.specs.Run.{Triangle}
+use Rattle.removal_laws.specs.Exchange.{IsEar, IsExchange}
 use Rattle.removal_laws.specs.Ear.{IsWithin, IsStrictlyWithin, AreSides, AreThreeSides, MeetsInEndsAlone, IsFreeOf, IsOther, IsOuterEnd}
 
 -- a segment that meets two sides in ends alone, is not the third, and has free ends, comes into the closed triangle at such an end alone, which is a or c
@@ -27,3 +32,22 @@ abbrev pub InnerLaw : Type 0
 InnerLaw = (t : Triangle) (ab bc ac : Seg) → AreThreeSides t ab bc ac → MeetsInEndsAlone ab bc
     → (edges : List Seg) → ((e : Seg) → Contains edges e → IsOther t ab bc ac e)
     → (p q : Point) → IsWithin t p → ¬ IsOn ac p → IsWithin t q → ¬ IsOn ac q → IsClear edges p q
+
+-- ---- the coverage
+
+-- b is taken out of an ear of the old uses, which are in range; they and the new ones have even ends
+pub record IsRemoval (t : Triangle) (ab bc ac : Seg) (old new : List EdgeUse) : Type 0 where
+  pub is_ear : IsEar t ab bc ac old
+  pub exchange : IsExchange ab bc ac old new
+  pub in_range : (u : EdgeUse) → Contains old u → IsSegInRange u.seg
+  pub even_before : HasEvenEnds old
+  pub even_after : HasEvenEnds new
+
+-- out of the triangle each member holds what it held
+abbrev pub HoldersLaw : Type 0
+HoldersLaw = (t : Triangle) (ab bc ac : Seg) (old new : List EdgeUse) → IsRemoval t ab bc ac old new → IsValid old
+    → (p : Point) → ¬ IsWithin t p → (i : ℕ) → member_holds new i p ≡ member_holds old i p
+
+-- and the coverage stays valid
+abbrev pub ValidLaw : Type 0
+ValidLaw = (t : Triangle) (ab bc ac : Seg) (old new : List EdgeUse) → IsRemoval t ab bc ac old new → IsValid old → IsValid new

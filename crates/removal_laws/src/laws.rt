@@ -1,4 +1,4 @@
-ghost use Rattle.removal_laws.specs.Laws.{PaschLaw, EarLaw, OddLaw, InnerLaw};
+ghost use Rattle.removal_laws.specs.Laws.{PaschLaw, EarLaw, OddLaw, InnerLaw, HoldersLaw, ValidLaw};
 
 /// A segment that meets two sides of a triangle in ends alone, and has no end in it but at the third side, comes into it nowhere else; so it meets the third side in ends alone. A call does nothing.
 pub fn ear_law()
@@ -14,4 +14,10 @@ pub fn odd_law()
 /// Without its third side, nothing comes between two points of the triangle. A call does nothing.
 pub fn inner_law()
     ensures { InnerLaw }
+{}
+
+/// A coverage stays valid where a point is taken out between two neighbouring segments whose triangle is free of all else, and out of the triangle each member holds what it held. A call does nothing.
+pub fn removal_law()
+    ensures holders { HoldersLaw }
+    ensures valid { ValidLaw }
 {}

@@ -1,9 +1,10 @@
 //! Taking a point out of a shared border: the laws by which a coverage stays valid.
 //!
-//! It has definitions and laws, and no code. Its promise: where a triangle of two neighbouring segments is free of all other
-//! ends, nothing else comes into it. The laws are the public functions.
+//! It has definitions and laws, and no code. Its promise: where the triangle of two neighbouring segments of a valid coverage is
+//! free of all other ends, the coverage without the point between them is valid. The laws are the public functions.
 //!
-//! The files of `specs/`: `Ear`, triangles of two neighbouring segments and what stays out of them; `Laws`.
+//! The files of `specs/`: `Ear`, triangles of two neighbouring segments and what stays out of them; `Exchange`, the uses without
+//! the point between the two, said by sums; `Laws`.
 //!
 //! A crate above takes a lemma by `use Rattle.removal_laws.proofs.FILE.{NAME}` in its `proofs/`. The files:
 //!
@@ -14,8 +15,10 @@
 //! - `Odd`: an odd number of sides is over points inside alone (`odd`).
 //! - `Inner`: points of the triangle off ac are joined by one step (`inner`), and with a point out of it (`way_out`); a flat
 //!   triangle is ac (`flat_third`).
+//! - `Counts`: sums over lists, and how often a member uses a segment. `Exchange`: what the new uses are (`new_is`), that each
+//!   member holds what it held out of the triangle (`holders_kept`), and that they are valid (`valid_after`).
 #![tactic(auto)]
 
 mod laws;
 
-pub use laws::{ear_law, inner_law, odd_law};
+pub use laws::{ear_law, inner_law, odd_law, removal_law};

@@ -6,3 +6,4 @@ pub mod Odd
 pub mod Inner
 pub mod Counts
 pub mod Exchange
+pub mod Walks

@@ -7,3 +7,4 @@ pub mod Inner
 pub mod Counts
 pub mod Exchange
 pub mod Walks
+pub mod Rings

@@ -87,7 +87,7 @@ none_passes true y h k = absurd (false≢true (sym h))
 none_passes false true h k = absurd (false≢true (sym k))
 none_passes false false h k = refl
 
-coord_cases : (v w : Coord) → (is_same_coord v w ≡ true) ⊎ (is_same_coord v w ≡ false)
+pub coord_cases : (v w : Coord) → (is_same_coord v w ≡ true) ⊎ (is_same_coord v w ≡ false)
 coord_cases v w = by (is_same_coord v w)
   where
     by : (b : Bool) → (b ≡ true) ⊎ (b ≡ false)

@@ -1,8 +1,8 @@
 -- The uses of a ring without b are those that the exchange gives.
 use mathlib.Core.List.{[], ◌∷◌}
-use Rattle.std.proofs.Common.{◌≡◌, ◌⊎◌, inl, inr, ⊎_elim, refl, sym, ◌∙◌, ap, subst, ℕ, ◌+◌, ◌≤◌, Bool, true, false, not, ◌||◌, cond, List, ◌++◌, map, drop, take, zip, arith}
+use Rattle.std.proofs.Common.{◌≡◌, ◌⊎◌, inl, inr, ⊎_elim, refl, sym, ◌∙◌, ap, subst, ℕ, ◌+◌, ◌≤◌, Bool, true, false, not, ◌||◌, ◌&&◌, cond, List, ◌++◌, map, drop, take, zip, arith}
 use Rattle.std.specs.Prelude.{Contains, sum_by, filter, flat_map, Option, Some, None, option_to_list}
-use Rattle.std.proofs.lemmas.Bool.{false≢true, not-true}
+use Rattle.std.proofs.lemmas.Bool.{false≢true, and_parts}
 use Rattle.std.proofs.lemmas.List.Elements.{Contains-append_left, Contains-append_right}
 use Rattle.std.proofs.lemmas.List.Concat.{flat_map-cons}
 use Rattle.std.proofs.lemmas.List.Sums.{sum_by-append}
@@ -12,15 +12,15 @@ use Rattle.cov_types.specs.declared.seg.Seg.{Seg}
 use Rattle.cov_types.specs.Coord.{is_same_coord}
 use Rattle.cov_types.specs.Seg.{IsSegBetween}
 use Rattle.cov_types.specs.Uses.{sides, seg_between, side_uses, ring_uses}
-use Rattle.cov_types.proofs.Between.{seg_between_by_ends}
+use Rattle.cov_types.proofs.Between.{seg_between_by_ends, seg_between-same}
 use Rattle.cov_types.proofs.Equal.{Decides-same_coords}
 use Rattle.plane.specs.Validity.{IsValid}
-use Rattle.crossing_laws.proofs.Lists.{contains_here}
-use Rattle.greedy_run.specs.Run.{Triangle, is_removed}
+use Rattle.crossing_laws.proofs.Lists.{contains_here, contains_there}
+use Rattle.greedy_run.specs.Run.{Triangle, is_removed, is_one_point, ring_without}
 use Rattle.greedy_run.proofs.OneLine.{is_between}
 use Rattle.removal_laws.specs.Exchange.{IsEar, value_after}
 use Rattle.removal_laws.proofs.Counts.{counts_use, use_counts}
-use Rattle.removal_laws.proofs.Exchange.{kind, first_adds, second_adds, third_adds, b_not_free, seg_is, other_end, ends_differ}
+use Rattle.removal_laws.proofs.Exchange.{kind, coord_cases, first_adds, second_adds, third_adds, b_not_free, seg_is, other_end, ends_differ}
 use Rattle.removal_laws.proofs.Walks.{walk_sum, ring_sum, AllSteps, AllRound, ring_kept}
 
 -- ---- the side between two points
@@ -213,3 +213,84 @@ module _ (t : Triangle) (ab bc ac : Seg) (old : List EdgeUse) (is_ear : IsEar t 
         | inr some ↦ absurd (ends_differ t.b t.b some.0 some.1.1 refl)
       ])
       side_stays side_through
+
+-- ---- rings of one point
+
+-- the first two points of such a ring are one, and so are the others
+one_point_parts : (x y : Coord) (rest : List Coord) → is_one_point (x ∷ y ∷ rest) ≡ true → (x ≡ y) × (is_one_point (y ∷ rest) ≡ true)
+one_point_parts x y rest h = let parts = and_parts (is_same_coord x y) (is_one_point (y ∷ rest)) h in ((Decides-same_coords x y).0 parts.0, parts.1)
+
+one_point_walk : (m : ℕ) (f : EdgeUse → ℕ) (x : Coord) (xs : List Coord) (z : Coord) → is_one_point (x ∷ xs) ≡ true → x ≡ z → walk_sum (side_sum m f) x (xs ++ z ∷ []) ≡ 0
+one_point_walk m f x [] z h e = ap (λ n. n + 0) (sum_none m f x z (seg_between-same x z e))
+one_point_walk m f x (y ∷ ys) z h e =
+    let parts = one_point_parts x y ys h in
+    let first = sum_none m f x y (seg_between-same x y parts.0) in
+    let rest = one_point_walk m f y ys z parts.1 (sym parts.0 ∙ e) in
+    omega arith
+
+one_point_sum : (m : ℕ) (f : EdgeUse → ℕ) (points : List Coord) → is_one_point points ≡ true → ring_sum (side_sum m f) points ≡ 0
+one_point_sum m f [] h = refl
+one_point_sum m f (x ∷ xs) h = one_point_walk m f x xs x h refl
+
+-- ---- a ring and the ring without b
+
+module _ (t : Triangle) (ab bc ac : Seg) (old : List EdgeUse) (is_ear : IsEar t ab bc ac old) (valid : IsValid old) (m : ℕ) (f : EdgeUse → ℕ) where
+  abbrev keeps : Coord → Bool
+  keeps = stays t ab bc ac old is_ear valid m f
+
+  abbrev Used : Coord → Coord → Type 0
+  Used = IsUsed t ab bc ac old is_ear valid m f
+
+  -- of a ring whose points are not all one, some point stays
+  some_stays : (points : List Coord) → is_one_point points ≡ false → (p : Coord) × (Contains points p × (keeps p ≡ true))
+  some_stays [] h = absurd (false≢true (sym h))
+  some_stays (x ∷ []) h = absurd (false≢true (sym h))
+  some_stays (x ∷ y ∷ rest) h = by (some_stays (y ∷ rest)) (coord_cases x y)
+    where
+      keeps_is : (p : Coord) → is_same_coord p t.b ≡ false → keeps p ≡ true
+      keeps_is p e = ap (λ (b : Bool). not (b || false)) e
+
+      by : (is_one_point (y ∷ rest) ≡ false → (p : Coord) × (Contains (y ∷ rest) p × (keeps p ≡ true)))
+          → (is_same_coord x y ≡ true) ⊎ (is_same_coord x y ≡ false) → (p : Coord) × (Contains (x ∷ y ∷ rest) p × (keeps p ≡ true))
+      by later (inl same) =
+          let found = later (sym (ap (λ (b : Bool). b && is_one_point (y ∷ rest)) same) ∙ h) in
+          (found.0, (contains_there x found.0 (y ∷ rest) found.1.0, found.1.1))
+      by later (inr differs) =
+          elim (coord_cases x t.b) [
+            | inr away ↦ (x, (contains_here x (y ∷ rest), keeps_is x away))
+            | inl at ↦ elim (coord_cases y t.b) [
+              | inr away ↦ (y, (contains_there x y (y ∷ rest) (contains_here y rest), keeps_is y away))
+              | inl at_too ↦ absurd (false≢true (sym differs ∙ (Decides-same_coords x y).1 ((Decides-same_coords x t.b).0 at ∙ sym ((Decides-same_coords y t.b).0 at_too))))
+            ]
+          ]
+
+  all_used : (x : Coord) (xs : List Coord) (z : Coord) → ((u : EdgeUse) → Contains (flat_map (side_uses m) (zip (x ∷ xs) (xs ++ z ∷ []))) u → Contains old u) → AllSteps Used x (xs ++ z ∷ [])
+  all_used x [] z h = (λ u has. h u (subst (λ us. Contains us u) (sym (flat_map-cons (side_uses m) (x, z) [])) (Contains-append_left (side_uses m (x, z)) [] u has)), tt)
+  all_used x (y ∷ ys) z h =
+      let more = zip (y ∷ ys) (ys ++ z ∷ []) in
+      let split = flat_map-cons (side_uses m) (x, y) more in (
+        λ u has. h u (subst (λ us. Contains us u) (sym split) (Contains-append_left (side_uses m (x, y)) (flat_map (side_uses m) more) u has)),
+        all_used y ys z (λ u has. h u (subst (λ us. Contains us u) (sym split) (Contains-append_right (side_uses m (x, y)) (flat_map (side_uses m) more) u has))),
+      )
+
+  round_used : (points : List Coord) → ((u : EdgeUse) → Contains (ring_uses m points) u → Contains old u) → AllRound Used points
+  round_used [] h = tt
+  round_used (x ∷ xs) h = all_used x xs x h
+
+  -- the exchange on a ring of the old coverage
+  pub ring_without_exchange : (points : List Coord) → ((u : EdgeUse) → Contains (ring_uses m points) u → Contains old u)
+      → sum_by (counts_use m ab) (ring_uses m points) ≤ 1 → sum_by (counts_use m bc) (ring_uses m points) ≤ 1
+      → sum_by (value_after ab bc ac f) (ring_uses m points) ≡ sum_by f (ring_uses m (ring_without (t.b ∷ []) points))
+  ring_without_exchange points among one other = by (is_one_point points) refl
+    where
+      by : (b : Bool) → is_one_point points ≡ b → sum_by (value_after ab bc ac f) (ring_uses m points) ≡ sum_by f (ring_uses m (ring_without (t.b ∷ []) points))
+      by true e =
+          ring_sum-uses m (value_after ab bc ac f) points ∙ one_point_sum m (value_after ab bc ac f) points e
+          ∙ sym (one_point_sum m f points e) ∙ sym (ring_sum-uses m f points)
+          ∙ ap (λ (b : Bool). sum_by f (ring_uses m (cond b points (filter keeps points)))) (sym e)
+      by false e =
+          ring_sum-uses m (value_after ab bc ac f) points
+          ∙ ring_exchange t ab bc ac old is_ear valid m f points (some_stays points e) (round_used points among)
+          (subst (λ n. n ≤ 1) (ring_sum-uses m (counts_use m ab) points) one) (subst (λ n. n ≤ 1) (ring_sum-uses m (counts_use m bc) points) other)
+          ∙ sym (ring_sum-uses m f (filter keeps points))
+          ∙ ap (λ (b : Bool). sum_by f (ring_uses m (cond b points (filter keeps points)))) (sym e)

@@ -8,3 +8,4 @@ pub mod Counts
 pub mod Exchange
 pub mod Walks
 pub mod Rings
+pub mod Members

@@ -1,16 +1,17 @@
 -- The laws of taking a point out of a border.
 use Rattle.std.specs.Prelude.{◌≡◌, ℕ, true, List, [], ◌∷◌, Contains}
+use Rattle.cov_types.specs.Coverage.{Members, AllInRange}
 use Rattle.cov_types.specs.declared.edge_use.EdgeUse.{EdgeUse}
 use Rattle.cov_types.specs.declared.seg.Seg.{Seg}
 use Rattle.cov_types.specs.Range.{IsSegInRange}
 use Rattle.cov_types.specs.Seg.{IsSegBetween}
-use Rattle.cov_types.specs.Uses.{HasEvenEnds}
+use Rattle.cov_types.specs.Uses.{HasEvenEnds, uses_of}
 use Rattle.plane.specs.Parity.{holds, member_holds}
 use Rattle.plane.specs.Validity.{IsValid}
 use Rattle.plane.specs.Joined.{IsClear}
 use Rattle.plane.specs.Point.{Point}
 use Rattle.plane.specs.Segment.{IsOn}
-use Rattle.greedy_run.specs.Run.{Triangle}
+use Rattle.greedy_run.specs.Run.{Triangle, coverage_without}
 use Rattle.removal_laws.specs.Exchange.{IsEar, IsExchange}
 use Rattle.removal_laws.specs.Ear.{IsWithin, IsStrictlyWithin, AreSides, AreThreeSides, MeetsInEndsAlone, IsFreeOf, IsOther, IsOuterEnd}
 
@@ -51,3 +52,13 @@ HoldersLaw = (t : Triangle) (ab bc ac : Seg) (old new : List EdgeUse) → IsRemo
 -- and the coverage stays valid
 abbrev pub ValidLaw : Type 0
 ValidLaw = (t : Triangle) (ab bc ac : Seg) (old new : List EdgeUse) → IsRemoval t ab bc ac old new → IsValid old → IsValid new
+
+-- in a valid coverage with an ear at b, taking b out of the rings exchanges the uses so
+abbrev pub RingsLaw : Type 0
+RingsLaw = (t : Triangle) (ab bc ac : Seg) (members : Members) → IsEar t ab bc ac (uses_of members) → IsValid (uses_of members)
+    → IsExchange ab bc ac (uses_of members) (uses_of (coverage_without (t.b ∷ []) members))
+
+-- so a coverage in range stays valid without b
+abbrev pub StaysValidLaw : Type 0
+StaysValidLaw = (t : Triangle) (ab bc ac : Seg) (members : Members) → AllInRange members → IsEar t ab bc ac (uses_of members) → IsValid (uses_of members)
+    → IsValid (uses_of (coverage_without (t.b ∷ []) members))

@@ -1,4 +1,4 @@
-ghost use Rattle.removal_laws.specs.Laws.{PaschLaw, EarLaw, OddLaw, InnerLaw, HoldersLaw, ValidLaw};
+ghost use Rattle.removal_laws.specs.Laws.{PaschLaw, EarLaw, OddLaw, InnerLaw, HoldersLaw, ValidLaw, RingsLaw, StaysValidLaw};
 
 /// A segment that meets two sides of a triangle in ends alone, and has no end in it but at the third side, comes into it nowhere else; so it meets the third side in ends alone. A call does nothing.
 pub fn ear_law()
@@ -20,4 +20,10 @@ pub fn inner_law()
 pub fn removal_law()
     ensures holders { HoldersLaw }
     ensures valid { ValidLaw }
+{}
+
+/// Where a point is taken out of the rings of a coverage, its two segments give way to one; so a valid coverage without the point between two neighbouring segments is valid, where their triangle is free of all else. A call does nothing.
+pub fn rings_law()
+    ensures exchange { RingsLaw }
+    ensures valid { StaysValidLaw }
 {}

@@ -17,8 +17,10 @@
 //!   triangle is ac (`flat_third`).
 //! - `Counts`: sums over lists, and how often a member uses a segment. `Exchange`: what the new uses are (`new_is`), that each
 //!   member holds what it held out of the triangle (`holders_kept`), and that they are valid (`valid_after`).
+//! - `Walks`: sums round a closed ring with and without one point (`ring_kept`). `Rings`: the exchange on a ring
+//!   (`ring_without_exchange`). `Members`: on a coverage (`coverage_exchange`), which stays valid (`coverage_valid`).
 #![tactic(auto)]
 
 mod laws;
 
-pub use laws::{ear_law, inner_law, odd_law, removal_law};
+pub use laws::{ear_law, inner_law, odd_law, removal_law, rings_law};

@@ -9,3 +9,4 @@ pub mod Exchange
 pub mod Walks
 pub mod Rings
 pub mod Members
+pub mod Bridge

@@ -26,10 +26,10 @@ use Rattle.removal_laws.proofs.Walks.{walk_sum, ring_sum, AllSteps, AllRound, ri
 -- ---- the side between two points
 
 -- no segment, or one between the points
-abbrev SideCases : Coord → Coord → Option Seg → Type 0
+abbrev pub SideCases : Coord → Coord → Option Seg → Type 0
 SideCases p q o = ((o ≡ None) × (p ≡ q)) ⊎ ((e : Seg) × ((o ≡ Some e) × IsSegBetween p q e))
 
-side_cases : (p q : Coord) → SideCases p q (seg_between p q)
+pub side_cases : (p q : Coord) → SideCases p q (seg_between p q)
 side_cases p q =
     seg_between_by_ends (SideCases p q) p q
     (λ s lo hi. inr (s, (refl, inl (lo, hi)))) (λ s lo hi. inr (s, (refl, inr (lo, hi)))) (λ e. inl (refl, e))

@@ -1,5 +1,6 @@
 -- The laws of taking a point out of a border.
-use Rattle.std.specs.Prelude.{◌≡◌, ℕ, true, List, [], ◌∷◌, Contains}
+use Rattle.std.specs.Prelude.{◌≡◌, ◌≢◌, ℕ, true, List, [], ◌∷◌, Contains}
+use Rattle.cov_types.specs.declared.coord.Coord.{Coord}
 use Rattle.cov_types.specs.Coverage.{Members, AllInRange}
 use Rattle.cov_types.specs.declared.edge_use.EdgeUse.{EdgeUse}
 use Rattle.cov_types.specs.declared.seg.Seg.{Seg}
@@ -11,9 +12,9 @@ use Rattle.plane.specs.Validity.{IsValid}
 use Rattle.plane.specs.Joined.{IsClear}
 use Rattle.plane.specs.Point.{Point}
 use Rattle.plane.specs.Segment.{IsOn}
-use Rattle.greedy_run.specs.Run.{Triangle, coverage_without}
+use Rattle.greedy_run.specs.Run.{Triangle, Simplification, Spot, IsRemovable, current_edges, coverage_without}
 use Rattle.removal_laws.specs.Exchange.{IsEar, IsExchange}
-use Rattle.removal_laws.specs.Ear.{IsWithin, IsStrictlyWithin, AreSides, AreThreeSides, MeetsInEndsAlone, IsFreeOf, IsOther, IsOuterEnd}
+use Rattle.removal_laws.specs.Ear.{IsWithin, IsStrictlyWithin, AreSides, AreThreeSides, MeetsInEndsAlone, HasFreeEnds, IsFreeOf, IsOther, IsOuterEnd}
 
 -- a segment that meets two sides in ends alone, is not the third, and has free ends, comes into the closed triangle at such an end alone, which is a or c
 abbrev pub PaschLaw : Type 0
@@ -62,3 +63,10 @@ RingsLaw = (t : Triangle) (ab bc ac : Seg) (members : Members) → IsEar t ab bc
 abbrev pub StaysValidLaw : Type 0
 StaysValidLaw = (t : Triangle) (ab bc ac : Seg) (members : Members) → AllInRange members → IsEar t ab bc ac (uses_of members) → IsValid (uses_of members)
     → IsValid (uses_of (coverage_without (t.b ∷ []) members))
+
+-- ---- the run
+
+-- in a state of the run, each current segment that does not end at a removable point is not ac and has free ends
+abbrev pub FreeEndsLaw : Type 0
+FreeEndsLaw = (s : Simplification) (removed : List Coord) (spot : Spot) (h : IsRemovable s removed spot)
+    → (e : Seg) → Contains (current_edges s.lines removed) e → e.lo ≢ h.t.b → e.hi ≢ h.t.b → HasFreeEnds h.t e

@@ -1,4 +1,4 @@
-ghost use Rattle.removal_laws.specs.Laws.{PaschLaw, EarLaw, OddLaw, InnerLaw, HoldersLaw, ValidLaw, RingsLaw, StaysValidLaw};
+ghost use Rattle.removal_laws.specs.Laws.{PaschLaw, EarLaw, OddLaw, InnerLaw, HoldersLaw, ValidLaw, RingsLaw, StaysValidLaw, FreeEndsLaw};
 
 /// A segment that meets two sides of a triangle in ends alone, and has no end in it but at the third side, comes into it nowhere else; so it meets the third side in ends alone. A call does nothing.
 pub fn ear_law()
@@ -26,4 +26,9 @@ pub fn removal_law()
 pub fn rings_law()
     ensures exchange { RingsLaw }
     ensures valid { StaysValidLaw }
+{}
+
+/// The triangle of a removable point is free of all current segments that do not end at the point. A call does nothing.
+pub fn free_ends_law()
+    ensures { FreeEndsLaw }
 {}

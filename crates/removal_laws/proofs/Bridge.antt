@@ -1,14 +1,13 @@
 -- What is free of a removable point's triangle in the state of a run.
 use mathlib.Core.List.{[], ◌∷◌}
-use Rattle.std.proofs.Common.{◌≡◌, ◌≢◌, ◌⊎◌, inl, inr, refl, sym, ◌∙◌, ap, subst, zero, suc, ℕ, ◌+◌, ◌≤◌, List, ◌++◌, zip, drop, ℤ, pos, ◌+ℤ◌, ◌*ℤ◌, arith}
-use Rattle.std.specs.Prelude.{Contains, flat_map, Option, Some, None, option_to_list}
+use Rattle.std.proofs.Common.{◌≢◌, inl, inr, sym, ◌∙◌, subst, zero, suc, List, zip, pos, ◌+ℤ◌, ◌*ℤ◌, arith}
+use Rattle.std.specs.Prelude.{Contains, flat_map, Option, option_to_list}
 use Rattle.std.proofs.lemmas.Bool.{false≢true}
 use Rattle.std.proofs.lemmas.List.Concat.{flat_map-cons}
 use Rattle.std.proofs.lemmas.List.Elements.{Contains-append_cases, Contains-append_left, Contains-append_right}
 use Rattle.integer_laws.proofs.Ring.{one_mul}
 use Rattle.cov_types.specs.declared.coord.Coord.{Coord}
 use Rattle.cov_types.specs.declared.seg.Seg.{Seg}
-use Rattle.cov_types.specs.Coord.{is_same_coord}
 use Rattle.cov_types.specs.Seg.{IsSegBetween}
 use Rattle.cov_types.specs.Uses.{seg_between}
 use Rattle.plane.specs.Point.{at_coord}

@@ -1,7 +1,7 @@
 -- Sums over lists, and how often a member uses a segment.
 use mathlib.Core.List.{[], ◌∷◌}
-use Rattle.std.proofs.Common.{◌≡◌, refl, sym, ◌∙◌, ap, subst, ℕ, zero, suc, ◌+◌, ◌*◌, ◌<◌, ◌≤◌, ◌==◌, ◌&&◌, Bool, true, false, cond, List, map, inl, inr, arith}
-use Rattle.std.specs.Prelude.{Contains, count_by, sum_by, Some, slice_get}
+use Rattle.std.proofs.Common.{◌≡◌, refl, sym, ◌∙◌, ap, subst, ℕ, zero, suc, ◌+◌, ◌*◌, ◌<◌, ◌≤◌, ◌==◌, ◌&&◌, Bool, true, false, cond, List, inl, inr, arith}
+use Rattle.std.specs.Prelude.{Contains, sum_by, Some, slice_get}
 use Rattle.std.proofs.lemmas.Bool.{and_parts, and_from, cases_lt}
 use Rattle.std.proofs.lemmas.Bool.Decides.{Decides-eqb}
 use Rattle.std.proofs.lemmas.List.Sums.{sum_by-cons}
@@ -11,7 +11,7 @@ use Rattle.cov_types.specs.declared.seg.Seg.{Seg}
 use Rattle.cov_types.proofs.Equal.{Decides-same_segs, same_uses}
 use Rattle.plane.specs.Validity.{IsRepeated}
 use Rattle.crossing_laws.proofs.Lists.{contains_here, contains_there}
-use Rattle.crossing_laws.specs.Across.{is_same_seg, member_times}
+use Rattle.crossing_laws.specs.Across.{is_same_seg}
 
 -- ---- sums
 

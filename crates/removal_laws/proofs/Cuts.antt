@@ -1,11 +1,11 @@
 -- Points between points between points, and where a way leaves a half-plane.
 use mathlib.Core.List.{[], ◌∷◌}
-use Rattle.std.proofs.Common.{◌≡◌, ◌⊎◌, inl, inr, refl, sym, ◌∙◌, ap, subst, ℕ, zero, suc, ◌+◌, ◌*◌, ◌≤◌, ◌<◌, ℤ, pos, neg_ℤ, ◌+ℤ◌, ◌-ℤ◌, ◌*ℤ◌, ◌<ℤ◌, ◌≤ℤ◌, arith}
-use Rattle.integer_laws.proofs.Ring.{lin, by_ring, by_one, by_two, Term, Var, Lit, ◌⊕◌, ◌⊖◌, ◌⊗◌, Neg, mul_comm, mul_zero}
+use Rattle.std.proofs.Common.{◌≡◌, ◌⊎◌, inl, inr, refl, sym, ◌∙◌, ap, subst, ℕ, zero, suc, ◌+◌, ◌*◌, ◌≤◌, ℤ, pos, neg_ℤ, ◌+ℤ◌, ◌*ℤ◌, ◌<ℤ◌, ◌≤ℤ◌, arith}
+use Rattle.integer_laws.proofs.Ring.{lin, by_two, Var, Lit, ◌⊕◌, ◌⊖◌, ◌⊗◌, Neg, mul_comm, mul_zero}
 use Rattle.integer_laws.proofs.Cast.{natural}
 use Rattle.integer_laws.proofs.Compare.{lt_or_ge, le_of_lt, lt_excludes_le, lt_excludes_eq}
 use Rattle.integer_laws.proofs.Order.{cancel_eq}
-use Rattle.integer_laws.proofs.Sign.{zero_factor, nonneg_times_nonneg, nonneg_factor, positive_times_negative, negative_factor}
+use Rattle.integer_laws.proofs.Sign.{zero_factor, nonneg_times_nonneg, nonneg_factor, positive_times_negative}
 use Rattle.plane.specs.Point.{Point, SamePoint, IsBetween}
 use Rattle.plane.proofs.Forms.{form, form-between, form-same, form_not_negative-between, between_weight}
 use Rattle.plane.proofs.Points.{d_positive, weights_positive, second_between}

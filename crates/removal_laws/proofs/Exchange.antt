@@ -26,10 +26,10 @@ use Rattle.plane.specs.Noded.{MeetInEnds}
 use Rattle.plane.specs.Validity.{IsRepeated, IsValid}
 use Rattle.crossing_laws.specs.Across.{is_same_seg}
 use Rattle.greedy_run.specs.Run.{Triangle}
-use Rattle.removal_laws.specs.Ear.{IsWithin, AreThreeSides, IsFree, MeetsInEndsAlone, HasFreeEnds, IsFreeOf, IsOther}
+use Rattle.removal_laws.specs.Ear.{IsWithin, IsFree, MeetsInEndsAlone, IsFreeOf, IsOther}
 use Rattle.removal_laws.specs.Exchange.{IsEar, value_after, IsExchange}
 use Rattle.removal_laws.specs.Laws.{IsRemoval}
-use Rattle.removal_laws.proofs.Counts.{one_of_sum, some_counted, sum_at_most, sum_scaled, is_use_of, counts_use, use_counts, counted_is, has_times, times_has, repeated_of, twice_of}
+use Rattle.removal_laws.proofs.Counts.{one_of_sum, some_counted, sum_at_most, sum_scaled, counts_use, use_counts, counted_is, has_times, times_has, repeated_of, twice_of}
 use Rattle.removal_laws.proofs.Ear.{within_first, within_second, within_third, between_ends, ear}
 use Rattle.removal_laws.proofs.Inner.{flat_third, way_out, within_or_not}
 use Rattle.removal_laws.proofs.Odd.{IsOddOf, one_side, strictly_of}

@@ -1,7 +1,7 @@
 -- Points of the triangle off ac are joined with one another, and with points out of it, round ac and all that is free of it.
 use mathlib.Core.List.{[], ◌∷◌}
-use Rattle.std.proofs.Common.{◌≡◌, ◌⊎◌, inl, inr, refl, sym, ◌∙◌, ap, subst, ◌^◌, List, Contains, ℕ, ◌+◌, ℤ, pos, neg_ℤ, ◌+ℤ◌, ◌-ℤ◌, ◌*ℤ◌, ◌<ℤ◌, ◌≤ℤ◌, ⊎_elim, arith}
-use Rattle.integer_laws.proofs.Ring.{lin, by_ring, Term, Var, Lit, ◌⊕◌, ◌⊖◌, ◌⊗◌, mul_one}
+use Rattle.std.proofs.Common.{◌≡◌, ◌⊎◌, inl, inr, refl, sym, ◌∙◌, ap, subst, ◌^◌, List, Contains, ◌+◌, ℤ, pos, neg_ℤ, ◌+ℤ◌, ◌-ℤ◌, ◌*ℤ◌, ◌<ℤ◌, ⊎_elim, arith}
+use Rattle.integer_laws.proofs.Ring.{lin, by_ring, Var, Lit, ◌⊕◌, ◌⊖◌, ◌⊗◌, mul_one}
 use Rattle.integer_laws.proofs.Compare.{lt_or_ge, le_of_lt, lt_excludes_le, lt_excludes_eq, trichotomy}
 use Rattle.cov_types.specs.declared.coord.Coord.{Coord}
 use Rattle.cov_types.specs.declared.seg.Seg.{Seg}
@@ -9,19 +9,19 @@ use Rattle.cov_types.specs.Range.{IsSegInRange}
 use Rattle.cov_types.specs.Seg.{IsSegBetween}
 use Rattle.plane.specs.Joined.{IsClear, Joined}
 use Rattle.plane.specs.Point.{Point, SamePoint, IsBetween, at_coord}
-use Rattle.plane.specs.Ray.{sweep, Rises}
-use Rattle.plane.specs.Segment.{IsOn, IsEnd, side, midpoint, upper, lower}
+use Rattle.plane.specs.Ray.{sweep}
+use Rattle.plane.specs.Segment.{IsOn, IsEnd, midpoint, upper, lower}
 use Rattle.plane.proofs.Forms.{form, form_positive-between, form_not_negative-between, form_zero-between}
 use Rattle.plane.proofs.Points.{between-sym, same_point-sym, first_between, second_between}
 use Rattle.plane.proofs.Sides.{side-form}
 use Rattle.plane.proofs.Sweeps.{rises-in_range, sweep-same}
-use Rattle.crossing_laws.proofs.Beside.{HaveOnlyEnds, rise, side-upper, side-lower, side_points_clear}
+use Rattle.crossing_laws.proofs.Beside.{HaveOnlyEnds, side-upper, side-lower, side_points_clear}
 use Rattle.crossing_laws.proofs.Ways.{joined_by_clear, joined-trans}
 use Rattle.greedy_run.specs.Run.{Triangle}
-use Rattle.removal_laws.specs.Ear.{IsWithin, AreSides, AreThreeSides, MeetsInEndsAlone, IsFreeOf, IsOther}
-use Rattle.removal_laws.proofs.Cuts.{HalfPlane, depth, between-trans, zero-same, IsInAll}
-use Rattle.removal_laws.proofs.Inside.{left_of, left-first, left-second, left-exchanged, area, to_a, to_b, to_c, IsInside, depth-a, depth-b, depth-c, within-inside, inside-within, within_not_negative, within_not_positive, on_third, first_corner, inside_or_not}
-use Rattle.removal_laws.proofs.Pasch.{nested_on, IsUpwards, upwards_of, on_by_sweep, on_between, sweep_least, sweep_most, flat_on_first, flat_on_second, mirror, area-mirror, within-mirror, free-mirror, not_third-mirror, pasch}
+use Rattle.removal_laws.specs.Ear.{IsWithin, AreThreeSides, MeetsInEndsAlone, IsFreeOf, IsOther}
+use Rattle.removal_laws.proofs.Cuts.{HalfPlane, depth, between-trans, zero-same}
+use Rattle.removal_laws.proofs.Inside.{left_of, left-first, left-second, left-exchanged, area, to_a, to_b, to_c, depth-a, depth-b, depth-c, within-inside, inside-within, within_not_negative, within_not_positive, on_third, first_corner, inside_or_not}
+use Rattle.removal_laws.proofs.Pasch.{nested_on, IsUpwards, upwards_of, on_by_sweep, on_between, sweep_least, sweep_most, mirror, area-mirror, within-mirror, free-mirror, not_third-mirror, pasch}
 use Rattle.removal_laws.proofs.Ear.{within_first, between_ends, end_of}
 
 -- ---- the mirror

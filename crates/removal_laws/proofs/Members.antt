@@ -1,7 +1,7 @@
 -- The uses of a coverage without b are those that the exchange gives, so it stays valid.
 use mathlib.Core.List.{[], ◌∷◌}
-use Rattle.std.proofs.Common.{◌≡◌, inl, inr, refl, sym, ◌∙◌, ap, subst, ℕ, ◌+◌, ◌≤◌, List, ◌++◌, map, arith}
-use Rattle.std.specs.Prelude.{All, Contains, sum_by, flat_map}
+use Rattle.std.proofs.Common.{◌≡◌, inl, inr, refl, sym, ◌∙◌, subst, ℕ, ◌+◌, ◌≤◌, List, ◌++◌, map, arith}
+use Rattle.std.specs.Prelude.{Contains, sum_by, flat_map}
 use Rattle.std.specs.List.{enumerate_from}
 use Rattle.std.proofs.lemmas.Bool.{cases_lt}
 use Rattle.std.proofs.lemmas.List.Concat.{flat_map-cons}

@@ -1,19 +1,18 @@
 -- An odd number of a triangle's sides over a point off them: the point is inside.
 use mathlib.Core.List.{[], ◌∷◌}
-use Rattle.std.proofs.Common.{◌≡◌, ◌⊎◌, inl, inr, refl, sym, ◌∙◌, ap, subst, ◌^◌, ℕ, ◌+◌, ◌%◌, Bool, true, false, true≢false, cond, List, ℤ, pos, negsuc, neg_ℤ, ◌+ℤ◌, ◌-ℤ◌, ◌*ℤ◌, ◌<ℤ◌, ◌≤ℤ◌, ⊎_elim, arith}
+use Rattle.std.proofs.Common.{◌≡◌, ◌⊎◌, inl, inr, refl, sym, ◌∙◌, ap, subst, ◌^◌, ℕ, ◌+◌, ◌%◌, Bool, true, false, true≢false, cond, ℤ, pos, negsuc, neg_ℤ, ◌+ℤ◌, ◌-ℤ◌, ◌*ℤ◌, ◌<ℤ◌, ◌≤ℤ◌, ⊎_elim, arith}
 use Rattle.std.specs.Prelude.{sum_by, count_by}
 use Rattle.std.proofs.lemmas.Bool.Decides.{Decides-eqb}
 use Rattle.std.proofs.lemmas.List.Sums.{sum_by-cons}
-use Rattle.integer_laws.proofs.Ring.{lin, by_ring, by_one, Term, Var, Lit, ◌⊕◌, ◌⊖◌, ◌⊗◌, Neg, mul_comm, neg_mul, zero_mul}
-use Rattle.integer_laws.proofs.Compare.{lt_or_ge, le_of_lt, trichotomy, lt_excludes_le}
+use Rattle.integer_laws.proofs.Ring.{lin, by_ring, by_one, Var, Lit, ◌⊕◌, ◌⊖◌, ◌⊗◌, Neg, mul_comm, neg_mul, zero_mul}
+use Rattle.integer_laws.proofs.Compare.{lt_or_ge, le_of_lt, trichotomy}
 use Rattle.integer_laws.proofs.Order.{lt_mul}
-use Rattle.integer_laws.proofs.Sign.{nonneg_times_nonneg, positive_times_positive, positive_times_negative, negative_times_positive, negative_times_negative, nonpos_times_nonpos, nonneg_times_nonpos, positive_factor, negative_factor, positive_cofactor, negative_cofactor, nonpos_times_nonneg}
+use Rattle.integer_laws.proofs.Sign.{positive_times_positive, positive_times_negative, negative_times_positive, negative_times_negative, nonpos_times_nonpos, nonneg_times_nonpos, positive_factor, negative_factor, positive_cofactor, negative_cofactor}
 use Rattle.cov_types.specs.declared.coord.Coord.{Coord}
 use Rattle.cov_types.specs.declared.seg.Seg.{Seg}
-use Rattle.cov_types.specs.Seg.{IsSegBetween}
 use Rattle.plane.specs.Point.{Point, at_coord}
 use Rattle.plane.specs.Ray.{sweep, is_over, Rises}
-use Rattle.plane.specs.Segment.{IsOn, side, turn_of}
+use Rattle.plane.specs.Segment.{IsOn, side}
 use Rattle.plane.proofs.Forms.{form}
 use Rattle.plane.proofs.Over.{IsOver, over-is}
 use Rattle.plane.proofs.Points.{d_positive}
@@ -22,8 +21,8 @@ use Rattle.plane.proofs.Sweeps.{rises-in_range}
 use Rattle.plane.specs.Parity.{holds}
 use Rattle.greedy_run.specs.Run.{Triangle}
 use Rattle.removal_laws.specs.Ear.{AreThreeSides, IsStrictlyWithin}
-use Rattle.removal_laws.proofs.Cuts.{HalfPlane, depth}
-use Rattle.removal_laws.proofs.Inside.{left_of, left_term, left-exchanged, area, to_a, to_b, to_c, points_of, a_term, b_term, c_term, split-x, split-y, split-d, strictly_by}
+use Rattle.removal_laws.proofs.Cuts.{depth}
+use Rattle.removal_laws.proofs.Inside.{left_of, left-exchanged, area, to_a, to_b, to_c, a_term, b_term, c_term, split-x, split-y, split-d, strictly_by}
 use Rattle.removal_laws.proofs.Pasch.{IsUpwards, upwards_of, on_by_sweep, mirror}
 
 -- ---- how many of three

@@ -1,22 +1,22 @@
 -- A segment that meets two sides of a triangle in ends alone has no point in it but such an end at the third side.
-use Rattle.std.proofs.Common.{◌≡◌, ◌⊎◌, inl, inr, refl, sym, ◌∙◌, ap, subst, ◌^◌, ◌+◌, ℤ, pos, neg_ℤ, ◌+ℤ◌, ◌-ℤ◌, ◌*ℤ◌, ◌<ℤ◌, ◌≤ℤ◌, ⊎_elim, arith}
+use Rattle.std.proofs.Common.{◌≡◌, ◌⊎◌, inl, inr, sym, ◌∙◌, ap, subst, ◌^◌, ◌+◌, ℤ, pos, neg_ℤ, ◌*ℤ◌, ◌<ℤ◌, ◌≤ℤ◌, ⊎_elim, arith}
 use Rattle.integer_laws.proofs.Ring.{lin, mul_one}
-use Rattle.integer_laws.proofs.Compare.{lt_or_ge, le_of_eq, le_of_lt, lt_excludes_le, trichotomy, eq_or_not}
+use Rattle.integer_laws.proofs.Compare.{lt_or_ge, le_of_lt, lt_excludes_le, trichotomy, eq_or_not}
 use Rattle.cov_types.specs.declared.coord.Coord.{Coord}
 use Rattle.cov_types.specs.declared.seg.Seg.{Seg}
 use Rattle.cov_types.specs.Seg.{IsSegBetween}
 use Rattle.plane.specs.Point.{Point, SamePoint, IsBetween, at_coord}
 use Rattle.plane.specs.Ray.{sweep, Rises}
-use Rattle.plane.specs.Segment.{IsOn, IsEnd, side, turn_of}
+use Rattle.plane.specs.Segment.{IsOn, IsEnd}
 use Rattle.plane.proofs.Contacts.{ends_apart}
 use Rattle.plane.proofs.Forms.{form_negative-between}
-use Rattle.plane.proofs.Points.{between-sym, same_point-refl, same_point-sym, same_point-trans}
+use Rattle.plane.proofs.Points.{between-sym, same_point-refl}
 use Rattle.plane.proofs.Sides.{side-form, turn-outer_two}
 use Rattle.plane.proofs.Sweeps.{sweep-above, on_from_sweep, rises-in_range}
 use Rattle.greedy_run.specs.Run.{Triangle}
 use Rattle.removal_laws.specs.Ear.{IsWithin, AreSides, IsFree, MeetsInEndsAlone, IsFreeOf, IsOuterEnd}
-use Rattle.removal_laws.proofs.Cuts.{HalfPlane, depth, between-trans, not_negative-same, zero-same, at_line, IsInAll, LeavesAt, IsExit, leave}
-use Rattle.removal_laws.proofs.Inside.{left_of, left-first, left-second, left-exchanged, area, to_a, to_b, to_c, IsInside, depth-a, depth-c, opposite, within-same, within-inside, inside-within, within_not_negative, within_not_positive, on_first, on_second, inside_or_not}
+use Rattle.removal_laws.proofs.Cuts.{HalfPlane, depth, between-trans, not_negative-same, zero-same, at_line, leave}
+use Rattle.removal_laws.proofs.Inside.{left_of, left-first, left-second, left-exchanged, area, to_a, to_b, to_c, IsInside, depth-a, depth-c, within-same, within-inside, inside-within, within_not_negative, within_not_positive, on_first, on_second, inside_or_not}
 
 -- ---- the segment from u to v
 

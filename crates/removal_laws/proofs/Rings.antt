@@ -1,6 +1,6 @@
 -- The uses of a ring without b are those that the exchange gives.
 use mathlib.Core.List.{[], ◌∷◌}
-use Rattle.std.proofs.Common.{◌≡◌, ◌⊎◌, inl, inr, ⊎_elim, refl, sym, ◌∙◌, ap, subst, ℕ, ◌+◌, ◌≤◌, Bool, true, false, not, ◌||◌, ◌&&◌, cond, List, ◌++◌, map, drop, take, zip, arith}
+use Rattle.std.proofs.Common.{◌≡◌, ◌⊎◌, inl, inr, ⊎_elim, refl, sym, ◌∙◌, ap, subst, ℕ, ◌+◌, ◌≤◌, Bool, true, false, not, ◌||◌, ◌&&◌, cond, List, ◌++◌, map, zip, arith}
 use Rattle.std.specs.Prelude.{Contains, sum_by, filter, flat_map, Option, Some, None, option_to_list}
 use Rattle.std.proofs.lemmas.Bool.{false≢true, and_parts}
 use Rattle.std.proofs.lemmas.List.Elements.{Contains-append_left, Contains-append_right}
@@ -11,7 +11,7 @@ use Rattle.cov_types.specs.declared.edge_use.EdgeUse.{EdgeUse}
 use Rattle.cov_types.specs.declared.seg.Seg.{Seg}
 use Rattle.cov_types.specs.Coord.{is_same_coord}
 use Rattle.cov_types.specs.Seg.{IsSegBetween}
-use Rattle.cov_types.specs.Uses.{sides, seg_between, side_uses, ring_uses}
+use Rattle.cov_types.specs.Uses.{seg_between, side_uses, ring_uses}
 use Rattle.cov_types.proofs.Between.{seg_between_by_ends, seg_between-same}
 use Rattle.cov_types.proofs.Equal.{Decides-same_coords}
 use Rattle.plane.specs.Validity.{IsValid}

@@ -58,7 +58,7 @@ first_counts true false true h = omega arith
 first_counts a b false h = absurd (false≢true h)
 first_counts false b true h = omega arith
 
-none_counts : (a b : Bool) → b ≡ false → cond {A = ℕ} (a && b) 1 0 ≡ 0
+pub none_counts : (a b : Bool) → b ≡ false → cond {A = ℕ} (a && b) 1 0 ≡ 0
 none_counts true true h = absurd (false≢true (sym h))
 none_counts true false h = refl
 none_counts false b h = refl
@@ -102,7 +102,7 @@ not_coord v w apart =
     ]
 
 -- a segment has one end at each of its ends
-one_end : (v w : Coord) (s : Seg) → IsSegBetween v w s → ends_inside (is_same_coord w) s ≡ 1
+pub one_end : (v w : Coord) (s : Seg) → IsSegBetween v w s → ends_inside (is_same_coord w) s ≡ 1
 one_end v w s (inl (lo, hi)) =
     one_passes (is_same_coord w s.lo) (is_same_coord w s.hi)
     (not_coord w s.lo (λ e. ends_differ v w s (inl (lo, hi)) (sym lo ∙ sym e))) ((Decides-same_coords w s.hi).1 (sym hi))
@@ -114,24 +114,24 @@ one_end v w s (inr (lo, hi)) =
     add_comm : (m n : ℕ) → m + n ≡ n + m
     add_comm m n = omega arith
 
-no_end_at : (w : Coord) (s : Seg) → ¬ (w ≡ s.lo) → ¬ (w ≡ s.hi) → ends_inside (is_same_coord w) s ≡ 0
+pub no_end_at : (w : Coord) (s : Seg) → ¬ (w ≡ s.lo) → ¬ (w ≡ s.hi) → ends_inside (is_same_coord w) s ≡ 0
 no_end_at w s lo hi = none_passes (is_same_coord w s.lo) (is_same_coord w s.hi) (not_coord w s.lo lo) (not_coord w s.hi hi)
 
 -- ---- one use, over plain tests: whether it is of the member, of ab, of bc, and whether ab, bc and ac are over a point
 
-ends_of_first : (m x y : Bool) (n : ℕ) → n ≡ 1 → x ≡ true → y ≡ false → cond m n 0 ≡ cond {A = ℕ} (m && x) 1 0 + cond {A = ℕ} (m && y) 1 0
+pub ends_of_first : (m x y : Bool) (n : ℕ) → n ≡ 1 → x ≡ true → y ≡ false → cond m n 0 ≡ cond {A = ℕ} (m && x) 1 0 + cond {A = ℕ} (m && y) 1 0
 ends_of_first false x y n e h k = refl
 ends_of_first true true false n e h k = omega arith
 ends_of_first true true true n e h k = absurd (false≢true (sym k))
 ends_of_first true false y n e h k = absurd (false≢true h)
 
-ends_of_second : (m x y : Bool) (n : ℕ) → n ≡ 1 → x ≡ false → y ≡ true → cond m n 0 ≡ cond {A = ℕ} (m && x) 1 0 + cond {A = ℕ} (m && y) 1 0
+pub ends_of_second : (m x y : Bool) (n : ℕ) → n ≡ 1 → x ≡ false → y ≡ true → cond m n 0 ≡ cond {A = ℕ} (m && x) 1 0 + cond {A = ℕ} (m && y) 1 0
 ends_of_second false x y n e h k = refl
 ends_of_second true false true n e h k = omega arith
 ends_of_second true false false n e h k = absurd (false≢true k)
 ends_of_second true true y n e h k = absurd (false≢true (sym h))
 
-ends_of_third : (m x y : Bool) (n : ℕ) → n ≡ 0 → x ≡ false → y ≡ false → cond m n 0 ≡ cond {A = ℕ} (m && x) 1 0 + cond {A = ℕ} (m && y) 1 0
+pub ends_of_third : (m x y : Bool) (n : ℕ) → n ≡ 0 → x ≡ false → y ≡ false → cond m n 0 ≡ cond {A = ℕ} (m && x) 1 0 + cond {A = ℕ} (m && y) 1 0
 ends_of_third false x y n e h k = refl
 ends_of_third true false false n e h k = omega arith
 ends_of_third true false true n e h k = absurd (false≢true (sym k))

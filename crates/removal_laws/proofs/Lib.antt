@@ -10,3 +10,4 @@ pub mod Walks
 pub mod Rings
 pub mod Members
 pub mod Bridge
+pub mod Steps

@@ -44,10 +44,10 @@ uses_some m p q e is = ap (λ o. map (λ s. record { member = m; seg = s }) (opt
 abbrev pub side_sum : ℕ → (EdgeUse → ℕ) → Coord → Coord → ℕ
 side_sum m f p q = sum_by f (side_uses m (p, q))
 
-sum_none : (m : ℕ) (f : EdgeUse → ℕ) (p q : Coord) → seg_between p q ≡ None → side_sum m f p q ≡ 0
+pub sum_none : (m : ℕ) (f : EdgeUse → ℕ) (p q : Coord) → seg_between p q ≡ None → side_sum m f p q ≡ 0
 sum_none m f p q e = ap (sum_by f) (uses_none m p q e)
 
-sum_some : (m : ℕ) (f : EdgeUse → ℕ) (p q : Coord) (e : Seg) → seg_between p q ≡ Some e → side_sum m f p q ≡ f (record { member = m; seg = e })
+pub sum_some : (m : ℕ) (f : EdgeUse → ℕ) (p q : Coord) (e : Seg) → seg_between p q ≡ Some e → side_sum m f p q ≡ f (record { member = m; seg = e })
 sum_some m f p q e is = ap (sum_by f) (uses_some m p q e is) ∙ omega arith
 
 -- ---- one ring
@@ -75,7 +75,7 @@ module _ (t : Triangle) (ab bc ac : Seg) (old : List EdgeUse) (is_ear : IsEar t 
   abbrev pub IsUsed : Coord → Coord → Type 0
   IsUsed p q = (u : EdgeUse) → Contains (side_uses m (p, q)) u → Contains old u
 
-  used : (p q : Coord) (e : Seg) → seg_between p q ≡ Some e → IsUsed p q → Contains old (record { member = m; seg = e })
+  pub used : (p q : Coord) (e : Seg) → seg_between p q ≡ Some e → IsUsed p q → Contains old (record { member = m; seg = e })
   used p q e is ok = ok _ (subst (λ us. Contains us (record { member = m; seg = e })) (sym (uses_some m p q e is)) (contains_here (record { member = m; seg = e }) []))
 
   -- a side away from b stays
@@ -228,7 +228,7 @@ one_point_walk m f x (y ∷ ys) z h e =
     let rest = one_point_walk m f y ys z parts.1 (sym parts.0 ∙ e) in
     omega arith
 
-one_point_sum : (m : ℕ) (f : EdgeUse → ℕ) (points : List Coord) → is_one_point points ≡ true → ring_sum (side_sum m f) points ≡ 0
+pub one_point_sum : (m : ℕ) (f : EdgeUse → ℕ) (points : List Coord) → is_one_point points ≡ true → ring_sum (side_sum m f) points ≡ 0
 one_point_sum m f [] h = refl
 one_point_sum m f (x ∷ xs) h = one_point_walk m f x xs x h refl
 
@@ -273,7 +273,7 @@ module _ (t : Triangle) (ab bc ac : Seg) (old : List EdgeUse) (is_ear : IsEar t 
         all_used y ys z (λ u has. h u (subst (λ us. Contains us u) (sym split) (Contains-append_right (side_uses m (x, y)) (flat_map (side_uses m) more) u has))),
       )
 
-  round_used : (points : List Coord) → ((u : EdgeUse) → Contains (ring_uses m points) u → Contains old u) → AllRound Used points
+  pub round_used : (points : List Coord) → ((u : EdgeUse) → Contains (ring_uses m points) u → Contains old u) → AllRound Used points
   round_used [] h = tt
   round_used (x ∷ xs) h = all_used x xs x h
 

@@ -1,0 +1,162 @@
+-- A ring that loses a point of an ear keeps two different points, and points can be taken out one after the other.
+use mathlib.Core.List.{[], ◌∷◌}
+use Rattle.std.proofs.Common.{◌≡◌, ◌⊎◌, inl, inr, ⊎_elim, refl, sym, ◌∙◌, ap, subst, ℕ, ◌+◌, ◌%◌, ◌≤◌, ◌==◌, ◌&&◌, Bool, true, false, cond, List, ◌++◌, arith}
+use Rattle.std.specs.Prelude.{Contains, sum_by, flat_map}
+use Rattle.std.proofs.lemmas.Bool.{false≢true, and_from}
+use Rattle.std.proofs.lemmas.Bool.Decides.{Decides-eqb}
+use Rattle.std.proofs.lemmas.List.Concat.{flat_map-cons}
+use Rattle.std.proofs.lemmas.List.Sums.{sum_by-append}
+use Rattle.cov_types.specs.declared.coord.Coord.{Coord}
+use Rattle.cov_types.specs.declared.edge_use.EdgeUse.{EdgeUse}
+use Rattle.cov_types.specs.declared.seg.Seg.{Seg}
+use Rattle.cov_types.specs.Coord.{is_same_coord}
+use Rattle.cov_types.specs.Seg.{IsSegBetween}
+use Rattle.cov_types.specs.Uses.{ends_inside, side_uses, ring_uses, poly_uses, member_uses, uses_of}
+use Rattle.cov_types.proofs.EvenEnds.{even-ends}
+use Rattle.cov_types.proofs.Equal.{Decides-same_coords}
+use Rattle.plane.specs.Validity.{IsValid}
+use Rattle.crossing_laws.specs.Across.{is_same_seg}
+use Rattle.greedy_run.specs.Run.{Triangle, is_one_point, ring_without}
+use Rattle.removal_laws.specs.Exchange.{IsEar, value_after}
+use Rattle.removal_laws.proofs.Counts.{counts_use, use_counts}
+use Rattle.removal_laws.proofs.Exchange.{kind, first_adds, second_adds, third_adds, first_not_second, b_not_free, seg_is, ends_of_first, ends_of_second, ends_of_third, one_end, no_end_at, none_counts}
+use Rattle.removal_laws.proofs.Walks.{walk_sum, ring_sum, AllSteps, AllRound}
+use Rattle.removal_laws.proofs.Rings.{IsUsed, used, side_cases, side_sum, sum_none, sum_some, ring_sum-uses, one_point_sum, round_used, ring_without_exchange}
+
+-- ---- sums round a ring that are compared step by step
+
+-- what holds of each step of some sums holds round the ring: the first is at most the second and the third together, the fourth at most the second, the fifth the fourth and the third
+record AreSums (all after second first ends : ℕ) : Type 0 where
+  most : all ≤ after + second
+  first_most : first ≤ after
+  by_ends : ends ≡ first + second
+
+added : (a b c d e f g h i j : ℕ) → AreSums a b c d e → AreSums f g h i j → AreSums (a + f) (b + g) (c + h) (d + i) (e + j)
+added a b c d e f g h i j x y = record {
+  most = (let k = x.most in let l = y.most in omega arith);
+  first_most = (let k = x.first_most in let l = y.first_most in omega arith);
+  by_ends = (let k = x.by_ends in let l = y.by_ends in omega arith);
+}
+
+walk_sums : (ok : Coord → Coord → Type 0) (all after second first ends : Coord → Coord → ℕ) → ((p q : Coord) → ok p q → AreSums (all p q) (after p q) (second p q) (first p q) (ends p q))
+    → (p : Coord) (points : List Coord) → AllSteps ok p points → AreSums (walk_sum all p points) (walk_sum after p points) (walk_sum second p points) (walk_sum first p points) (walk_sum ends p points)
+walk_sums ok all after second first ends each p [] steps = record { most = omega arith; first_most = omega arith; by_ends = refl }
+walk_sums ok all after second first ends each p (q ∷ rest) steps =
+    added _ _ _ _ _ _ _ _ _ _ (each p q steps.0) (walk_sums ok all after second first ends each q rest steps.1)
+
+-- where no step of a walk is a segment, its points are one
+no_steps : (m : ℕ) (x : Coord) (xs : List Coord) (z : Coord) → walk_sum (side_sum m (λ u. 1)) x (xs ++ z ∷ []) ≡ 0 → is_one_point (x ∷ xs) ≡ true
+no_steps m x [] z h = refl
+no_steps m x (y ∷ ys) z h =
+    elim (side_cases x y) [
+      | inl none ↦ and_from (is_same_coord x y) (is_one_point (y ∷ ys)) ((Decides-same_coords x y).1 none.1) (no_steps m y ys z (omega arith))
+      | inr some ↦ absurd (let one = sum_some m (λ u. 1) x y some.0 some.1.0 in omega arith)
+    ]
+
+of_one : {X : Type 0} (g : X → List EdgeUse) (x : X) (f : EdgeUse → ℕ) → sum_by f (flat_map g (x ∷ [])) ≡ sum_by f (g x)
+of_one g x f = ap (sum_by f) (flat_map-cons g x []) ∙ sum_by-append f (g x) [] ∙ omega arith
+
+-- the ends of a ring's sides at a point are even
+ring_even : (points : List Coord) (inside : Coord → Bool) → ring_sum (side_sum 0 (λ u. cond (u.member == 0) (ends_inside inside u.seg) 0)) points % 2 ≡ 0
+ring_even points inside =
+    let f : EdgeUse → ℕ = λ u. cond (u.member == 0) (ends_inside inside u.seg) 0 in
+    let ring : sum_by f (uses_of (((points ∷ []) ∷ []) ∷ [])) ≡ sum_by f (ring_uses 0 points) =
+    of_one member_uses (0, (points ∷ []) ∷ []) f ∙ of_one (poly_uses 0) (points ∷ []) f ∙ of_one (ring_uses 0) points f in
+    ap (λ n. n % 2) (sym (ring_sum-uses 0 f points) ∙ sym ring) ∙ even-ends (((points ∷ []) ∷ []) ∷ []) inside 0
+
+module _ (t : Triangle) (ab bc ac : Seg) (old : List EdgeUse) (is_ear : IsEar t ab bc ac old) (valid : IsValid old) (m : ℕ) where
+  abbrev ends_at_b : EdgeUse → ℕ
+  ends_at_b u = cond (u.member == 0) (ends_inside (is_same_coord t.b) u.seg) 0
+
+  abbrev Ok : Coord → Coord → Type 0
+  Ok = IsUsed t ab bc ac old is_ear valid m (λ u. 1)
+
+  -- of one use that is among the old ones
+  use_sums : (e : Seg) → Contains old (record { member = m; seg = e })
+      → AreSums 1 (value_after ab bc ac (λ u. 1) (record { member = m; seg = e })) (counts_use m bc (record { member = m; seg = e })) (counts_use m ab (record { member = m; seg = e })) (ends_inside (is_same_coord t.b) e)
+  use_sums e has =
+      let u : EdgeUse = record { member = m; seg = e } in
+      let x = is_same_seg ab e in
+      let y = is_same_seg bc e in
+      let here : (m == m) ≡ true = (Decides-eqb m m).1 refl in
+      elim (kind t ab bc ac old is_ear valid u has) [
+        | inl first ↦ (
+            let adds = first_adds t ab bc ac old is_ear valid (λ w. 1) u first in
+            let ends = ends_of_first (m == m) x y (ends_inside (is_same_coord t.b) e) (one_end t.a t.b e (subst (λ s. IsSegBetween t.a t.b s) (seg_is ab e first.is) is_ear.sides.two.first)) first.is (first_not_second t ab bc ac old is_ear valid u first) in
+            let whole = ap (λ (b : Bool). cond b (ends_inside (is_same_coord t.b) e) 0) here in
+            let one = one_end t.a t.b e (subst (λ s. IsSegBetween t.a t.b s) (seg_is ab e first.is) is_ear.sides.two.first) in
+            record { most = omega arith; first_most = omega arith; by_ends = sym whole ∙ ends }
+            )
+        | inr more ↦ elim more [
+          | inl second ↦ (
+              let adds = second_adds t ab bc ac old is_ear valid (λ w. 1) u second in
+              let one = one_end t.c t.b e (⊎_elim inr inl (subst (λ s. IsSegBetween t.b t.c s) (seg_is bc e second.is) is_ear.sides.two.second)) in
+              let ends = ends_of_second (m == m) x y (ends_inside (is_same_coord t.b) e) one second.not_first second.is in
+              let whole = ap (λ (b : Bool). cond b (ends_inside (is_same_coord t.b) e) 0) here in
+              let none = none_counts (m == m) x second.not_first in
+              record { most = omega arith; first_most = omega arith; by_ends = sym whole ∙ ends }
+              )
+          | inr third ↦ (
+              let adds = third_adds t ab bc ac old is_ear valid (λ w. 1) u third in
+              let zero_ends = no_end_at t.b e (b_not_free t ab bc ac old is_ear valid e.lo third.free.free.lo) (b_not_free t ab bc ac old is_ear valid e.hi third.free.free.hi) in
+              let ends = ends_of_third (m == m) x y (ends_inside (is_same_coord t.b) e) zero_ends third.not_first third.not_second in
+              let whole = ap (λ (b : Bool). cond b (ends_inside (is_same_coord t.b) e) 0) here in
+              let none = none_counts (m == m) x third.not_first in
+              record { most = omega arith; first_most = omega arith; by_ends = sym whole ∙ ends }
+              )
+        ]
+      ]
+
+  side_sums : (p q : Coord) → Ok p q
+      → AreSums (side_sum m (λ u. 1) p q) (side_sum m (value_after ab bc ac (λ u. 1)) p q) (side_sum m (counts_use m bc) p q) (side_sum m (counts_use m ab) p q) (side_sum 0 ends_at_b p q)
+  side_sums p q ok =
+      elim (side_cases p q) [
+        | inl none ↦ (
+            let a = sum_none m (λ u. 1) p q none.0 in
+            let b = sum_none m (value_after ab bc ac (λ u. 1)) p q none.0 in
+            let c = sum_none m (counts_use m bc) p q none.0 in
+            let d = sum_none m (counts_use m ab) p q none.0 in
+            let e = sum_none 0 ends_at_b p q none.0 in
+            record { most = omega arith; first_most = omega arith; by_ends = omega arith }
+            )
+        | inr some ↦ (
+            let (e, (is, ends)) = some in
+            let sums = use_sums e (used t ab bc ac old is_ear valid m (λ u. 1) p q e is ok) in
+            let k = sums.most in
+            let l = sums.first_most in
+            let n = sums.by_ends in
+            let a = sum_some m (λ u. 1) p q e is in
+            let b = sum_some m (value_after ab bc ac (λ u. 1)) p q e is in
+            let c = sum_some m (counts_use m bc) p q e is in
+            let d = sum_some m (counts_use m ab) p q e is in
+            let g = sum_some 0 ends_at_b p q e is in
+            record { most = omega arith; first_most = omega arith; by_ends = omega arith }
+            )
+      ]
+
+  round_sums : (points : List Coord) → AllRound Ok points
+      → AreSums (ring_sum (side_sum m (λ u. 1)) points) (ring_sum (side_sum m (value_after ab bc ac (λ u. 1))) points) (ring_sum (side_sum m (counts_use m bc)) points) (ring_sum (side_sum m (counts_use m ab)) points) (ring_sum (side_sum 0 ends_at_b) points)
+  round_sums [] steps = record { most = omega arith; first_most = omega arith; by_ends = refl }
+  round_sums (x ∷ xs) steps = walk_sums Ok _ _ _ _ _ side_sums x (xs ++ x ∷ []) steps
+
+  one_point_of : (points : List Coord) → ring_sum (side_sum m (λ u. 1)) points ≡ 0 → is_one_point points ≡ true
+  one_point_of [] h = refl
+  one_point_of (x ∷ xs) h = no_steps m x xs x h
+
+  -- a ring with two different points keeps two
+  pub ring_keeps : (points : List Coord) → ((u : EdgeUse) → Contains (ring_uses m points) u → Contains old u)
+      → sum_by (counts_use m ab) (ring_uses m points) ≤ 1 → sum_by (counts_use m bc) (ring_uses m points) ≤ 1
+      → is_one_point (ring_without (t.b ∷ []) points) ≡ true → is_one_point points ≡ true
+  ring_keeps points among one other h =
+      let f : EdgeUse → ℕ = λ u. 1 in
+      let sums = round_sums points (round_used t ab bc ac old is_ear valid m f points among) in
+      let k = sums.most in
+      let l = sums.first_most in
+      let n = sums.by_ends in
+      let change = ring_without_exchange t ab bc ac old is_ear valid m f points among one other in
+      let before = ring_sum-uses m (value_after ab bc ac f) points in
+      let after = ring_sum-uses m f (ring_without (t.b ∷ []) points) in
+      let none = one_point_sum m f (ring_without (t.b ∷ []) points) h in
+      let seconds = ring_sum-uses m (counts_use m bc) points in
+      let even = ring_even points (is_same_coord t.b) in
+      one_point_of points (omega arith)

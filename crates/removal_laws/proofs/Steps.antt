@@ -1,6 +1,6 @@
 -- A ring that loses a point of an ear keeps two different points, and points can be taken out one after the other.
 use mathlib.Core.List.{[], ◌∷◌}
-use Rattle.std.proofs.Common.{◌≡◌, ◌⊎◌, inl, inr, ⊎_elim, refl, sym, ◌∙◌, ap, subst, ℕ, ◌+◌, ◌%◌, ◌≤◌, ◌==◌, ◌&&◌, Bool, true, false, cond, List, ◌++◌, arith}
+use Rattle.std.proofs.Common.{◌≡◌, ◌⊎◌, inl, inr, ⊎_elim, refl, sym, ◌∙◌, ap, subst, ℕ, ◌+◌, ◌%◌, ◌≤◌, ◌==◌, ◌&&◌, Bool, true, false, not, ◌||◌, cond, List, ◌++◌, arith}
 use Rattle.std.specs.Prelude.{Contains, sum_by, flat_map}
 use Rattle.std.proofs.lemmas.Bool.{false≢true, and_from}
 use Rattle.std.proofs.lemmas.Bool.Decides.{Decides-eqb}
@@ -16,7 +16,7 @@ use Rattle.cov_types.proofs.EvenEnds.{even-ends}
 use Rattle.cov_types.proofs.Equal.{Decides-same_coords}
 use Rattle.plane.specs.Validity.{IsValid}
 use Rattle.crossing_laws.specs.Across.{is_same_seg}
-use Rattle.greedy_run.specs.Run.{Triangle, is_one_point, ring_without}
+use Rattle.greedy_run.specs.Run.{Triangle, is_removed, current, is_one_point, ring_without}
 use Rattle.removal_laws.specs.Exchange.{IsEar, value_after}
 use Rattle.removal_laws.proofs.Counts.{counts_use, use_counts}
 use Rattle.removal_laws.proofs.Exchange.{kind, first_adds, second_adds, third_adds, first_not_second, b_not_free, seg_is, ends_of_first, ends_of_second, ends_of_third, one_end, no_end_at, none_counts}
@@ -160,3 +160,37 @@ module _ (t : Triangle) (ab bc ac : Seg) (old : List EdgeUse) (is_ear : IsEar t 
       let seconds = ring_sum-uses m (counts_use m bc) points in
       let even = ring_even points (is_same_coord t.b) in
       one_point_of points (omega arith)
+
+-- ---- one point after the other
+
+-- taking out b and others is taking out the others and then b
+current_more : (b : Coord) (removed points : List Coord) → current (b ∷ removed) points ≡ current (b ∷ []) (current removed points)
+current_more b removed [] = refl
+current_more b removed (x ∷ xs) = step (current_more b removed xs) (is_same_coord x b) (is_removed removed x) refl
+  where
+    at : (s : Bool) → is_same_coord x b ≡ s → current (b ∷ []) (x ∷ current removed xs) ≡ cond (not (s || false)) (x ∷ current (b ∷ []) (current removed xs)) (current (b ∷ []) (current removed xs))
+    at s e = ap (λ (t : Bool). cond (not (t || false)) (x ∷ current (b ∷ []) (current removed xs)) (current (b ∷ []) (current removed xs))) e
+
+    step : current (b ∷ removed) xs ≡ current (b ∷ []) (current removed xs) → (s r : Bool) → is_same_coord x b ≡ s
+        → cond (not (s || r)) (x ∷ current (b ∷ removed) xs) (current (b ∷ removed) xs) ≡ current (b ∷ []) (cond (not r) (x ∷ current removed xs) (current removed xs))
+    step same true true e = same
+    step same false true e = same
+    step same true false e = same ∙ sym (at true e)
+    step same false false e = ap (λ ps. x ∷ ps) same ∙ sym (at false e)
+
+-- where the ring does not come to be of one point, so it is of rings
+pub ring_without_more : (b : Coord) (removed points : List Coord) → (is_one_point (ring_without removed points) ≡ true → is_one_point points ≡ true)
+    → ring_without (b ∷ removed) points ≡ ring_without (b ∷ []) (ring_without removed points)
+ring_without_more b removed points keeps = by (is_one_point points) refl
+  where
+    by : (t : Bool) → is_one_point points ≡ t → ring_without (b ∷ removed) points ≡ ring_without (b ∷ []) (ring_without removed points)
+    by true e =
+        let of = λ (l : List Coord) (h : is_one_point points ≡ true). ap (λ (t : Bool). cond t points (current l points)) h in
+        of (b ∷ removed) e ∙ sym (of (b ∷ []) e) ∙ sym (ap (ring_without (b ∷ [])) (of removed e))
+    by false e =
+        let of = λ (l : List Coord) (h : is_one_point points ≡ false). ap (λ (t : Bool). cond t points (current l points)) h in
+        of (b ∷ removed) e ∙ current_more b removed points ∙ sym (still (is_one_point (current removed points)) refl) ∙ sym (ap (ring_without (b ∷ [])) (of removed e))
+      where
+        still : (t : Bool) → is_one_point (current removed points) ≡ t → ring_without (b ∷ []) (current removed points) ≡ current (b ∷ []) (current removed points)
+        still false h = ap (λ (u : Bool). cond u (current removed points) (current (b ∷ []) (current removed points))) h
+        still true h = absurd (false≢true (sym e ∙ keeps (ap is_one_point (ap (λ (u : Bool). cond u points (current removed points)) e) ∙ h)))

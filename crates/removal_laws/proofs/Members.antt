@@ -29,14 +29,14 @@ module _ (t : Triangle) (ab bc ac : Seg) (old : List EdgeUse) (is_ear : IsEar t 
     pub one : (m : ℕ) → sum_by (counts_use m ab) uses ≤ 1
     pub other : (m : ℕ) → sum_by (counts_use m bc) uses ≤ 1
 
-  first_part : (xs ys : List EdgeUse) → IsPartOf (xs ++ ys) → IsPartOf xs
+  pub first_part : (xs ys : List EdgeUse) → IsPartOf (xs ++ ys) → IsPartOf xs
   first_part xs ys h = record {
     among = λ u has. h.among u (Contains-append_left xs ys u has);
     one = λ m. (let most = h.one m in omega (arith, sum_by-append (counts_use m ab) xs ys));
     other = λ m. (let most = h.other m in omega (arith, sum_by-append (counts_use m bc) xs ys));
   }
 
-  second_part : (xs ys : List EdgeUse) → IsPartOf (xs ++ ys) → IsPartOf ys
+  pub second_part : (xs ys : List EdgeUse) → IsPartOf (xs ++ ys) → IsPartOf ys
   second_part xs ys h = record {
     among = λ u has. h.among u (Contains-append_right xs ys u has);
     one = λ m. (let most = h.one m in omega (arith, sum_by-append (counts_use m ab) xs ys));
@@ -87,7 +87,7 @@ module _ (t : Triangle) (ab bc ac : Seg) (old : List EdgeUse) (is_ear : IsEar t 
       (joined_lists (member_uses (m, x)) (flat_map member_uses more) (member_uses (m, member_without x)) (flat_map member_uses more_after) (member m x) (all_members (m + 1) xs)))
 
   -- a valid coverage has each segment once
-  all_part : IsPartOf old
+  pub all_part : IsPartOf old
   all_part = record { among = λ u has. has; one = λ m. once m ab; other = λ m. once m bc }
     where
       once : (m : ℕ) (e : Seg) → sum_by (counts_use m e) old ≤ 1

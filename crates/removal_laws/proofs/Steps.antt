@@ -1,6 +1,6 @@
 -- A ring that loses a point of an ear keeps two different points, and points can be taken out one after the other.
 use mathlib.Core.List.{[], ◌∷◌}
-use Rattle.std.proofs.Common.{◌≡◌, ◌⊎◌, inl, inr, ⊎_elim, refl, sym, ◌∙◌, ap, subst, ℕ, ◌+◌, ◌%◌, ◌≤◌, ◌==◌, ◌&&◌, Bool, true, false, not, ◌||◌, cond, List, ◌++◌, arith}
+use Rattle.std.proofs.Common.{◌≡◌, ◌⊎◌, inl, inr, ⊎_elim, refl, sym, ◌∙◌, ap, subst, zero, suc, ℕ, ◌+◌, ◌%◌, ◌≤◌, ◌==◌, ◌&&◌, Bool, true, false, not, ◌||◌, cond, List, ◌++◌, arith}
 use Rattle.std.specs.Prelude.{Contains, sum_by, flat_map}
 use Rattle.std.proofs.lemmas.Bool.{false≢true, and_from}
 use Rattle.std.proofs.lemmas.Bool.Decides.{Decides-eqb}
@@ -9,6 +9,8 @@ use Rattle.std.proofs.lemmas.List.Sums.{sum_by-append}
 use Rattle.cov_types.specs.declared.coord.Coord.{Coord}
 use Rattle.cov_types.specs.declared.edge_use.EdgeUse.{EdgeUse}
 use Rattle.cov_types.specs.declared.seg.Seg.{Seg}
+use Rattle.cov_types.specs.Coverage.{Members}
+use Rattle.std.specs.List.{enumerate_from}
 use Rattle.cov_types.specs.Coord.{is_same_coord}
 use Rattle.cov_types.specs.Seg.{IsSegBetween}
 use Rattle.cov_types.specs.Uses.{ends_inside, side_uses, ring_uses, poly_uses, member_uses, uses_of}
@@ -18,8 +20,10 @@ use Rattle.plane.specs.Validity.{IsValid}
 use Rattle.crossing_laws.specs.Across.{is_same_seg}
 use Rattle.greedy_run.specs.Run.{Triangle, is_removed, current, is_one_point, ring_without}
 use Rattle.removal_laws.specs.Exchange.{IsEar, value_after}
+use Rattle.removal_laws.specs.Laws.{IsRingOf}
 use Rattle.removal_laws.proofs.Counts.{counts_use, use_counts}
 use Rattle.removal_laws.proofs.Exchange.{kind, first_adds, second_adds, third_adds, first_not_second, b_not_free, seg_is, ends_of_first, ends_of_second, ends_of_third, one_end, no_end_at, none_counts}
+use Rattle.removal_laws.proofs.Members.{IsPartOf, first_part, second_part, all_part}
 use Rattle.removal_laws.proofs.Walks.{walk_sum, ring_sum, AllSteps, AllRound}
 use Rattle.removal_laws.proofs.Rings.{IsUsed, used, side_cases, side_sum, sum_none, sum_some, ring_sum-uses, one_point_sum, round_used, ring_without_exchange}
 
@@ -194,3 +198,35 @@ ring_without_more b removed points keeps = by (is_one_point points) refl
         still : (t : Bool) → is_one_point (current removed points) ≡ t → ring_without (b ∷ []) (current removed points) ≡ current (b ∷ []) (current removed points)
         still false h = ap (λ (u : Bool). cond u (current removed points) (current (b ∷ []) (current removed points))) h
         still true h = absurd (false≢true (sym e ∙ keeps (ap is_one_point (ap (λ (u : Bool). cond u points (current removed points)) e) ∙ h)))
+
+-- ---- the rings of a coverage
+
+module _ (t : Triangle) (ab bc ac : Seg) (old : List EdgeUse) (is_ear : IsEar t ab bc ac old) (valid : IsValid old) where
+  abbrev Part : List EdgeUse → Type 0
+  Part = IsPartOf t ab bc ac old is_ear valid (λ u. 1)
+
+  part_of_each : {X : Type 0} (uses : X → List EdgeUse) (xs : List X) (x : X) → Contains xs x → Part (flat_map uses xs) → Part (uses x)
+  part_of_each uses [] x (k, inside, is) part = absurd (omega arith)
+  part_of_each uses (y ∷ ys) x (zero, inside, is) part =
+      subst (λ z. Part (uses z)) is (first_part t ab bc ac old is_ear valid (λ u. 1) (uses y) (flat_map uses ys) (subst Part (flat_map-cons uses y ys) part))
+  part_of_each uses (y ∷ ys) x (suc k, inside, is) part =
+      part_of_each uses ys x (k, omega arith, is) (second_part t ab bc ac old is_ear valid (λ u. 1) (uses y) (flat_map uses ys) (subst Part (flat_map-cons uses y ys) part))
+
+  part_of_member : (m : ℕ) (members : Members) (x : List (List (List Coord))) → Contains members x → Part (flat_map member_uses (enumerate_from m members)) → (k : ℕ) × Part (member_uses (k, x))
+  part_of_member m [] x (k, inside, is) part = absurd (omega arith)
+  part_of_member m (y ∷ ys) x (zero, inside, is) part =
+      let more = enumerate_from (m + 1) ys in
+      (m, subst (λ z. Part (member_uses (m, z))) is (first_part t ab bc ac old is_ear valid (λ u. 1) (member_uses (m, y)) (flat_map member_uses more) (subst Part (flat_map-cons member_uses (m, y) more) part)))
+  part_of_member m (y ∷ ys) x (suc k, inside, is) part =
+      let more = enumerate_from (m + 1) ys in
+      part_of_member (m + 1) ys x (k, omega arith, is) (second_part t ab bc ac old is_ear valid (λ u. 1) (member_uses (m, y)) (flat_map member_uses more) (subst Part (flat_map-cons member_uses (m, y) more) part))
+
+-- a ring of a valid coverage that has two different points keeps two without b
+pub coverage_keeps : (t : Triangle) (ab bc ac : Seg) (members : Members) → IsEar t ab bc ac (uses_of members) → IsValid (uses_of members)
+    → (points : List Coord) → IsRingOf members points → is_one_point (ring_without (t.b ∷ []) points) ≡ true → is_one_point points ≡ true
+coverage_keeps t ab bc ac members is_ear valid points h one =
+    let old = uses_of members in
+    let (k, member) = part_of_member t ab bc ac old is_ear valid 0 members h.member h.in_members (all_part t ab bc ac old is_ear valid (λ u. 1)) in
+    let poly = part_of_each t ab bc ac old is_ear valid (poly_uses k) h.member h.poly h.in_member member in
+    let ring = part_of_each t ab bc ac old is_ear valid (ring_uses k) h.poly points h.in_poly poly in
+    ring_keeps t ab bc ac old is_ear valid k points ring.among (ring.one k) (ring.other k) one

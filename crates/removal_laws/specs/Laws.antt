@@ -12,7 +12,7 @@ use Rattle.plane.specs.Validity.{IsValid}
 use Rattle.plane.specs.Joined.{IsClear}
 use Rattle.plane.specs.Point.{Point}
 use Rattle.plane.specs.Segment.{IsOn}
-use Rattle.greedy_run.specs.Run.{Triangle, Simplification, Spot, IsRemovable, current_edges, coverage_without}
+use Rattle.greedy_run.specs.Run.{Triangle, Simplification, Spot, IsRemovable, current_edges, is_one_point, ring_without, coverage_without}
 use Rattle.removal_laws.specs.Exchange.{IsEar, IsExchange}
 use Rattle.removal_laws.specs.Ear.{IsWithin, IsStrictlyWithin, AreSides, AreThreeSides, MeetsInEndsAlone, HasFreeEnds, IsFreeOf, IsOther, IsOuterEnd}
 
@@ -63,6 +63,26 @@ RingsLaw = (t : Triangle) (ab bc ac : Seg) (members : Members) → IsEar t ab bc
 abbrev pub StaysValidLaw : Type 0
 StaysValidLaw = (t : Triangle) (ab bc ac : Seg) (members : Members) → AllInRange members → IsEar t ab bc ac (uses_of members) → IsValid (uses_of members)
     → IsValid (uses_of (coverage_without (t.b ∷ []) members))
+
+-- ---- one point after the other
+
+-- the points are a ring of the coverage
+pub record IsRingOf (members : Members) (points : List Coord) : Type 0 where
+  pub member : List (List (List Coord))
+  pub in_members : Contains members member
+  pub poly : List (List Coord)
+  pub in_member : Contains member poly
+  pub in_poly : Contains poly points
+
+-- a ring of a valid coverage comes to be of one point only where it was so
+abbrev pub KeepsLaw : Type 0
+KeepsLaw = (t : Triangle) (ab bc ac : Seg) (members : Members) → IsEar t ab bc ac (uses_of members) → IsValid (uses_of members)
+    → (points : List Coord) → IsRingOf members points → is_one_point (ring_without (t.b ∷ []) points) ≡ true → is_one_point points ≡ true
+
+-- then a ring without a point and others is the ring without the others, without the point
+abbrev pub OneMoreLaw : Type 0
+OneMoreLaw = (b : Coord) (removed points : List Coord) → (is_one_point (ring_without removed points) ≡ true → is_one_point points ≡ true)
+    → ring_without (b ∷ removed) points ≡ ring_without (b ∷ []) (ring_without removed points)
 
 -- ---- the run
 

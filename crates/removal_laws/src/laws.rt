@@ -1,4 +1,4 @@
-ghost use Rattle.removal_laws.specs.Laws.{PaschLaw, EarLaw, OddLaw, InnerLaw, HoldersLaw, ValidLaw, RingsLaw, StaysValidLaw, FreeEndsLaw};
+ghost use Rattle.removal_laws.specs.Laws.{PaschLaw, EarLaw, OddLaw, InnerLaw, HoldersLaw, ValidLaw, RingsLaw, StaysValidLaw, KeepsLaw, OneMoreLaw, FreeEndsLaw};
 
 /// A segment that meets two sides of a triangle in ends alone, and has no end in it but at the third side, comes into it nowhere else; so it meets the third side in ends alone. A call does nothing.
 pub fn ear_law()
@@ -31,4 +31,10 @@ pub fn rings_law()
 /// The triangle of a removable point is free of all current segments that do not end at the point. A call does nothing.
 pub fn free_ends_law()
     ensures { FreeEndsLaw }
+{}
+
+/// A ring with two different points keeps two, and points go out of it one after the other. A call does nothing.
+pub fn steps_law()
+    ensures keeps { KeepsLaw }
+    ensures one_more { OneMoreLaw }
 {}

@@ -1,0 +1,8 @@
+use Rattle.removal_laws.proofs.Steps.{coverage_keeps, ring_without_more}
+use Rattle.removal_laws.proofs.laws.steps_law.Goals as goal
+
+pub returns-clause-keeps : goal.returns-clause-keeps
+returns-clause-keeps c = coverage_keeps
+
+pub returns-clause-one_more : goal.returns-clause-one_more
+returns-clause-one_more c = ring_without_more

@@ -1,6 +1,6 @@
 -- A ring that loses a point of an ear keeps two different points, and points can be taken out one after the other.
 use mathlib.Core.List.{[], ◌∷◌}
-use Rattle.std.proofs.Common.{◌≡◌, ◌⊎◌, inl, inr, ⊎_elim, refl, sym, ◌∙◌, ap, subst, zero, suc, ℕ, ◌+◌, ◌%◌, ◌≤◌, ◌==◌, ◌&&◌, Bool, true, false, not, ◌||◌, cond, List, ◌++◌, arith}
+use Rattle.std.proofs.Common.{◌≡◌, ◌⊎◌, inl, inr, ⊎_elim, refl, sym, ◌∙◌, ap, subst, zero, suc, ℕ, ◌+◌, ◌%◌, ◌≤◌, ◌==◌, ◌&&◌, Bool, true, false, not, ◌||◌, cond, List, ◌++◌, map, arith}
 use Rattle.std.specs.Prelude.{Contains, sum_by, flat_map}
 use Rattle.std.proofs.lemmas.Bool.{false≢true, and_from}
 use Rattle.std.proofs.lemmas.Bool.Decides.{Decides-eqb}
@@ -17,8 +17,9 @@ use Rattle.cov_types.specs.Uses.{ends_inside, side_uses, ring_uses, poly_uses, m
 use Rattle.cov_types.proofs.EvenEnds.{even-ends}
 use Rattle.cov_types.proofs.Equal.{Decides-same_coords}
 use Rattle.plane.specs.Validity.{IsValid}
+use Rattle.crossing_laws.proofs.Lists.{contains_here, contains_there}
 use Rattle.crossing_laws.specs.Across.{is_same_seg}
-use Rattle.greedy_run.specs.Run.{Triangle, is_removed, current, is_one_point, ring_without}
+use Rattle.greedy_run.specs.Run.{Triangle, is_removed, current, is_one_point, ring_without, coverage_without}
 use Rattle.removal_laws.specs.Exchange.{IsEar, value_after}
 use Rattle.removal_laws.specs.Laws.{IsRingOf}
 use Rattle.removal_laws.proofs.Counts.{counts_use, use_counts}
@@ -230,3 +231,22 @@ coverage_keeps t ab bc ac members is_ear valid points h one =
     let poly = part_of_each t ab bc ac old is_ear valid (poly_uses k) h.member h.poly h.in_member member in
     let ring = part_of_each t ab bc ac old is_ear valid (ring_uses k) h.poly points h.in_poly poly in
     ring_keeps t ab bc ac old is_ear valid k points ring.among (ring.one k) (ring.other k) one
+
+-- ---- a coverage without one point more
+
+map_more : {X : Type 0} (f g h : X → X) (xs : List X) → ((x : X) → Contains xs x → f x ≡ g (h x)) → map f xs ≡ map g (map h xs)
+map_more f g h [] each = refl
+map_more f g h (x ∷ xs) each = λ i. each x (contains_here x xs) i ∷ map_more f g h xs (λ y has. each y (contains_there x y xs has)) i
+
+-- where no ring comes to be of one point, a coverage without b and others is that without the others, without b
+pub coverage_without_more : (b : Coord) (removed : List Coord) (members : Members)
+    → ((points : List Coord) → IsRingOf members points → is_one_point (ring_without removed points) ≡ true → is_one_point points ≡ true)
+    → coverage_without (b ∷ removed) members ≡ coverage_without (b ∷ []) (coverage_without removed members)
+coverage_without_more b removed members keeps =
+    map_more (map (map (ring_without (b ∷ removed)))) (map (map (ring_without (b ∷ [])))) (map (map (ring_without removed))) members
+    (λ member in_members.
+    map_more (map (ring_without (b ∷ removed))) (map (ring_without (b ∷ []))) (map (ring_without removed)) member
+    (λ poly in_member.
+    map_more (ring_without (b ∷ removed)) (ring_without (b ∷ [])) (ring_without removed) poly
+    (λ points in_poly.
+    ring_without_more b removed points (keeps points (record { member = member; in_members = in_members; poly = poly; in_member = in_member; in_poly = in_poly })))))

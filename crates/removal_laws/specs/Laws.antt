@@ -84,6 +84,12 @@ abbrev pub OneMoreLaw : Type 0
 OneMoreLaw = (b : Coord) (removed points : List Coord) → (is_one_point (ring_without removed points) ≡ true → is_one_point points ≡ true)
     → ring_without (b ∷ removed) points ≡ ring_without (b ∷ []) (ring_without removed points)
 
+-- and so is the coverage
+abbrev pub CoverageMoreLaw : Type 0
+CoverageMoreLaw = (b : Coord) (removed : List Coord) (members : Members)
+    → ((points : List Coord) → IsRingOf members points → is_one_point (ring_without removed points) ≡ true → is_one_point points ≡ true)
+    → coverage_without (b ∷ removed) members ≡ coverage_without (b ∷ []) (coverage_without removed members)
+
 -- ---- the run
 
 -- in a state of the run, each current segment that does not end at a removable point is not ac and has free ends

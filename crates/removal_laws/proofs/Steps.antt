@@ -1,6 +1,6 @@
 -- A ring that loses a point of an ear keeps two different points, and points can be taken out one after the other.
 use mathlib.Core.List.{[], ◌∷◌}
-use Rattle.std.proofs.Common.{◌≡◌, ◌⊎◌, inl, inr, ⊎_elim, refl, sym, ◌∙◌, ap, subst, zero, suc, ℕ, ◌+◌, ◌%◌, ◌≤◌, ◌==◌, ◌&&◌, Bool, true, false, not, ◌||◌, cond, List, ◌++◌, map, arith}
+use Rattle.std.proofs.Common.{◌≡◌, inl, inr, ⊎_elim, refl, sym, ◌∙◌, ap, subst, zero, suc, ℕ, ◌+◌, ◌%◌, ◌≤◌, ◌==◌, Bool, true, false, not, ◌||◌, cond, List, ◌++◌, map, arith}
 use Rattle.std.specs.Prelude.{Contains, sum_by, flat_map}
 use Rattle.std.proofs.lemmas.Bool.{false≢true, and_from}
 use Rattle.std.proofs.lemmas.Bool.Decides.{Decides-eqb}
@@ -13,7 +13,7 @@ use Rattle.cov_types.specs.Coverage.{Members}
 use Rattle.std.specs.List.{enumerate_from}
 use Rattle.cov_types.specs.Coord.{is_same_coord}
 use Rattle.cov_types.specs.Seg.{IsSegBetween}
-use Rattle.cov_types.specs.Uses.{ends_inside, side_uses, ring_uses, poly_uses, member_uses, uses_of}
+use Rattle.cov_types.specs.Uses.{ends_inside, ring_uses, poly_uses, member_uses, uses_of}
 use Rattle.cov_types.proofs.EvenEnds.{even-ends}
 use Rattle.cov_types.proofs.Equal.{Decides-same_coords}
 use Rattle.plane.specs.Validity.{IsValid}
@@ -22,7 +22,7 @@ use Rattle.crossing_laws.specs.Across.{is_same_seg}
 use Rattle.greedy_run.specs.Run.{Triangle, is_removed, current, is_one_point, ring_without, coverage_without}
 use Rattle.removal_laws.specs.Exchange.{IsEar, value_after}
 use Rattle.removal_laws.specs.Laws.{IsRingOf}
-use Rattle.removal_laws.proofs.Counts.{counts_use, use_counts}
+use Rattle.removal_laws.proofs.Counts.{counts_use}
 use Rattle.removal_laws.proofs.Exchange.{kind, first_adds, second_adds, third_adds, first_not_second, b_not_free, seg_is, ends_of_first, ends_of_second, ends_of_third, one_end, no_end_at, none_counts}
 use Rattle.removal_laws.proofs.Members.{IsPartOf, first_part, second_part, all_part}
 use Rattle.removal_laws.proofs.Walks.{walk_sum, ring_sum, AllSteps, AllRound}

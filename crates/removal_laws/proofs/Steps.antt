@@ -9,7 +9,7 @@ use Rattle.std.proofs.lemmas.List.Sums.{sum_by-append}
 use Rattle.cov_types.specs.declared.coord.Coord.{Coord}
 use Rattle.cov_types.specs.declared.edge_use.EdgeUse.{EdgeUse}
 use Rattle.cov_types.specs.declared.seg.Seg.{Seg}
-use Rattle.cov_types.specs.Coverage.{Members}
+use Rattle.cov_types.specs.Coverage.{Members, AllInRange}
 use Rattle.std.specs.List.{enumerate_from}
 use Rattle.cov_types.specs.Coord.{is_same_coord}
 use Rattle.cov_types.specs.Seg.{IsSegBetween}
@@ -17,14 +17,14 @@ use Rattle.cov_types.specs.Uses.{ends_inside, ring_uses, poly_uses, member_uses,
 use Rattle.cov_types.proofs.EvenEnds.{even-ends}
 use Rattle.cov_types.proofs.Equal.{Decides-same_coords}
 use Rattle.plane.specs.Validity.{IsValid}
-use Rattle.crossing_laws.proofs.Lists.{contains_here, contains_there}
+use Rattle.crossing_laws.proofs.Lists.{contains_here, contains_there, contains-map}
 use Rattle.crossing_laws.specs.Across.{is_same_seg}
 use Rattle.greedy_run.specs.Run.{Triangle, is_removed, current, is_one_point, ring_without, coverage_without}
 use Rattle.removal_laws.specs.Exchange.{IsEar, value_after}
-use Rattle.removal_laws.specs.Laws.{IsRingOf}
+use Rattle.removal_laws.specs.Laws.{IsRingOf, KeepsRings}
 use Rattle.removal_laws.proofs.Counts.{counts_use}
 use Rattle.removal_laws.proofs.Exchange.{kind, first_adds, second_adds, third_adds, first_not_second, b_not_free, seg_is, ends_of_first, ends_of_second, ends_of_third, one_end, no_end_at, none_counts}
-use Rattle.removal_laws.proofs.Members.{IsPartOf, first_part, second_part, all_part}
+use Rattle.removal_laws.proofs.Members.{coverage_valid, IsPartOf, first_part, second_part, all_part}
 use Rattle.removal_laws.proofs.Walks.{walk_sum, ring_sum, AllSteps, AllRound}
 use Rattle.removal_laws.proofs.Rings.{IsUsed, used, side_cases, side_sum, sum_none, sum_some, ring_sum-uses, one_point_sum, round_used, ring_without_exchange}
 
@@ -250,3 +250,23 @@ coverage_without_more b removed members keeps =
     map_more (ring_without (b ∷ removed)) (ring_without (b ∷ [])) (ring_without removed) poly
     (λ points in_poly.
     ring_without_more b removed points (keeps points (record { member = member; in_members = in_members; poly = poly; in_member = in_member; in_poly = in_poly })))))
+
+-- ---- one step of a run
+
+-- the state after the step is valid, and no ring comes to be of one point
+pub step : (t : Triangle) (ab bc ac : Seg) (members : Members) (removed : List Coord) → KeepsRings members removed → AllInRange (coverage_without removed members)
+    → IsEar t ab bc ac (uses_of (coverage_without removed members)) → IsValid (uses_of (coverage_without removed members))
+    → IsValid (uses_of (coverage_without (t.b ∷ removed) members)) × KeepsRings members (t.b ∷ removed)
+step t ab bc ac members removed keeps range is_ear valid = (
+  subst (λ (m : Members). IsValid (uses_of m)) (sym (coverage_without_more t.b removed members keeps)) (coverage_valid t ab bc ac (coverage_without removed members) range is_ear valid),
+  λ points ring one. keeps points ring
+      (coverage_keeps t ab bc ac (coverage_without removed members) is_ear valid (ring_without removed points)
+      (record {
+        member = map (λ rings. map (ring_without removed) rings) ring.member;
+        in_members = contains-map (λ polys. map (λ rings. map (ring_without removed) rings) polys) members ring.member ring.in_members;
+        poly = map (ring_without removed) ring.poly;
+        in_member = contains-map (λ rings. map (ring_without removed) rings) ring.member ring.poly ring.in_member;
+        in_poly = contains-map (ring_without removed) ring.poly points ring.in_poly;
+      })
+      (ap is_one_point (sym (ring_without_more t.b removed points (keeps points ring))) ∙ one)),
+)

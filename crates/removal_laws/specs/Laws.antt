@@ -90,6 +90,16 @@ CoverageMoreLaw = (b : Coord) (removed : List Coord) (members : Members)
     → ((points : List Coord) → IsRingOf members points → is_one_point (ring_without removed points) ≡ true → is_one_point points ≡ true)
     → coverage_without (b ∷ removed) members ≡ coverage_without (b ∷ []) (coverage_without removed members)
 
+-- of the coverage no ring with two different points comes to be of one point
+abbrev pub KeepsRings : Members → List Coord → Type 0
+KeepsRings members removed = (points : List Coord) → IsRingOf members points → is_one_point (ring_without removed points) ≡ true → is_one_point points ≡ true
+
+-- where a state is valid and in range and has an ear at b, the state after b is valid, and no ring comes to be of one point
+abbrev pub StepLaw : Type 0
+StepLaw = (t : Triangle) (ab bc ac : Seg) (members : Members) (removed : List Coord) → KeepsRings members removed → AllInRange (coverage_without removed members)
+    → IsEar t ab bc ac (uses_of (coverage_without removed members)) → IsValid (uses_of (coverage_without removed members))
+    → IsValid (uses_of (coverage_without (t.b ∷ removed) members)) × KeepsRings members (t.b ∷ removed)
+
 -- ---- the run
 
 -- in a state of the run, each current segment that does not end at a removable point is not ac and has free ends

@@ -1,4 +1,4 @@
-ghost use Rattle.removal_laws.specs.Laws.{PaschLaw, EarLaw, OddLaw, InnerLaw, HoldersLaw, ValidLaw, RingsLaw, StaysValidLaw, KeepsLaw, OneMoreLaw, CoverageMoreLaw, FreeEndsLaw};
+ghost use Rattle.removal_laws.specs.Laws.{PaschLaw, EarLaw, OddLaw, InnerLaw, HoldersLaw, ValidLaw, RingsLaw, StaysValidLaw, KeepsLaw, OneMoreLaw, CoverageMoreLaw, StepLaw, FreeEndsLaw};
 
 /// A segment that meets two sides of a triangle in ends alone, and has no end in it but at the third side, comes into it nowhere else; so it meets the third side in ends alone. A call does nothing.
 pub fn ear_law()
@@ -38,4 +38,5 @@ pub fn steps_law()
     ensures keeps { KeepsLaw }
     ensures one_more { OneMoreLaw }
     ensures coverage { CoverageMoreLaw }
+    ensures step { StepLaw }
 {}

@@ -20,7 +20,7 @@
 //! - `Walks`: sums round a closed ring with and without one point (`ring_kept`). `Rings`: the exchange on a ring
 //!   (`ring_without_exchange`). `Members`: on a coverage (`coverage_exchange`), which stays valid (`coverage_valid`).
 //! - `Steps`: a ring with two different points keeps two (`coverage_keeps`), and points are taken out one after the other
-//!   (`coverage_without_more`).
+//!   (`coverage_without_more`), so the state after a valid one with an ear is valid (`step`).
 //! - `Bridge`: the triangle of a removable point is free of the current segments that do not end at it (`free_ends`).
 #![tactic(auto)]
 

@@ -1,4 +1,4 @@
-use Rattle.removal_laws.proofs.Steps.{coverage_keeps, ring_without_more, coverage_without_more}
+use Rattle.removal_laws.proofs.Steps.{coverage_keeps, ring_without_more, coverage_without_more, step}
 use Rattle.removal_laws.proofs.laws.steps_law.Goals as goal
 
 pub returns-clause-keeps : goal.returns-clause-keeps
@@ -9,3 +9,6 @@ returns-clause-one_more c = ring_without_more
 
 pub returns-clause-coverage : goal.returns-clause-coverage
 returns-clause-coverage c = coverage_without_more
+
+pub returns-clause-step : goal.returns-clause-step
+returns-clause-step c = step

@@ -33,7 +33,7 @@ pub fn free_ends_law()
     ensures { FreeEndsLaw }
 {}
 
-/// A ring with two different points keeps two, and points go out of it one after the other. A call does nothing.
+/// A ring with two different points keeps two, points go out of it one after the other, and where a state is valid and has an ear at a point, the state without that point is valid. A call does nothing.
 pub fn steps_law()
     ensures keeps { KeepsLaw }
     ensures one_more { OneMoreLaw }

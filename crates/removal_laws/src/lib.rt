@@ -9,7 +9,7 @@
 //! A crate above takes a lemma by `use Rattle.removal_laws.proofs.FILE.{NAME}` in its `proofs/`. The files:
 //!
 //! - `Cuts`: points between points (`between-trans`, `only_first`), and where a way leaves the points of three half-planes (`leave`).
-//! - `Inside`: a closed triangle by the signs of its three sides (`inside-within`, `within-inside`, `on_side`).
+//! - `Inside`: a closed triangle by the signs of its three sides (`inside-within`, `within-inside`), and its points on a side (`on_first`).
 //! - `Pasch`: a segment that meets two sides in ends alone has no point in the triangle but such an end (`pasch`). `Ear`: so it meets the
 //!   third side in ends alone (`ear`).
 //! - `Odd`: an odd number of sides is over points inside alone (`odd`).

@@ -1,0 +1,13 @@
+pub mod Cuts
+pub mod Inside
+pub mod Pasch
+pub mod Ear
+pub mod Odd
+pub mod Inner
+pub mod Counts
+pub mod Exchange
+pub mod Walks
+pub mod Rings
+pub mod Members
+pub mod Bridge
+pub mod Steps

@@ -1,0 +1,3 @@
+pub mod Ear
+pub mod Exchange
+pub mod Laws

@@ -1,0 +1,13 @@
+pub mod OwnerLinks
+pub mod BoundaryLists
+pub mod Walking
+pub mod RingSides
+pub mod Thinned
+pub mod PartSides
+pub mod LeastEnds
+pub mod Passed
+pub mod Orders
+pub mod FlatLists
+pub mod MemberLists
+pub mod PartLists
+pub mod RegionParts

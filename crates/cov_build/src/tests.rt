@@ -280,8 +280,7 @@ fn a_ring_begins_at_its_least_point_in_any_order_of_edges(rt: HostRuntime) -> Re
         (0, 0, 10, 0),
         (0, 0, 0, 10),
     ];
-    let mut edges = edges_between(alloc, &rt, &square)?;
-    assert!(rt; are_arranged_in_some_order(alloc, &edges)?);
+    let edges = edges_between(alloc, &rt, &square)?;
     let arena = Arena::build(alloc, edges)?;
     let regions = Regions::build(alloc, &arena)?;
     let owners = owners_of(alloc, &rt, arena.len(), &[(0, 0)])?;

@@ -11,3 +11,5 @@ pub mod FlatLists
 pub mod MemberLists
 pub mod PartLists
 pub mod RegionParts
+pub mod RoundFacts
+pub mod BuiltParts

@@ -41,7 +41,7 @@ module _ (o : Overlay) (planar : IsPlanar o.edges) (distinct : AreDistinct o.edg
       )
 
   -- the side on which the edge has the part
-  within_part : (p : ℕ) (b : BoundaryEdge) → HasPart o planar distinct regions owners parts are p b → is_part (part_at parts (index o.edges (record { edge = b.edge; forwards = b.above }))) p ≡ true
+  pub within_part : (p : ℕ) (b : BoundaryEdge) → HasPart o planar distinct regions owners parts are p b → is_part (part_at parts (index o.edges (record { edge = b.edge; forwards = b.above }))) p ≡ true
   within_part p b has = by b.above has.above has.below
     where
       by : (t : Bool) → passes o planar distinct regions owners parts are p (up b.edge) ≡ t → passes o planar distinct regions owners parts are p (down b.edge) ≡ not t

@@ -28,7 +28,7 @@ starts_owned o owners i r (g ∷ way) s leads = leads.0
 pub ends_owned : (o : Overlay) (owners : ℕ → Option ℕ) (i r s : ℕ) → InOnePart o owners i r s → owners s ≡ Some i
 ends_owned o owners i r s h = (let back = (part_equivalence o owners i).back r s h in starts_owned o owners i s back.0 r back.1)
 
-part_long : (parts : List (Option Part)) (n : ℕ) (q : Part) → part_at parts n ≡ Some q → n < length parts
+pub part_long : (parts : List (Option Part)) (n : ℕ) (q : Part) → part_at parts n ≡ Some q → n < length parts
 part_long [] n q at = absurd (none-some q at)
 part_long (p ∷ parts) zero q at = omega arith
 part_long (p ∷ parts) (suc n) q at = let rest = part_long parts n q at in omega (arith, rest)
@@ -80,7 +80,7 @@ module _ (o : Overlay) (planar : IsPlanar o.edges) (distinct : AreDistinct o.edg
       ∙ ap (λ q. is_part q p) (same_part o planar distinct regions owners parts are p (region_at o n) n own.within below own.same)
 
   -- the part at a region of its own
-  part_own : (g : ℕ) → IsOwn g → IsPartAt o owners g (part_at parts g)
+  pub part_own : (g : ℕ) → IsOwn g → IsPartAt o owners g (part_at parts g)
   part_own g own = subst (λ r. IsPartAt o owners r (part_at parts g)) own.same (are.each g own.within)
 
   pub least_own : (r : ℕ) → IsOwn r → (part : Part) → part_at parts r ≡ Some part → IsLeastInPart o owners r part.least

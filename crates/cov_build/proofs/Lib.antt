@@ -13,3 +13,5 @@ pub mod PartLists
 pub mod RegionParts
 pub mod RoundFacts
 pub mod BuiltParts
+pub mod Once
+pub mod BuiltRound

@@ -1,3 +1,7 @@
+ghost use Rattle.std.specs.Prelude.{◌≡◌, ℕ, ◌<◌, All, None, IfSome, IsTrue};
+ghost use Rattle.plane.specs.Region.{IsOuterRegion};
+ghost use Rattle.cov_build.specs.RoundParts.{owner_in};
+
 use crate::polygons;
 use cov_types::{Coord, Coverage, Member, NoMemory, Poly, Ring, Seg, same_coverage};
 use face_walk::Regions;
@@ -11,9 +15,6 @@ type Ends = (i32, i32, i32, i32);
 
 /// A ring by its points, without the closing repeat.
 type Points<'a> = &'a [(i32, i32)];
-
-/// The members, as lists of polygons, which are lists of rings.
-type Answer<'a> = &'a [&'a [&'a [Points<'a>]]];
 
 fn edges_between(alloc: Global, rt: &impl Abort, ends: &[Ends]) -> Result<Vec<Seg>, NoMemory> {
     let mut edges = Vec::new(alloc);
@@ -40,20 +41,11 @@ fn poly(alloc: Global, rings: &[Points]) -> Result<Poly, NoMemory> {
     Ok(Poly { rings: list })
 }
 
-fn member(alloc: Global, polys: &[&[Points]]) -> Result<Member, NoMemory> {
-    let mut list = Vec::new(alloc);
-    for rings in polys {
-        list.push(poly(alloc, *rings)?)?;
-    }
-    Ok(Member { polys: list })
-}
-
-fn coverage(alloc: Global, members: Answer) -> Result<Coverage, NoMemory> {
-    let mut list = Vec::new(alloc);
-    for polys in members {
-        list.push(member(alloc, *polys)?)?;
-    }
-    Ok(Coverage { members: list })
+/// A member with the one polygon.
+fn member(alloc: Global, poly: Poly) -> Result<Member, NoMemory> {
+    Ok(Member {
+        polys: vec![in alloc; poly]?,
+    })
 }
 
 /// The owner for each of so many sides: those that are listed, by the numbers of regions.
@@ -71,25 +63,66 @@ fn owners_of(
     Ok(owners)
 }
 
+// Whether each owner is one of so many members.
+fn are_below(owners: &[Option<u32>], members: u32) -> bool
+    ensures { IsTrue result → All (λ o. IfSome o (λ i. i < members)) owners.now }
+{
+    for owner in owners {
+        if !is_below(*owner, members) {
+            return false;
+        }
+    }
+    true
+}
+
+fn is_below(owner: Option<u32>, members: u32) -> bool
+    ensures { IsTrue result → IfSome owner (λ i. i < members) }
+{
+    match owner {
+        Some(owner) => owner < members,
+        None => true,
+    }
+}
+
+// Whether nobody owns the outer region.
+fn is_outer_free(r: &Regions, owners: &[Option<u32>]) -> bool
+    ensures { IsTrue result → (n : ℕ) → IsOuterRegion r.now n → owner_in owners.now n ≡ None }
+{
+    match r.outer() {
+        Some(outer) => outer < owners.len() && is_free(owners[outer]),
+        None => true,
+    }
+}
+
+fn is_free(owner: Option<u32>) -> bool
+    ensures { IsTrue result → owner ≡ None }
+{
+    match owner {
+        Some(_) => false,
+        None => true,
+    }
+}
+
 /// Between these edges, whose regions have these owners, the members have these polygons.
 fn expect_polygons(
     alloc: Global,
     rt: &impl Abort,
     ends: &[Ends],
     owned: &[(usize, u32)],
-    want: Answer,
+    want: Coverage,
 ) -> Result<(), Fail> {
     let edges = edges_between(alloc, rt, ends)?;
     assert!(rt; are_arranged(&edges));
     let arena = Arena::build(alloc, edges)?;
     let regions = Regions::build(alloc, &arena)?;
     let owners = owners_of(alloc, rt, arena.len(), owned)?;
-    assert!(rt; want.len() < 10);
-    let answer = polygons(alloc, &arena, &regions, &owners, want.len() as u32)?;
-    assert!(rt;
-        same_coverage(&answer, &coverage(alloc, want)?),
-        "{answer:?}"
-    );
+    assert!(rt; owners.len() == arena.len());
+    assert!(rt; want.members.len() < 10);
+    let members = want.members.len() as u32;
+    assert!(rt; are_below(&owners, members));
+    assert!(rt; is_outer_free(&regions, &owners));
+    let answer = polygons(alloc, &arena, &regions, &owners, members)?;
+    assert!(rt; same_coverage(&answer, &want), "{answer:?}");
     Ok(())
 }
 
@@ -109,28 +142,17 @@ const OVERLAP: [Ends; 10] = [
 
 #[test]
 fn regions_of_one_owner_beside_an_edge_are_one_polygon(rt: HostRuntime) -> Result<(), Fail> {
-    let first: Points = &[(0, 0), (5, 0), (10, 0), (10, 10), (5, 10), (0, 10)];
-    let second: Points = &[(10, 0), (15, 0), (15, 10), (10, 10)];
+    let alloc = rt.alloc();
+    let west = poly(
+        alloc,
+        &[&[(0, 0), (5, 0), (10, 0), (10, 10), (5, 10), (0, 10)]],
+    )?;
+    let east = poly(alloc, &[&[(10, 0), (15, 0), (15, 10), (10, 10)]])?;
+    let want = Coverage {
+        members: vec![in alloc; member(alloc, west)?, member(alloc, east)?]?,
+    };
     let owned = [(1, 0), (7, 0), (13, 1)];
-    expect_polygons(
-        rt.alloc(),
-        &rt,
-        &OVERLAP,
-        &owned,
-        &[&[&[first]], &[&[second]]],
-    )
-}
-
-#[test]
-fn nobody_has_the_region_that_nobody_owns(rt: HostRuntime) -> Result<(), Fail> {
-    let second: Points = &[(10, 0), (15, 0), (15, 10), (10, 10)];
-    expect_polygons(
-        rt.alloc(),
-        &rt,
-        &OVERLAP,
-        &[(13, 1)],
-        &[&[], &[&[second]], &[]],
-    )
+    expect_polygons(alloc, &rt, &OVERLAP, &owned, want)
 }
 
 /// A square of size 10 with a triangle at its corner cut out.
@@ -146,149 +168,64 @@ const NOTCHED: [Ends; 7] = [
 
 #[test]
 fn a_hole_that_touches_its_shell_is_a_ring_of_its_own(rt: HostRuntime) -> Result<(), Fail> {
+    let alloc = rt.alloc();
     let shell: Points = &[(0, 0), (10, 0), (10, 10), (0, 10)];
     let hole: Points = &[(0, 0), (3, 6), (6, 3)];
-    let notch: Points = &[(0, 0), (6, 3), (3, 6)];
-    let owned = [(1, 0), (3, 1)];
-    expect_polygons(
-        rt.alloc(),
-        &rt,
-        &NOTCHED,
-        &owned,
-        &[&[&[shell, hole]], &[&[notch]]],
-    )
+    let around = poly(alloc, &[shell, hole])?;
+    let notch = poly(alloc, &[&[(0, 0), (6, 3), (3, 6)]])?;
+    let want = Coverage {
+        members: vec![in alloc; member(alloc, around)?, member(alloc, notch)?]?,
+    };
+    expect_polygons(alloc, &rt, &NOTCHED, &[(1, 0), (3, 1)], want)
 }
 
-#[test]
-fn parts_that_touch_in_a_vertex_are_two_polygons(rt: HostRuntime) -> Result<(), Fail> {
-    let bow_tie = [
-        (0, 0, 0, 10),
-        (0, 0, 5, 5),
-        (0, 10, 5, 5),
-        (5, 5, 10, 0),
-        (5, 5, 10, 10),
-        (10, 0, 10, 10),
-    ];
-    let left: Points = &[(0, 0), (5, 5), (0, 10)];
-    let right: Points = &[(5, 5), (10, 0), (10, 10)];
-    expect_polygons(
-        rt.alloc(),
-        &rt,
-        &bow_tie,
-        &[(6, 0), (1, 0)],
-        &[&[&[left], &[right]]],
-    )
-}
-
-#[test]
-fn an_island_in_a_gap_is_a_polygon_of_its_own(rt: HostRuntime) -> Result<(), Fail> {
-    let edges = [
-        (0, 0, 0, 20),
-        (0, 0, 20, 0),
-        (0, 20, 20, 20),
-        (5, 5, 5, 15),
-        (5, 5, 15, 5),
-        (5, 15, 15, 15),
-        (8, 8, 8, 12),
-        (8, 8, 12, 8),
-        (8, 12, 12, 12),
-        (12, 8, 12, 12),
-        (15, 5, 15, 15),
-        (20, 0, 20, 20),
-    ];
-    let shell: Points = &[(0, 0), (20, 0), (20, 20), (0, 20)];
-    let hole: Points = &[(5, 5), (5, 15), (15, 15), (15, 5)];
-    let island: Points = &[(8, 8), (12, 8), (12, 12), (8, 12)];
-    expect_polygons(
-        rt.alloc(),
-        &rt,
-        &edges,
-        &[(1, 0), (13, 0)],
-        &[&[&[shell, hole], &[island]]],
-    )
-}
-
-#[test]
-fn squares_of_a_chessboard_are_polygons_each(rt: HostRuntime) -> Result<(), Fail> {
-    let board = [
-        (0, 0, 0, 10),
-        (0, 0, 10, 0),
-        (0, 10, 0, 20),
-        (0, 10, 10, 10),
-        (0, 20, 10, 20),
-        (10, 0, 10, 10),
-        (10, 0, 20, 0),
-        (10, 10, 10, 20),
-        (10, 10, 20, 10),
-        (10, 20, 20, 20),
-        (20, 0, 20, 10),
-        (20, 10, 20, 20),
-    ];
-    let south_west: Points = &[(0, 0), (10, 0), (10, 10), (0, 10)];
-    let north_west: Points = &[(0, 10), (10, 10), (10, 20), (0, 20)];
-    let south_east: Points = &[(10, 0), (20, 0), (20, 10), (10, 10)];
-    let north_east: Points = &[(10, 10), (20, 10), (20, 20), (10, 20)];
-    let owned = [(1, 0), (15, 0), (5, 1), (11, 1)];
-    let want: Answer = &[
-        &[&[south_west], &[north_east]],
-        &[&[north_west], &[south_east]],
-    ];
-    expect_polygons(rt.alloc(), &rt, &board, &owned, want)
-}
+/// A square of size 20 with two triangles in it.
+const TRIANGLES: [Ends; 10] = [
+    (0, 0, 0, 20),
+    (0, 0, 20, 0),
+    (0, 20, 20, 20),
+    (4, 4, 4, 6),
+    (4, 4, 6, 4),
+    (4, 6, 6, 4),
+    (4, 12, 4, 14),
+    (4, 12, 6, 12),
+    (4, 14, 6, 12),
+    (20, 0, 20, 20),
+];
 
 #[test]
 fn holes_ascend_by_their_points_behind_the_shell(rt: HostRuntime) -> Result<(), Fail> {
-    let edges = [
-        (0, 0, 0, 20),
-        (0, 0, 20, 0),
-        (0, 20, 20, 20),
-        (4, 12, 4, 14),
-        (4, 12, 6, 12),
-        (4, 14, 6, 12),
-        (4, 4, 4, 6),
-        (4, 4, 6, 4),
-        (4, 6, 6, 4),
-        (20, 0, 20, 20),
-    ];
+    let alloc = rt.alloc();
     let shell: Points = &[(0, 0), (20, 0), (20, 20), (0, 20)];
     let low: Points = &[(4, 4), (4, 6), (6, 4)];
     let high: Points = &[(4, 12), (4, 14), (6, 12)];
-    let mut sorted = edges;
-    sorted.swap(3, 6);
-    sorted.swap(4, 7);
-    sorted.swap(5, 8);
-    expect_polygons(
-        rt.alloc(),
-        &rt,
-        &sorted,
-        &[(1, 0)],
-        &[&[&[shell, low, high]]],
-    )
+    let around = poly(alloc, &[shell, low, high])?;
+    let want = Coverage {
+        members: vec![in alloc; member(alloc, around)?]?,
+    };
+    expect_polygons(alloc, &rt, &TRIANGLES, &[(1, 0)], want)
 }
 
-#[test]
-fn without_edges_members_have_no_polygons(rt: HostRuntime) -> Result<(), Fail> {
-    expect_polygons(rt.alloc(), &rt, &[], &[], &[&[], &[]])
-}
+/// Two triangles that touch in a vertex.
+const BOW_TIE: [Ends; 6] = [
+    (0, 0, 0, 10),
+    (0, 0, 5, 5),
+    (0, 10, 5, 5),
+    (5, 5, 10, 0),
+    (5, 5, 10, 10),
+    (10, 0, 10, 10),
+];
 
 #[test]
-fn a_ring_begins_at_its_least_point_in_any_order_of_edges(rt: HostRuntime) -> Result<(), Fail> {
+fn parts_that_touch_in_a_vertex_are_two_polygons(rt: HostRuntime) -> Result<(), Fail> {
     let alloc = rt.alloc();
-    let square = [
-        (10, 0, 10, 10),
-        (0, 10, 10, 10),
-        (0, 0, 10, 0),
-        (0, 0, 0, 10),
-    ];
-    let edges = edges_between(alloc, &rt, &square)?;
-    let arena = Arena::build(alloc, edges)?;
-    let regions = Regions::build(alloc, &arena)?;
-    let owners = owners_of(alloc, &rt, arena.len(), &[(0, 0)])?;
-    let answer = polygons(alloc, &arena, &regions, &owners, 1)?;
-    let shell: Points = &[(0, 0), (10, 0), (10, 10), (0, 10)];
-    assert!(rt;
-        same_coverage(&answer, &coverage(alloc, &[&[&[shell]]])?),
-        "{answer:?}"
-    );
-    Ok(())
+    let left = poly(alloc, &[&[(0, 0), (5, 5), (0, 10)]])?;
+    let right = poly(alloc, &[&[(5, 5), (10, 0), (10, 10)]])?;
+    let both = Member {
+        polys: vec![in alloc; left, right]?,
+    };
+    let want = Coverage {
+        members: vec![in alloc; both]?,
+    };
+    expect_polygons(alloc, &rt, &BOW_TIE, &[(6, 0), (1, 0)], want)
 }

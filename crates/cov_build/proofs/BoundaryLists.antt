@@ -1,6 +1,6 @@
 -- The boundaries of parts, edge by edge.
 use mathlib.Core.List.{List, [], ◌∷◌, ◌++◌}
-use Rattle.std.proofs.Common.{◌≡◌, refl, sym, ◌∙◌, ap, subst, ℕ, zero, suc, ◌+◌, ◌*◌, ◌<◌, ◌≤◌, ◌==◌, Bool, true, false, true≢false, cond, length, get_or, set, take, map, flat_map, add-one, Option, Some, None, slice_get, unwrap_or, ◌⊎◌, inl, inr, arith}
+use Rattle.std.proofs.Common.{◌≡◌, refl, sym, ◌∙◌, ap, subst, ℕ, zero, suc, ◌+◌, ◌*◌, ◌<◌, Bool, true, false, true≢false, cond, length, get_or, set, take, flat_map, add-one, Option, Some, None, slice_get, ◌⊎◌, inl, inr, arith}
 use Rattle.std.specs.List.{enumerate_from}
 use Rattle.std.specs.Global.{Vec}
 use Rattle.std.proofs.Math.Seq.{take-suc}

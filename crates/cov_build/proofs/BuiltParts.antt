@@ -1,6 +1,6 @@
 -- For each part of the regions of a member a polygon that goes round it.
-use mathlib.Core.List.{List, [], ◌∷◌, ◌++◌}
-use Rattle.std.proofs.Common.{◌≡◌, refl, sym, ◌∙◌, ap, subst, ℕ, zero, suc, ◌+◌, ◌*◌, ◌<◌, ◌≤◌, ◌==◌, Bool, true, false, true≢false, length, flat_map, Contains, Option, Some, None, slice_get, arith}
+use mathlib.Core.List.{List, [], ◌∷◌}
+use Rattle.std.proofs.Common.{◌≡◌, refl, sym, ◌∙◌, ap, subst, ℕ, ◌*◌, ◌<◌, Bool, true, false, true≢false, length, flat_map, Contains, Option, Some, None, arith}
 use Rattle.std.specs.Global.{Vec}
 use Rattle.std.specs.List.Sorted.{IsPermutation}
 use Rattle.std.proofs.lemmas.Bool.{eq-eqb}
@@ -105,11 +105,13 @@ module _ (o : Overlay) (planar : IsPlanar o.edges) (distinct : AreDistinct o.edg
         let r = region_at o n in
         let at_r : part_at parts r ≡ Some (record { least = p }) = same_part o planar distinct regions (owner_in owned) parts are p r n own.within below own.same ∙ at_n in
         let least = least_own o planar distinct regions (owner_in owned) parts are r own (record { least = p }) at_r in
-        let owns : owner_in owned r ≡ Some i = least.owned ∙ sym (ends_owned o (owner_in owned) least.owner r p least.in_part) ∙ is.member_part.owned in
-        (r, (
-          record { region = Rattle.cov_build.proofs.RegionParts.region_of o planar distinct regions (owner_in owned) parts are r own; owned = owns },
-          round_for i p r rings own at_r owns some (subst (λ bs. IsBoundaryPolygon bs rings) same is.polygon),
-        ))
+        let owns : owner_in owned r ≡ Some i = least.owned ∙ sym (ends_owned o (owner_in owned) least.owner r p least.in_part) ∙ is.member_part.owned in (
+          r,
+          (
+            record { region = Rattle.cov_build.proofs.RegionParts.region_of o planar distinct regions (owner_in owned) parts are r own; owned = owns },
+            round_for i p r rings own at_r owns some (subst (λ bs. IsBoundaryPolygon bs rings) same is.polygon),
+          ),
+        )
 
     pub every_round : (outer : (n : ℕ) → IsOuterRegion o.edges n → owner_in owned n ≡ None) (i : ℕ) (polys : List (List (List Coord))) → ArePartPolygons lists owned (length lists) i polys
         → (r : ℕ) → IsOwned o (owner_in owned) i r → (rings : List (List Coord)) × (Contains polys rings × IsRoundFor o (owner_in owned) i r rings)

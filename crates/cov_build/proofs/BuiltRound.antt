@@ -1,24 +1,22 @@
 -- The polygons of each member correspond one to one to the parts of its regions, go round them, and are canonical.
-use mathlib.Core.List.{List, [], ◌∷◌, ◌++◌}
-use Rattle.std.proofs.Common.{◌≡◌, refl, sym, ◌∙◌, ap, subst, ℕ, ◌+◌, ◌<◌, ◌≤◌, Bool, true, false, true≢false, length, flat_map, drop, get_or, sum_by, All, AllPairs, Contains, Option, None, slice_get, ◌↔◌, IsTrue, inl, inr, arith}
+use mathlib.Core.List.{List}
+use Rattle.std.proofs.Common.{◌≡◌, refl, sym, ◌∙◌, ap, subst, ℕ, ◌<◌, ◌≤◌, Bool, true, false, length, flat_map, drop, get_or, sum_by, All, Contains, Option, None, arith}
 use Rattle.std.specs.Global.{Vec}
 use Rattle.std.specs.List.Sorted.{IsPermutation}
 use Rattle.std.proofs.lemmas.List.Elements.{Contains-get_or}
 use Rattle.std.proofs.lemmas.List.Sorted.{Contains-permutation, IsPermutation-sym}
 use Rattle.std.proofs.lemmas.Option.{slice_get_within}
 use Rattle.cov_types.specs.declared.coord.Coord.{Coord}
-use Rattle.cov_types.specs.declared.seg.Seg.{Seg}
 use Rattle.cov_types.specs.Coverage.{Members, IsPolyFormed}
 use Rattle.cov_types.specs.Uses.{sides}
 use Rattle.plane.specs.Region.{IsOuterRegion, AreRegions}
 use Rattle.arrangement.specs.Overlay.{Overlay}
 use Rattle.sector_laws.specs.Sector.{IsPlanar, AreDistinct}
-use Rattle.sound_polygons.specs.Cleaned.{IsPolyCanonical, IsMemberCanonical, shell_of}
+use Rattle.sound_polygons.specs.Cleaned.{IsPolyCanonical, shell_of}
 use Rattle.sound_polygons.specs.Parts.{boundary}
 use Rattle.cov_build.specs.Boundaries.{AreBoundaries, boundary_of, boundary_edges}
 use Rattle.cov_build.specs.Members.{IsPartPolygon, ArePartPolygons, AreAllPartPolygons, AreShellsSorted, AreSortedMembers}
 use Rattle.cov_build.specs.Parted.{ArePartsOf}
-use Rattle.cov_build.specs.Rings.{AreBoundaryRings}
 use Rattle.cov_build.specs.RoundParts.{owner_in, IsRoundFor, ArePolygonsRound, IsBuiltRound}
 use Rattle.cov_build.specs.declared.boundary.BoundaryEdge.{BoundaryEdge}
 use Rattle.cov_build.specs.declared.part.Part.{Part}

@@ -1,5 +1,5 @@
 -- The parts of a list in another order make the whole list in another order.
-use Rattle.std.proofs.Common.{◌≡◌, ℕ, zero, suc, ◌+◌, ◌-◌, ◌<◌, take, drop, true, append_assoc, length-append, List, [], ◌∷◌, ◌++◌, refl, sym, ap, subst, ◌∙◌, length, set, slice_index_or, arith, IsPermutation, Bool, false}
+use Rattle.std.proofs.Common.{◌≡◌, ℕ, ◌+◌, ◌-◌, ◌<◌, take, drop, true, append_assoc, length-append, List, [], ◌∷◌, ◌++◌, refl, sym, ap, ◌∙◌, length, set, slice_index_or, arith, IsPermutation, Bool, false}
 use Rattle.std.proofs.lemmas.List.Sorted.{IsPermutation-trans, IsPermutation-keeps, IsPermutation-refl, IsPermutation-append_left, IsPermutation-append_right, IsPermutation-append_comm}
 use Rattle.std.proofs.lemmas.List.Edits.{swap_is}
 use Rattle.std.proofs.lemmas.List.{get_or-drop, set-get_or, take-append-drop, drop_more, length-take-le, length-drop, set_at, set_comm}

@@ -1,14 +1,14 @@
 -- The polygons of the parts of members, part by part.
 use mathlib.Core.List.{List, [], ◌∷◌, ◌++◌}
-use Rattle.std.proofs.Common.{◌≡◌, refl, sym, ◌∙◌, ap, subst, ℕ, zero, suc, ◌+◌, ◌<◌, ◌≤◌, Bool, true, false, true≢false, cond, length, get_or, set, map, flat_map, replicate, All, AllPairs, Contains, Option, Some, None, slice_get, ◌⊎◌, inl, inr, IsTrue, arith}
+use Rattle.std.proofs.Common.{◌≡◌, refl, sym, ◌∙◌, ap, subst, ℕ, zero, suc, ◌+◌, ◌<◌, Bool, true, false, true≢false, cond, length, get_or, set, map, flat_map, replicate, Contains, Option, Some, slice_get, inl, inr, arith}
 use Rattle.std.specs.Global.{Vec}
 use Rattle.std.specs.List.Sorted.{IsPermutation}
 use Rattle.std.proofs.lemmas.Bool.{cases_eq}
-use Rattle.std.proofs.lemmas.List.{length-set, length_push, length-replicate, get_or-replicate}
+use Rattle.std.proofs.lemmas.List.{length-set, length_push, length-replicate}
 use Rattle.std.proofs.lemmas.List.Elements.{Contains-append_left, Contains-push, Contains-push_cases, Contains-get_or}
 use Rattle.std.proofs.lemmas.List.Quantifiers.{all_pairs_push}
 use Rattle.std.proofs.lemmas.List.Sorted.{Contains-permutation}
-use Rattle.std.proofs.lemmas.Option.{none-some, same_Some, slice_get_within, slice_get-get_or, get_or_from_slice_get}
+use Rattle.std.proofs.lemmas.Option.{none-some, same_Some, slice_get_within, slice_get-get_or}
 use Rattle.cov_types.specs.declared.coord.Coord.{Coord}
 use Rattle.cov_types.specs.declared.seg.Seg.{Seg}
 use Rattle.cov_types.specs.Coord.{is_before}
@@ -21,7 +21,6 @@ use Rattle.crossing_laws.proofs.Lists.{contains_here, contains_there}
 use Rattle.cov_build.specs.Boundaries.{way_round}
 use Rattle.cov_build.specs.Members.{IsMemberPart, AreApart, AreListsApart, IsPartPolygon, ArePartPolygons, AreAllPartPolygons, AreShellsSorted, AreSortedMembers}
 use Rattle.cov_build.specs.Rings.{IsBoundaryPolygon}
-use Rattle.cov_build.specs.RoundParts.{owner_in}
 use Rattle.cov_build.specs.declared.boundary.BoundaryEdge.{BoundaryEdge}
 use Rattle.cov_build.proofs.BoundaryLists.{get-set, get-push}
 

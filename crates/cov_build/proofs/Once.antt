@@ -1,6 +1,6 @@
 -- Ways that stand once: rings and polygons that have no way in common differ, and those that are sorted ascend.
-use mathlib.Core.List.{List, [], ◌∷◌, ◌++◌}
-use Rattle.std.proofs.Common.{◌≡◌, refl, sym, ◌∙◌, ap, subst, ℕ, zero, suc, ◌+◌, ◌*◌, ◌<◌, ◌≤◌, Bool, true, false, true≢false, cond, ◌&&◌, length, map, flat_map, drop, get_or, count_by, sum_by, All, AllPairs, Contains, Option, Some, slice_get, IsTrue, Ordering, ◌⊎◌, inl, inr, arith}
+use mathlib.Core.List.{List, [], ◌∷◌}
+use Rattle.std.proofs.Common.{◌≡◌, refl, sym, ◌∙◌, ap, subst, ℕ, zero, suc, ◌+◌, ◌<◌, ◌≤◌, Bool, true, false, true≢false, cond, ◌&&◌, length, map, flat_map, drop, get_or, sum_by, All, AllPairs, Contains, Some, slice_get, IsTrue, Ordering, inl, inr, arith}
 use Rattle.std.specs.Cmp.{IsStrictWeakOrder}
 use Rattle.std.specs.List.Sorted.{IsPermutation, IsSortedBy}
 use Rattle.std.specs.Ordering.{is_lt, is_le, ordering_reverse}
@@ -8,17 +8,15 @@ use Rattle.std.specs.declared.cmp.Ordering.TheVariants.{Less, Equal, Greater}
 use Rattle.std.proofs.lemmas.Bool.{cases_eq, cases_lt, and_parts}
 use Rattle.std.proofs.lemmas.List.Sums.{sum_by-append, sum_by-cons, get_or-le-sum_by}
 use Rattle.std.proofs.lemmas.List.Sorted.{sorted_far, sum_by-IsPermutation}
-use Rattle.std.proofs.lemmas.List.Elements.{Contains-get_or}
 use Rattle.std.proofs.lemmas.Option.{slice_get_within, get_or_from_slice_get}
 use Rattle.cov_types.specs.declared.coord.Coord.{Coord}
-use Rattle.cov_types.specs.declared.seg.Seg.{Seg}
 use Rattle.cov_types.specs.Coord.{points_cmp, is_same_coord}
 use Rattle.cov_types.specs.Coverage.{IsPolyFormed}
 use Rattle.cov_types.specs.Uses.{sides}
 use Rattle.cov_types.proofs.Equal.{Decides-same_coords}
 use Rattle.arrangement.proofs.PointOrders.{points_same, points_total}
 use Rattle.crossing_laws.proofs.Lists.{contains_here, contains_there, contains-map}
-use Rattle.region_laws.proofs.Balance.{first_or_later, distinct_first, distinct_rest}
+use Rattle.region_laws.proofs.Balance.{distinct_first, distinct_rest}
 use Rattle.sector_laws.specs.Sector.{AreDistinct}
 use Rattle.sector_laws.proofs.Angles.{true_or_false}
 use Rattle.sound_polygons.specs.Cleaned.{shell_of}
@@ -110,10 +108,10 @@ round_once (b ∷ boundary) distinct w = elim (true_or_false (is_way w (way_roun
       let one = one_of_way w (way_round b) same in
       let rest = none_sum (one_for w) (map way_round boundary) (λ v c. elim (true_or_false (is_way w v)) [
         | inl again ↦ absurd (
-          let (a, (in_rest, is)) = from_map way_round boundary v c in
-          let twice : a ≡ b = one_way a b (is ∙ sym (way_is w v again) ∙ way_is w (way_round b) same) in
-          distinct_first b.edge (boundary_edges boundary) distinct (subst (Contains (boundary_edges boundary)) (ap (λ (x : BoundaryEdge). x.edge) twice) (contains-map (λ (x : BoundaryEdge). x.edge) boundary a in_rest))
-          )
+            let (a, (in_rest, is)) = from_map way_round boundary v c in
+            let twice : a ≡ b = one_way a b (is ∙ sym (way_is w v again) ∙ way_is w (way_round b) same) in
+            distinct_first b.edge (boundary_edges boundary) distinct (subst (Contains (boundary_edges boundary)) (ap (λ (x : BoundaryEdge). x.edge) twice) (contains-map (λ (x : BoundaryEdge). x.edge) boundary a in_rest))
+            )
         | inr other ↦ none_of_way w v other
       ]) in
       omega (arith, split, one, rest)
@@ -200,9 +198,9 @@ polys_once (x ∷ polys) each apart w = elim (cases_eq (poly_ways w x) 0) [
       let rest = none_sum (poly_ways w) polys (λ rings c. elim (cases_eq (poly_ways w rings) 0) [
         | inl none ↦ none
         | inr more ↦ absurd (
-          let below = c.1 in
-          subst (λ y. AreApart x y) c.2 (apart 0 (suc c.0) rings (omega arith) (omega (arith, below))) w in_x (from_stands w (flat_map sides rings) (omega (arith, more)))
-          )
+            let below = c.1 in
+            subst (λ y. AreApart x y) c.2 (apart 0 (suc c.0) rings (omega arith) (omega (arith, below))) w in_x (from_stands w (flat_map sides rings) (omega (arith, more)))
+            )
       ]) in
       omega (arith, split, first, rest)
       )

@@ -1,17 +1,16 @@
 -- Links over edges between regions of one owner, and the parts that they connect.
 use mathlib.Core.List.{List, [], ◌∷◌, ◌++◌}
-use Rattle.std.proofs.Common.{◌≡◌, refl, sym, ◌∙◌, ap, subst, ℕ, zero, suc, ◌+◌, ◌*◌, ◌<◌, ◌≤◌, length, get_or, Contains, All, Option, Some, None, slice_get, unwrap_or, slice_index, ◌⊎◌, inl, inr, arith}
+use Rattle.std.proofs.Common.{◌≡◌, refl, sym, ◌∙◌, ap, subst, ℕ, zero, suc, ◌+◌, ◌*◌, ◌<◌, length, get_or, Contains, Option, Some, None, slice_index, inl, inr, arith}
 use Rattle.std.specs.Prelude.{IfSome, option_map}
-use Rattle.std.proofs.lemmas.Bool.{cases_eq, cases_lt}
+use Rattle.std.proofs.lemmas.Bool.{cases_eq}
 use Rattle.std.proofs.lemmas.List.{length-append}
-use Rattle.std.proofs.lemmas.List.Elements.{Contains-append_left, Contains-append_right, Contains-push, Contains-push_cases, All-push}
-use Rattle.std.proofs.lemmas.Option.{none-some, same_Some, slice_get_read, slice_get_within}
+use Rattle.std.proofs.lemmas.List.Elements.{Contains-append_left, Contains-push, Contains-push_cases}
 use Rattle.components.specs.declared.link.Link.{Link}
-use Rattle.components.specs.Connected.{AreWithin, IsTied, LeadsAlong, IsConnected, AreComponents}
+use Rattle.components.specs.Connected.{IsTied, LeadsAlong, AreComponents}
 use Rattle.arrangement.specs.Overlay.{Overlay, region_at, region_above, region_below, AreBeside}
-use Rattle.sound_polygons.specs.Parts.{LeadsWithin, InOnePart}
+use Rattle.sound_polygons.specs.Parts.{LeadsWithin}
 use Rattle.cov_build.specs.RoundParts.{owner_in}
-use Rattle.cov_build.specs.Parted.{IsOwnerLink, AreOwnerLinks, IsLeastInPart, IsPartAt, ArePartsOf, part_at, AreBelow}
+use Rattle.cov_build.specs.Parted.{IsOwnerLink, AreOwnerLinks, IsLeastInPart, IsPartAt, ArePartsOf, part_at}
 use Rattle.cov_build.specs.declared.part.Part.{Part}
 
 pub owner_is : (owners : List (Option ℕ)) (r : ℕ) → owner_in owners r ≡ get_or owners r None

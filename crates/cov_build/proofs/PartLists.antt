@@ -1,13 +1,12 @@
 -- The lists of boundaries are the boundaries of parts.
-use mathlib.Core.List.{List, [], ◌∷◌, ◌++◌}
-use Rattle.std.proofs.Common.{◌≡◌, refl, sym, ◌∙◌, ap, subst, ℕ, zero, suc, ◌+◌, ◌*◌, ◌<◌, ◌≤◌, ◌==◌, Bool, true, false, true≢false, not, length, get_or, All, Contains, Option, Some, None, slice_get, inl, inr, arith}
+use mathlib.Core.List.{List}
+use Rattle.std.proofs.Common.{◌≡◌, sym, ◌∙◌, ap, subst, ℕ, ◌<◌, Bool, true, false, true≢false, not, length, get_or, All, Contains, Option, Some, None, slice_get, arith}
 use Rattle.std.specs.Global.{Vec}
 use Rattle.std.proofs.lemmas.Bool.{eqb-true}
-use Rattle.std.proofs.lemmas.Option.{none-some, same_Some, slice_get_within, slice_get-get_or}
-use Rattle.cov_types.specs.declared.seg.Seg.{Seg}
+use Rattle.std.proofs.lemmas.Option.{slice_get-get_or}
 use Rattle.plane.specs.Region.{AreRegions}
 use Rattle.arrangement.specs.Overlay.{Overlay}
-use Rattle.sector_laws.specs.Sector.{HalfEdge, IsPlanar, AreDistinct}
+use Rattle.sector_laws.specs.Sector.{IsPlanar, AreDistinct}
 use Rattle.region_laws.proofs.Numbered.{index}
 use Rattle.cov_build.specs.Boundaries.{AreBoundaries, boundary_of}
 use Rattle.cov_build.specs.Members.{AreListsApart}
@@ -15,8 +14,7 @@ use Rattle.cov_build.specs.Parted.{ArePartsOf, part_at, is_part}
 use Rattle.cov_build.specs.Rings.{IsBoundary}
 use Rattle.cov_build.specs.declared.boundary.BoundaryEdge.{BoundaryEdge}
 use Rattle.cov_build.specs.declared.part.Part.{Part}
-use Rattle.cov_build.proofs.BoundaryLists.{is_part_some}
-use Rattle.cov_build.proofs.PartSides.{passes, bounds, HasPart, bounds_part, is_boundary}
+use Rattle.cov_build.proofs.PartSides.{passes, HasPart, bounds_part, is_boundary}
 use Rattle.cov_build.proofs.Thinned.{up, down}
 
 one_number_of : (q : Option Part) (m n : ℕ) → is_part q m ≡ true → is_part q n ≡ true → m ≡ n

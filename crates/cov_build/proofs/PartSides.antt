@@ -1,32 +1,28 @@
 -- The sides of edges whose regions are in a part, and the boundary of the part.
 use mathlib.Core.List.{List, [], ◌∷◌, ◌++◌}
-use Rattle.std.proofs.Common.{◌≡◌, refl, sym, ◌∙◌, ap, subst, ℕ, zero, suc, ◌+◌, ◌*◌, ◌/◌, ◌%◌, ◌<◌, ◌≤◌, ◌==◌, ◌&&◌, Bool, true, false, true≢false, not, cond, IsTrue, length, map, flat_map, Contains, Option, Some, None, slice_get, ◌⊎◌, inl, inr, arith}
+use Rattle.std.proofs.Common.{◌≡◌, refl, sym, ◌∙◌, ap, subst, ℕ, zero, suc, ◌+◌, ◌*◌, ◌/◌, ◌%◌, ◌<◌, Bool, true, false, true≢false, not, length, flat_map, Contains, Option, Some, None, slice_get, ◌⊎◌, inl, inr, arith}
 use Rattle.std.specs.List.{enumerate_from}
-use Rattle.std.proofs.lemmas.Bool.{cases_eq, eqb-true, eq-eqb, and_parts}
+use Rattle.std.proofs.lemmas.Bool.{cases_eq}
 use Rattle.std.proofs.lemmas.List.{length-map}
-use Rattle.std.proofs.lemmas.Option.{none-some, same_Some, slice_get_within}
-use Rattle.cov_types.specs.declared.coord.Coord.{Coord}
+use Rattle.std.proofs.lemmas.Option.{none-some, same_Some}
 use Rattle.cov_types.specs.declared.seg.Seg.{Seg}
 use Rattle.half_edge.proofs.Counts.{number_within}
-use Rattle.plane.specs.Joined.{Joined}
-use Rattle.plane.specs.Point.{Point}
-use Rattle.plane.specs.Region.{IsSide, IsRegionOf, AreRegions}
-use Rattle.crossing_laws.proofs.Located.{region-joined, one_region, side_at}
-use Rattle.arrangement.specs.Overlay.{Overlay, region_at, region_above, region_below, numbered_edges}
-use Rattle.sector_laws.specs.Sector.{HalfEdge, left, twin, half_edges, IsHalfEdge, IsNextNumber, IsPlanar, AreDistinct}
+use Rattle.plane.specs.Region.{AreRegions}
+use Rattle.crossing_laws.proofs.Located.{region-joined, one_region}
+use Rattle.arrangement.specs.Overlay.{Overlay, region_at}
+use Rattle.sector_laws.specs.Sector.{HalfEdge, left, IsHalfEdge, IsPlanar, AreDistinct}
 use Rattle.sector_laws.proofs.Numbers.{half_edge_side, half_edge_among, one_half_edge, one_number, forwards_number, back_number}
 use Rattle.sector_laws.proofs.Sectors.{next_joined}
 use Rattle.region_laws.proofs.Numbered.{index, index_is}
-use Rattle.sound_polygons.specs.Parts.{InOnePart, LeadsWithin, boundary_way, boundary}
-use Rattle.sound_polygons.proofs.SameParts.{part_equivalence}
-use Rattle.cov_build.specs.Boundaries.{boundary_edge, boundary_of, boundary_edges, way_round}
-use Rattle.cov_build.specs.Parted.{IsLeastInPart, IsPartAt, ArePartsOf, part_at, is_part}
+use Rattle.sound_polygons.specs.Parts.{InOnePart}
+use Rattle.cov_build.specs.Boundaries.{boundary_edge, boundary_of, boundary_edges}
+use Rattle.cov_build.specs.Parted.{IsPartAt, ArePartsOf, part_at, is_part}
 use Rattle.cov_build.specs.Rings.{outside_of, IsOutside, IsBoundary}
 use Rattle.cov_build.specs.declared.boundary.BoundaryEdge.{BoundaryEdge}
 use Rattle.cov_build.specs.declared.part.Part.{Part}
 use Rattle.cov_build.proofs.Passed.{edge_at}
 use Rattle.cov_build.proofs.BoundaryLists.{some_at}
-use Rattle.cov_build.proofs.Thinned.{up, down, IsThinned, IsJoinedTest, thinned_among, thinned_arranged, thinned_kept}
+use Rattle.cov_build.proofs.Thinned.{up, down, IsThinned, IsJoinedTest, thinned_arranged, thinned_kept}
 
 even_or_odd : (n : ℕ) → (n % 2 ≡ 0) ⊎ (n % 2 ≡ 1)
 even_or_odd n = elim (cases_eq (n % 2) 0) [ inl even ↦ inl even | inr odd ↦ inr (let small : n % 2 < 2 = omega arith in omega (arith, odd)) ]

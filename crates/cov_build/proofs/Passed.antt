@@ -1,28 +1,27 @@
 -- The half-edges that have a part on their right, walk by walk, and the rings back along them.
 use mathlib.Core.List.{List, [], ◌∷◌, ◌++◌}
-use Rattle.std.proofs.Common.{◌≡◌, refl, sym, ◌∙◌, ap, subst, ℕ, zero, suc, ◌+◌, ◌-◌, ◌*◌, ◌<◌, ◌≤◌, ◌==◌, Bool, true, false, true≢false, cond, length, get_or, map, flat_map, replicate, All, Contains, Some, slice_get, ◌⊎◌, inl, inr, arith}
+use Rattle.std.proofs.Common.{◌≡◌, refl, sym, ◌∙◌, ap, subst, ℕ, zero, suc, ◌+◌, ◌*◌, ◌<◌, ◌≤◌, ◌==◌, Bool, true, false, true≢false, length, map, flat_map, replicate, Contains, Some, slice_get, inl, inr, arith}
 use Rattle.std.specs.List.Sorted.{IsPermutation}
 use Rattle.std.proofs.lemmas.Bool.{cases_eq, eq-eqb, ne_eqb}
 use Rattle.std.proofs.lemmas.List.{length-map, map-append}
 use Rattle.std.proofs.lemmas.List.Sums.{sum_by-append, sum_by-cons}
 use Rattle.std.proofs.lemmas.List.Concat.{flat_map-append}
 use Rattle.std.proofs.lemmas.List.Elements.{All-push}
-use Rattle.std.proofs.lemmas.List.Sorted.{IsPermutation-refl, IsPermutation-sym, IsPermutation-trans, IsPermutation-cons, IsPermutation-middle, IsPermutation-append, IsPermutation-map, length_permutation, sum_by-IsPermutation, All-permutation, Contains-permutation}
+use Rattle.std.proofs.lemmas.List.Sorted.{IsPermutation-refl, IsPermutation-sym, IsPermutation-trans, IsPermutation-cons, IsPermutation-middle, IsPermutation-append, IsPermutation-map, length_permutation, sum_by-IsPermutation, All-permutation}
 use Rattle.std.proofs.lemmas.Option.{none-some, same_Some, slice_get_within}
 use Rattle.cov_types.specs.declared.coord.Coord.{Coord}
 use Rattle.cov_types.specs.declared.seg.Seg.{Seg}
 use Rattle.cov_types.specs.Uses.{sides}
 use Rattle.crossing_laws.proofs.Lists.{contains_here, contains_there}
 use Rattle.region_laws.proofs.Balance.{first_or_later}
-use Rattle.sector_laws.specs.Sector.{half_edges, IsNextNumber}
+use Rattle.sector_laws.specs.Sector.{half_edges}
 use Rattle.sector_laws.proofs.Angles.{true_or_false}
 use Rattle.sector_laws.proofs.Numbers.{forwards_number, back_number}
 use Rattle.sound_polygons.specs.Cleaned.{BeginsAtLeast}
 use Rattle.cov_build.specs.Boundaries.{way_round, boundary_edges}
 use Rattle.cov_build.specs.Rings.{outside_of, IsOutside, IsBoundary, IsRingOf, AreRingsOf, AreBoundaryRings, AreHolesSorted, IsBoundaryPolygon}
-use Rattle.cov_build.specs.Walks.{first_or, Leads, IsRound, is_marked, mark_of, times, AreMarks, IsWalked, back_along, ways_back}
+use Rattle.cov_build.specs.Walks.{first_or, Leads, is_marked, mark_of, times, AreMarks, IsWalked, back_along, ways_back}
 use Rattle.cov_build.specs.declared.boundary.BoundaryEdge.{BoundaryEdge}
-use Rattle.cov_build.proofs.BoundaryLists.{some_at}
 use Rattle.cov_build.proofs.FlatLists.{flat-permutation}
 use Rattle.cov_build.proofs.Walking.{bit}
 

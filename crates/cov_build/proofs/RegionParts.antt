@@ -1,22 +1,19 @@
 -- The part of an owned region, as a test on regions, and its boundary.
 use mathlib.Core.List.{List, [], ◌∷◌, ◌++◌}
-use Rattle.std.proofs.Common.{◌≡◌, refl, sym, ◌∙◌, ap, subst, ℕ, zero, suc, ◌+◌, ◌*◌, ◌<◌, ◌≤◌, ◌==◌, ◌&&◌, Bool, true, false, true≢false, not, length, map, flat_map, get_or, Contains, Option, Some, None, slice_get, ◌⊎◌, inl, inr, ◌↔◌, IsTrue, arith}
+use Rattle.std.proofs.Common.{◌≡◌, refl, sym, ◌∙◌, ap, subst, ℕ, zero, suc, ◌+◌, ◌*◌, ◌<◌, ◌≤◌, ◌==◌, ◌&&◌, Bool, true, false, length, map, flat_map, Option, Some, None, inl, inr, arith}
 use Rattle.std.specs.List.{enumerate_from}
-use Rattle.std.specs.List.Sorted.{IsPermutation}
 use Rattle.std.proofs.lemmas.Bool.{eqb-true, eq-eqb, and_parts}
 use Rattle.std.proofs.lemmas.List.{map-append}
-use Rattle.std.proofs.lemmas.Option.{none-some, same_Some, slice_get_within}
-use Rattle.cov_types.specs.declared.coord.Coord.{Coord}
+use Rattle.std.proofs.lemmas.Option.{none-some, same_Some}
 use Rattle.cov_types.specs.declared.seg.Seg.{Seg}
-use Rattle.plane.specs.Region.{IsSide, IsRegionOf, AreRegions}
+use Rattle.plane.specs.Region.{IsRegionOf, AreRegions}
 use Rattle.crossing_laws.proofs.Located.{region-joined, one_region, side_at, side_within}
-use Rattle.arrangement.specs.Overlay.{Overlay, region_at, region_above, region_below, numbered_edges, IsRegion, AreBeside}
+use Rattle.arrangement.specs.Overlay.{Overlay, region_at, region_above, region_below, IsRegion}
 use Rattle.sector_laws.specs.Sector.{IsPlanar, AreDistinct}
 use Rattle.sound_polygons.specs.Parts.{InOnePart, LeadsWithin, IsPartOf, boundary_way, boundary}
 use Rattle.sound_polygons.proofs.SameParts.{part_equivalence}
 use Rattle.cov_build.specs.Boundaries.{boundary_edge, boundary_of, way_round}
 use Rattle.cov_build.specs.Parted.{IsLeastInPart, IsPartAt, ArePartsOf, part_at, is_part}
-use Rattle.cov_build.specs.declared.boundary.BoundaryEdge.{BoundaryEdge}
 use Rattle.cov_build.specs.declared.part.Part.{Part}
 use Rattle.cov_build.proofs.BoundaryLists.{is_part_some}
 use Rattle.cov_build.proofs.PartSides.{same_part}
@@ -95,17 +92,17 @@ module _ (o : Overlay) (planar : IsPlanar o.edges) (distinct : AreDistinct o.edg
       let same_owner : least.owner ≡ i = same_Some least.owner i (sym least.owned ∙ owned) in
       let to_p : InOnePart o owners i r p = subst (λ j. InOnePart o owners j r p) same_owner least.in_part in (
         (λ inside.
-          let both = and_parts (is_part (part_at parts g) p) (region_at o g == g) inside in
-          let at_g = is_part_some (part_at parts g) p both.0 in
-          let own_g : IsOwn g = record { within = (let long = part_long parts g (record { least = p }) at_g in let count = are.count in omega (arith, long, count)); same = eqb-true (region_at o g) g both.1 } in
-          let least_g = least_own g own_g (record { least = p }) at_g in
-          let owner_g : least_g.owner ≡ i = same_Some least_g.owner i (sym (ends_owned o owners least_g.owner g p least_g.in_part) ∙ ends_owned o owners i r p to_p) in
-          laws.on r p g to_p (laws.back g p (subst (λ j. InOnePart o owners j g p) owner_g least_g.in_part))),
+            let both = and_parts (is_part (part_at parts g) p) (region_at o g == g) inside in
+            let at_g = is_part_some (part_at parts g) p both.0 in
+            let own_g : IsOwn g = record { within = (let long = part_long parts g (record { least = p }) at_g in let count = are.count in omega (arith, long, count)); same = eqb-true (region_at o g) g both.1 } in
+            let least_g = least_own g own_g (record { least = p }) at_g in
+            let owner_g : least_g.owner ≡ i = same_Some least_g.owner i (sym (ends_owned o owners least_g.owner g p least_g.in_part) ∙ ends_owned o owners i r p to_p) in
+            laws.on r p g to_p (laws.back g p (subst (λ j. InOnePart o owners j g p) owner_g least_g.in_part))),
         (λ in_part.
-          let own_g = reached_own i r in_part.0 g in_part.1 own in
-          let owned_g = ends_owned o owners i r g in_part in
-          let is_in : is_part (part_at parts g) p ≡ true = by (part_at parts g) (part_own g own_g) owned_g in_part to_p (λ s. least.least s) same_owner in
-          both_true is_in (eq-eqb (region_at o g) g own_g.same)),
+            let own_g = reached_own i r in_part.0 g in_part.1 own in
+            let owned_g = ends_owned o owners i r g in_part in
+            let is_in : is_part (part_at parts g) p ≡ true = by (part_at parts g) (part_own g own_g) owned_g in_part to_p (λ s. least.least s) same_owner in
+            both_true is_in (eq-eqb (region_at o g) g own_g.same)),
       )
     where
       both_true : {a b : Bool} → a ≡ true → b ≡ true → (a && b) ≡ true

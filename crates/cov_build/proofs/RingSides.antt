@@ -1,17 +1,16 @@
 -- The sides of the ring that goes back along a closed walk.
 use mathlib.Core.List.{List, [], ◌∷◌, ◌++◌, reverse, reverse-cons}
-use Rattle.std.proofs.Common.{◌≡◌, refl, sym, ◌∙◌, ap, subst, ℕ, zero, suc, ◌+◌, ◌*◌, ◌<◌, ◌≤◌, Bool, true, false, length, get_or, take, drop, map, zip, Contains, Some, slice_get, arith}
+use Rattle.std.proofs.Common.{◌≡◌, refl, sym, ◌∙◌, ap, subst, ℕ, zero, suc, ◌+◌, ◌*◌, ◌<◌, Bool, true, false, length, get_or, take, drop, map, zip, Contains, Some, slice_get, arith}
 use Rattle.std.specs.List.Sorted.{IsPermutation}
 use Rattle.std.proofs.Math.Seq.{take-suc}
 use Rattle.std.proofs.lemmas.List.{take-append-drop, map-append, append_assoc, length-append}
-use Rattle.std.proofs.lemmas.List.Sorted.{IsPermutation-refl, IsPermutation-sym, IsPermutation-trans, IsPermutation-append_comm, IsPermutation-reverse, IsPermutation-map, Contains-permutation, All-permutation}
+use Rattle.std.proofs.lemmas.List.Sorted.{IsPermutation-sym, IsPermutation-trans, IsPermutation-append_comm, IsPermutation-reverse, IsPermutation-map, Contains-permutation, All-permutation}
 use Rattle.cov_types.specs.declared.coord.Coord.{Coord}
 use Rattle.cov_types.specs.declared.seg.Seg.{Seg}
 use Rattle.cov_types.specs.Coord.{is_before}
 use Rattle.cov_types.specs.Uses.{sides}
 use Rattle.half_edge.proofs.Counts.{next_begins}
 use Rattle.sector_laws.specs.Sector.{HalfEdge, origin, target, twin, half_edges, IsNextNumber}
-use Rattle.sound_polygons.specs.Cleaned.{BeginsAtLeast}
 use Rattle.cov_build.specs.Rings.{IsLeastEnd, IsRingOf}
 use Rattle.cov_build.specs.Walks.{first_or, Leads, IsRound, back_along, ways_back, target_of}
 

@@ -1,7 +1,6 @@
 -- Rings that go round a part have three points or more, in range.
 use mathlib.Core.List.{List, [], ◌∷◌, ◌++◌}
-use Rattle.std.proofs.Common.{◌≡◌, refl, sym, ◌∙◌, ap, subst, ℕ, zero, suc, ◌+◌, ◌<◌, ◌≤◌, Bool, true, false, true≢false, not, cond, length, map, flat_map, zip, take, drop, get_or, All, Contains, Option, inl, inr, arith}
-use Rattle.std.specs.List.Sorted.{IsPermutation}
+use Rattle.std.proofs.Common.{◌≡◌, refl, sym, ◌∙◌, ap, subst, ℕ, ◌<◌, ◌≤◌, Bool, true, false, true≢false, cond, length, map, flat_map, zip, get_or, Contains, Option, inl, inr, arith}
 use Rattle.std.proofs.lemmas.List.{length-append}
 use Rattle.std.proofs.lemmas.List.Elements.{All-contains, Contains-append_left, Contains-append_right, Contains-get_or}
 use Rattle.std.proofs.lemmas.List.Sorted.{Contains-permutation}
@@ -20,14 +19,14 @@ use Rattle.region_laws.proofs.Balance.{first_or_later}
 use Rattle.sector_laws.specs.Sector.{IsPlanar, AreDistinct}
 use Rattle.cov_build.specs.Boundaries.{boundary_of, boundary_edges, way_round}
 use Rattle.cov_build.specs.Parted.{ArePartsOf}
-use Rattle.cov_build.specs.Rings.{IsBoundary, AreBoundaryRings}
+use Rattle.cov_build.specs.Rings.{AreBoundaryRings}
 use Rattle.cov_build.specs.declared.boundary.BoundaryEdge.{BoundaryEdge}
 use Rattle.cov_build.specs.declared.part.Part.{Part}
 use Rattle.cov_build.proofs.MemberLists.{from_map}
 use Rattle.cov_build.proofs.Passed.{some_ring}
 use Rattle.cov_build.proofs.PartLists.{at_of}
 use Rattle.cov_build.proofs.PartSides.{passes, HasPart, bounds_part, bounds_thinned, is_boundary}
-use Rattle.cov_build.proofs.Thinned.{up, down, thinned_among}
+use Rattle.cov_build.proofs.Thinned.{up, thinned_among}
 
 pub in_flat : {X Y : Type 0} (f : X → List Y) (xs : List X) (x : X) (y : Y) → Contains xs x → Contains (f x) y → Contains (flat_map f xs) y
 in_flat f [] x y c d = absurd (omega (arith, c.1))
@@ -92,10 +91,10 @@ module _ (o : Overlay) (planar : IsPlanar o.edges) (distinct : AreDistinct o.edg
     long [] some edge = absurd (omega arith)
     long (x ∷ []) some edge = absurd (let (b, (in_b, is)) = edge (x, x) (contains_here (x, x) []) in no_loop b x is)
     long (x ∷ y ∷ []) some edge = absurd (
-      let (a, (in_a, is_a)) = edge (x, y) (contains_here (x, y) ((y, x) ∷ [])) in
-      let (b, (in_b, is_b)) = edge (y, x) (contains_there (x, y) (y, x) ((y, x) ∷ []) (contains_here (y, x) [])) in
-      no_back a b in_a in_b x y is_a is_b
-      )
+        let (a, (in_a, is_a)) = edge (x, y) (contains_here (x, y) ((y, x) ∷ [])) in
+        let (b, (in_b, is_b)) = edge (y, x) (contains_there (x, y) (y, x) ((y, x) ∷ []) (contains_here (y, x) [])) in
+        no_back a b in_a in_b x y is_a is_b
+        )
     long (x ∷ y ∷ z ∷ ring) some edge = omega arith
 
     pub formed : 0 < length bounds → IsPolyFormed rings

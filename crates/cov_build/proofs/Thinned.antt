@@ -1,11 +1,10 @@
 -- Edges without those whose two sides pass a test alike: the test is kept round the others alone.
 use mathlib.Core.List.{List, [], ◌∷◌}
-use Rattle.std.proofs.Common.{◌≡◌, refl, sym, ◌∙◌, ap, subst, ℕ, zero, suc, ◌+◌, ◌<◌, Bool, true, false, true≢false, cond, length, All, Contains, AllPairs, get_or as at, IsTrue, ◌⊎◌, ℤ, pos, ◌+ℤ◌, ◌-ℤ◌, inl, inr, arith}
+use Rattle.std.proofs.Common.{◌≡◌, refl, sym, ◌∙◌, ap, subst, zero, suc, Bool, true, false, cond, length, Contains, get_or as at, ◌⊎◌, ℤ, pos, ◌+ℤ◌, ◌-ℤ◌, inl, inr, arith}
 use Rattle.std.specs.Ordering.{int_eq}
 use Rattle.std.proofs.lemmas.Bool.Decides.{Decides-int_eq}
 use Rattle.std.proofs.lemmas.List.{get_or_default}
 use Rattle.std.proofs.lemmas.List.Elements.{All-contains}
-use Rattle.cov_types.specs.declared.coord.Coord.{Coord}
 use Rattle.cov_types.specs.declared.seg.Seg.{Seg}
 use Rattle.cov_types.specs.Range.{IsSegInRange}
 use Rattle.cov_types.proofs.Equal.{Decides-same_segs}
@@ -16,11 +15,11 @@ use Rattle.plane.specs.Segment.{upper, lower}
 use Rattle.plane.specs.Joined.{Joined}
 use Rattle.plane.proofs.Sweeps.{rises-in_range}
 use Rattle.crossing_laws.specs.Across.{AllMeetInEnds, is_same_seg, weight_of}
-use Rattle.crossing_laws.specs.Crossing.{WeightedEdge, edges_of, crossing_sum, int_sum_by, IsSwept, IsBalanced}
+use Rattle.crossing_laws.specs.Crossing.{edges_of, crossing_sum, int_sum_by, IsSwept, IsBalanced}
 use Rattle.crossing_laws.proofs.Sums.{crossing_sum-joined}
 use Rattle.crossing_laws.proofs.Changes.{crossing_sum-across}
 use Rattle.crossing_laws.proofs.Lists.{contains_here, contains_there}
-use Rattle.sector_laws.specs.Sector.{HalfEdge, left, twin, IsNext, AreDistinct, IsPlanar}
+use Rattle.sector_laws.specs.Sector.{HalfEdge, left, twin, AreDistinct, IsPlanar}
 use Rattle.sector_laws.proofs.Sectors.{next_joined}
 use Rattle.sector_laws.proofs.Angles.{true_or_false}
 use Rattle.region_laws.specs.Weights.{side_weight, weigh_sides}

@@ -1,6 +1,6 @@
 -- A walk along next: it marks what it passes, and comes back to its start.
 use mathlib.Core.List.{List, [], ◌∷◌, ◌++◌}
-use Rattle.std.proofs.Common.{◌≡◌, refl, sym, ◌∙◌, ap, subst, ℕ, zero, suc, ◌+◌, ◌*◌, ◌<◌, ◌==◌, Bool, true, false, true≢false, cond, length, get_or, set, count_by, sum_by, ◌⊎◌, inl, inr, arith}
+use Rattle.std.proofs.Common.{◌≡◌, refl, sym, ◌∙◌, ap, subst, ℕ, zero, suc, ◌+◌, ◌*◌, ◌<◌, ◌==◌, Bool, true, false, true≢false, cond, length, get_or, set, count_by, ◌⊎◌, inl, inr, arith}
 use Rattle.std.proofs.lemmas.Bool.{cases_eq, eq-eqb, ne_eqb}
 use Rattle.std.proofs.lemmas.List.{length-set, get_or-set_same, get_or-set_other}
 use Rattle.std.proofs.lemmas.List.Sums.{sum_by-append, sum_by-set}
@@ -8,7 +8,7 @@ use Rattle.cov_types.specs.declared.seg.Seg.{Seg}
 use Rattle.half_edge.proofs.Counts.{number_within}
 use Rattle.sector_laws.specs.Sector.{IsNextNumber, IsPlanar, AreDistinct}
 use Rattle.sector_laws.proofs.Numbers.{one_next_number, next_of_one_number}
-use Rattle.cov_build.specs.Walks.{first_or, Leads, IsRound, is_marked, mark_of, times, AreMarks, IsWalked}
+use Rattle.cov_build.specs.Walks.{first_or, Leads, is_marked, mark_of, times, AreMarks, IsWalked}
 
 abbrev pub bit : Bool → ℕ
 bit b = cond b 1 0

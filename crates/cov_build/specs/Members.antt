@@ -1,5 +1,5 @@
 -- The polygons of the first parts, by their owners.
-use Rattle.std.specs.Prelude.{◌≡◌, ℕ, ◌<◌, Bool, false, List, length, flat_map, All, AllPairs, Contains, Option, Some, None, slice_get, slice_index_or}
+use Rattle.std.specs.Prelude.{◌≡◌, ℕ, ◌<◌, List, length, flat_map, AllPairs, Contains, Option, Some, slice_get}
 use Rattle.std.specs.List.Sorted.{IsPermutation, IsSortedBy}
 use Rattle.std.specs.Ordering.{is_lt}
 use Rattle.std.specs.Global.{Vec}
@@ -9,7 +9,7 @@ use Rattle.cov_types.specs.Coverage.{Members}
 use Rattle.cov_types.specs.Uses.{sides}
 use Rattle.sound_polygons.specs.Cleaned.{shell_of}
 use Rattle.cov_build.specs.declared.boundary.BoundaryEdge.{BoundaryEdge}
-use Rattle.cov_build.specs.Rings.{IsBoundary, IsBoundaryPolygon}
+use Rattle.cov_build.specs.Rings.{IsBoundaryPolygon}
 use Rattle.cov_build.specs.RoundParts.{owner_in}
 
 -- the boundary of the part p of the member, which has an edge

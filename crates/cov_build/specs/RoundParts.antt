@@ -1,5 +1,5 @@
 -- What is built of the owners of regions: for each part a polygon that goes round it, in canonical order.
-use Rattle.std.specs.Prelude.{◌≡◌, ℕ, ◌<◌, Bool, List, length, Contains, Option, Some, None, slice_get, unwrap_or}
+use Rattle.std.specs.Prelude.{◌≡◌, ℕ, Bool, List, length, Contains, Option, Some, None, slice_get, unwrap_or}
 use Rattle.cov_types.specs.declared.coord.Coord.{Coord}
 use Rattle.cov_types.specs.Coverage.{Members, IsPolyFormed}
 use Rattle.arrangement.specs.Overlay.{Overlay}

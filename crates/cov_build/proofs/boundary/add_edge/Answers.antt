@@ -1,4 +1,4 @@
-use Rattle.std.proofs.Common.{◌≡◌, ◌∙◌, sym, true≢false}
+use Rattle.std.proofs.Common.{◌∙◌, sym, true≢false}
 use Rattle.cov_build.proofs.BoundaryLists.{added-both, added-neither}
 use Rattle.cov_build.proofs.boundary.add_edge.Goals as goal
 

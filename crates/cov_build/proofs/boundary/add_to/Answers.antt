@@ -1,11 +1,11 @@
-use Rattle.std.proofs.Common.{sym, ◌∙◌, ap, ◌++◌, subst, cond, [], ◌∷◌, Option, Some, length, ◌<◌, set, ◌≡◌}
+use Rattle.std.proofs.Common.{sym, ◌∙◌, ap, ◌++◌, subst, cond, [], ◌∷◌, Option, length, ◌<◌, set}
 use Rattle.std.specs.Prelude.{IfSome}
 use Rattle.std.specs.Global.{Vec}
 use Rattle.cov_build.specs.declared.boundary.BoundaryEdge.{BoundaryEdge}
 use Rattle.cov_build.specs.Boundaries.{AreAdded}
 use Rattle.cov_build.specs.Parted.{is_part}
 use Rattle.cov_build.specs.declared.part.Part.{Part}
-use Rattle.cov_build.proofs.BoundaryLists.{added-at, added-none}
+use Rattle.cov_build.proofs.BoundaryLists.{added-at}
 use Rattle.cov_build.proofs.boundary.add_to.Goals as goal
 
 pub returns-in_ok-push : goal.returns-in_ok-push

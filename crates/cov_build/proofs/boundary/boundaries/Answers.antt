@@ -1,9 +1,7 @@
-use Rattle.std.proofs.Common.{◌≡◌, ◌∙◌, sym, ap, subst, ℕ, ◌+◌, ◌*◌, take, length, get_or, List, None, arith}
-use Rattle.std.specs.Global.{Vec}
+use Rattle.std.proofs.Common.{◌≡◌, ◌∙◌, sym, subst, ◌+◌, ◌*◌, take, length, get_or, None, arith}
 use Rattle.std.proofs.lemmas.List.{with_items_is}
 use Rattle.cov_build.specs.Boundaries.{AreBoundaries, AreAdded, boundary_edge}
 use Rattle.cov_build.specs.Parted.{is_part}
-use Rattle.cov_build.specs.declared.boundary.BoundaryEdge.{BoundaryEdge}
 use Rattle.cov_build.proofs.BoundaryLists.{boundaries-more, part_is_at}
 use Rattle.cov_build.proofs.boundary.boundaries.Goals as goal
 

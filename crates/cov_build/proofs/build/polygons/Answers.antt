@@ -1,8 +1,8 @@
 use Rattle.std.proofs.Common.{length}
-use Rattle.std.proofs.Common.{◌≡◌, ◌∙◌, refl, sym, ap, subst, ℕ, ◌<◌, List, [], All, Option, None}
+use Rattle.std.proofs.Common.{◌≡◌, ◌∙◌, sym, subst, ℕ, ◌<◌, List, [], All, Option, None}
 use Rattle.std.specs.Global.{Vec}
 use Rattle.cov_types.specs.declared.seg.Seg.{Seg}
-use Rattle.plane.specs.Region.{IsOuterRegion, AreRegions}
+use Rattle.plane.specs.Region.{IsOuterRegion}
 use Rattle.sector_laws.specs.Sector.{IsPlanar, AreDistinct}
 use Rattle.arrangement.specs.Overlay.{Overlay}
 use Rattle.region_laws.proofs.Exists.{regions_exist}

@@ -1,4 +1,4 @@
-use Rattle.std.proofs.Common.{◌≡◌, ◌∙◌, refl, sym, ap, subst, ℕ, ◌+◌, ◌<◌, ◌≤◌, length, get_or, set, List, All, Option, Some, None, slice_get, [], ◌∷◌, ◌++◌, arith}
+use Rattle.std.proofs.Common.{◌≡◌, ◌∙◌, refl, sym, ap, subst, ℕ, ◌+◌, ◌<◌, length, get_or, set, List, Option, Some, None, slice_get, [], ◌∷◌, ◌++◌, arith}
 use Rattle.std.specs.Global.{Vec}
 use Rattle.std.specs.Prelude.{IfSome, IfNone}
 use Rattle.std.proofs.lemmas.Option.{slice_get_read, same_Some}
@@ -6,7 +6,6 @@ use Rattle.cov_types.specs.declared.coord.Coord.{Coord}
 use Rattle.cov_build.specs.Members.{IsMemberPart, AreAllPartPolygons}
 use Rattle.cov_build.specs.Rings.{IsBoundaryPolygon}
 use Rattle.cov_build.specs.declared.boundary.BoundaryEdge.{BoundaryEdge}
-use Rattle.cov_build.specs.RoundParts.{owner_in}
 use Rattle.cov_build.proofs.OwnerLinks.{owner_is}
 use Rattle.cov_build.proofs.MemberLists.{members_none, members_skip, members_more}
 use Rattle.cov_build.proofs.build.polygons_of_parts.Goals.{in-Some+in_ok-polygon-in-Some+in_ok-push-in-Some, in-None}

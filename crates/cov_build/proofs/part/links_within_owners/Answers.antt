@@ -1,4 +1,4 @@
-use Rattle.std.proofs.Common.{◌≡◌, sym, ◌∙◌, ap, subst, ℕ, ◌*◌, ◌+◌, ◌<◌, ◌++◌, [], ◌∷◌, length, List, arith, true, true≢false}
+use Rattle.std.proofs.Common.{◌≡◌, sym, ◌∙◌, ap, subst, ◌*◌, ◌+◌, ◌<◌, ◌++◌, [], ◌∷◌, length, List, arith, true≢false}
 use Rattle.std.proofs.lemmas.List.Elements.{All-push}
 use Rattle.std.specs.Global.{Vec}
 use Rattle.components.specs.declared.link.Link.{Link}

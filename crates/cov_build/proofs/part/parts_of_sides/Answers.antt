@@ -1,15 +1,12 @@
-use Rattle.std.proofs.Common.{◌≡◌, sym, ◌∙◌, ap, subst, ℕ, ◌*◌, ◌+◌, ◌<◌, ◌++◌, [], ◌∷◌, length, List, arith, Option}
+use Rattle.std.proofs.Common.{◌≡◌, sym, ◌∙◌, ap, subst, ℕ, ◌*◌, ◌+◌, ◌<◌, length, List, arith}
 use Rattle.std.specs.Prelude.{option_map, IfSome, slice_index}
 use Rattle.std.proofs.lemmas.List.{length_push}
 use Rattle.std.proofs.lemmas.List.Elements.{All-push}
-use Rattle.std.specs.Global.{Vec}
 use Rattle.components.specs.Connected.{AreComponents}
 use Rattle.plane.specs.Region.{AreRegions}
-use Rattle.arrangement.specs.Overlay.{Overlay}
 use Rattle.cov_build.specs.Parted.{AreOwnerLinks, IsPartAt, AreBelow}
 use Rattle.cov_build.specs.RoundParts.{owner_in}
-use Rattle.cov_build.specs.declared.part.Part.{Part}
-use Rattle.cov_build.proofs.OwnerLinks.{ArePartsTo, part_is, part_below, parts_none, parts_more, parts_all}
+use Rattle.cov_build.proofs.OwnerLinks.{ArePartsTo, part_is, part_below, parts_more, parts_all}
 use Rattle.cov_build.proofs.part.parts_of_sides.Goals as goal
 
 pub loop-side-preserved : goal.loop-side-preserved

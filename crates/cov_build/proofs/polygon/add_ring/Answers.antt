@@ -1,5 +1,4 @@
-use Rattle.std.proofs.Common.{◌≡◌, ◌∙◌, sym, ap, subst, ◌<◌, ◌*◌, length, get_or, List, ℕ, ◌∷◌, [], ◌++◌, arith}
-use Rattle.std.specs.Global.{Vec}
+use Rattle.std.proofs.Common.{◌≡◌, ◌∙◌, sym, ap, subst, ◌<◌, ◌*◌, length, get_or, List, ◌∷◌, [], ◌++◌}
 use Rattle.std.proofs.lemmas.List.{get_or_read}
 use Rattle.cov_types.specs.declared.coord.Coord.{Coord}
 use Rattle.cov_build.specs.declared.polygon.RingList.{RingList}

@@ -1,4 +1,4 @@
-use Rattle.std.proofs.Common.{◌≡◌, sym, subst, rules, arith}
+use Rattle.std.proofs.Common.{sym, subst, rules, arith}
 use Rattle.std.specs.List.Sorted.{IsSortedBy}
 use Rattle.std.specs.Ordering.{is_lt}
 use Rattle.cov_types.specs.Coord.{points_cmp}

@@ -1,4 +1,3 @@
-use Rattle.std.proofs.Common.{◌≡◌, ◌∙◌, sym, ap, subst, List, arith}
 use Rattle.cov_build.proofs.Passed.{in_other_order}
 use Rattle.cov_build.proofs.polygon.polygon.Goals as goal
 

@@ -1,4 +1,4 @@
-use Rattle.std.proofs.Common.{◌≤◌, ◌-◌, length}
+use Rattle.std.proofs.Common.{◌≤◌, ◌-◌}
 use Rattle.cov_build.proofs.Passed.{IsWalkedTo}
 use Rattle.cov_build.proofs.polygon.walked_rings.Given as goal
 

@@ -1,4 +1,4 @@
-use Rattle.std.proofs.Common.{◌≡◌, ◌∙◌, sym, ap, subst, ◌+◌, ◌<◌, ℕ, true, false, length, get_or, arith}
+use Rattle.std.proofs.Common.{◌≡◌, ◌∙◌, sym, ap, subst, ◌+◌, ◌<◌, ℕ, false, length, get_or}
 use Rattle.cov_types.specs.Coord.{is_before}
 use Rattle.cov_build.specs.Walks.{target_of}
 use Rattle.cov_build.proofs.Walking.{leads_within}

@@ -1,4 +1,4 @@
-use Rattle.std.proofs.Common.{◌≡◌, ◌∙◌, sym, ap, map, take, drop, ◌++◌, ◌+◌, List, ℕ, arith}
+use Rattle.std.proofs.Common.{◌≡◌, ◌∙◌, ap, map, take, drop, ◌++◌, ◌+◌, arith}
 use mathlib.Core.List.{reverse}
 use Rattle.std.proofs.lemmas.List.{take_all}
 use Rattle.cov_build.specs.Walks.{target_of}

@@ -1,4 +1,3 @@
-use Rattle.cov_build.proofs.PartSides.{is_boundary}
 use Rattle.std.proofs.Common.{◌∙◌, sym, ap}
 use Rattle.half_edge.proofs.Counts.{some_half_edge}
 use Rattle.sector_laws.specs.Sector.{twin}

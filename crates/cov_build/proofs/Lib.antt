@@ -1,0 +1,17 @@
+pub mod OwnerLinks
+pub mod BoundaryLists
+pub mod Walking
+pub mod RingSides
+pub mod Thinned
+pub mod PartSides
+pub mod LeastEnds
+pub mod Passed
+pub mod Orders
+pub mod FlatLists
+pub mod MemberLists
+pub mod PartLists
+pub mod RegionParts
+pub mod RoundFacts
+pub mod BuiltParts
+pub mod Once
+pub mod BuiltRound

@@ -1,0 +1,6 @@
+pub mod RoundParts
+pub mod Parted
+pub mod Boundaries
+pub mod Walks
+pub mod Rings
+pub mod Members

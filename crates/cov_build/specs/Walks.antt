@@ -1,0 +1,61 @@
+-- Closed walks along next, the half-edges that they mark, and the way back along each.
+use Rattle.std.specs.Prelude.{◌≡◌, ℕ, ◌+◌, ◌*◌, ◌<◌, ◌==◌, Bool, false, cond, List, [], ◌∷◌, length, map, count_by, pos, Option, Some, None, slice_get, slice_index_or, ⊤}
+use Rattle.cov_types.specs.declared.coord.Coord.{Coord}
+use Rattle.cov_types.specs.declared.seg.Seg.{Seg}
+use Rattle.sector_laws.specs.Sector.{HalfEdge, origin, target, half_edges, IsNextNumber}
+
+-- the first of the numbers, and m where there is none
+abbrev pub first_or : ℕ → List ℕ → ℕ
+first_or m [] = m
+first_or m (n ∷ way) = n
+
+-- each half-edge follows the one before, and m the last
+abbrev pub Leads : List Seg → List ℕ → ℕ → Type 0
+Leads edges [] m = ⊤
+Leads edges (n ∷ way) m = IsNextNumber edges n (first_or m way) × Leads edges way m
+
+-- a closed walk: the first follows the last
+pub record IsRound (edges : List Seg) (way : List ℕ) : Type 0 where
+  pub leads : Leads edges way (first_or 0 way)
+  pub some : 0 < length way
+
+-- ---- marks
+
+-- whether the half-edge is marked
+abbrev pub is_marked : List Bool → ℕ → Bool
+is_marked seen n = slice_index_or seen n false
+
+-- one for a half-edge that is marked
+abbrev pub mark_of : List Bool → ℕ → ℕ
+mark_of seen n = cond (is_marked seen n) 1 0
+
+-- how often the number stands in the list
+abbrev pub times : ℕ → List ℕ → ℕ
+times n way = count_by (λ m. m == n) way
+
+-- there is a mark for each half-edge, the same along next
+pub record AreMarks (edges : List Seg) (seen : List Bool) : Type 0 where
+  pub count : length seen ≡ 2 * length edges
+  pub along : (n m : ℕ) → IsNextNumber edges n m → is_marked seen n ≡ is_marked seen m
+
+-- the way is a closed walk from the start on, of half-edges that were not marked, each of which has got its mark
+pub record IsWalked (edges : List Seg) (start : ℕ) (before : List Bool) (way : List ℕ) (after : List Bool) : Type 0 where
+  pub round : IsRound edges way
+  pub first : first_or 0 way ≡ start
+  pub marks : AreMarks edges after
+  pub each : (n : ℕ) → times n way + mark_of before n ≡ mark_of after n
+
+-- ---- the way back
+
+-- from the end of the half-edge to its origin
+abbrev pub back_along : Option HalfEdge → Coord × Coord
+back_along None = (record { x = pos 0; y = pos 0 }, record { x = pos 0; y = pos 0 })
+back_along (Some h) = (target h, origin h)
+
+-- the ways back along the half-edges with these numbers
+abbrev pub ways_back : List Seg → List ℕ → List (Coord × Coord)
+ways_back edges way = map (λ n. back_along (slice_get (half_edges edges) n)) way
+
+-- where the half-edge with the number ends
+abbrev pub target_of : List Seg → ℕ → Coord
+target_of edges n = (back_along (slice_get (half_edges edges) n)).0

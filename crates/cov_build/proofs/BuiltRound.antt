@@ -1,13 +1,13 @@
 -- The polygons of each member correspond one to one to the parts of its regions, go round them, and are canonical.
 use mathlib.Core.List.{List}
-use Rattle.std.proofs.Common.{◌≡◌, refl, sym, ◌∙◌, ap, subst, ℕ, ◌<◌, ◌≤◌, Bool, true, false, length, flat_map, drop, get_or, sum_by, All, Contains, Option, None, arith}
+use Rattle.std.proofs.Common.{◌≡◌, refl, sym, ◌∙◌, ap, subst, ℕ, ◌<◌, ◌≤◌, Bool, true, false, length, flat_map, drop, get_or, sum_by, All, Contains, Option, None, arith, ◌^◌}
 use Rattle.std.specs.Global.{Vec}
 use Rattle.std.specs.List.Sorted.{IsPermutation}
 use Rattle.std.proofs.lemmas.List.Elements.{Contains-get_or}
 use Rattle.std.proofs.lemmas.List.Sorted.{Contains-permutation, IsPermutation-sym}
-use Rattle.std.proofs.lemmas.Option.{slice_get_within}
+use Rattle.std.proofs.lemmas.Option.{slice_get_within, slice_get-get_or}
 use Rattle.cov_types.specs.declared.coord.Coord.{Coord}
-use Rattle.cov_types.specs.Coverage.{Members, IsPolyFormed}
+use Rattle.cov_types.specs.Coverage.{Members, IsPolyFormed, IsPolyInRange, IsFormed}
 use Rattle.cov_types.specs.Uses.{sides}
 use Rattle.plane.specs.Region.{IsOuterRegion, AreRegions}
 use Rattle.arrangement.specs.Overlay.{Overlay}
@@ -17,6 +17,7 @@ use Rattle.sound_polygons.specs.Parts.{boundary}
 use Rattle.cov_build.specs.Boundaries.{AreBoundaries, boundary_of, boundary_edges}
 use Rattle.cov_build.specs.Members.{IsPartPolygon, ArePartPolygons, AreAllPartPolygons, AreShellsSorted, AreSortedMembers}
 use Rattle.cov_build.specs.Parted.{ArePartsOf}
+use Rattle.cov_build.specs.Rings.{AreBoundaryRings}
 use Rattle.cov_build.specs.RoundParts.{owner_in, IsRoundFor, ArePolygonsRound, IsBuiltRound}
 use Rattle.cov_build.specs.declared.boundary.BoundaryEdge.{BoundaryEdge}
 use Rattle.cov_build.specs.declared.part.Part.{Part}
@@ -25,6 +26,7 @@ use Rattle.cov_build.proofs.BuiltParts.{boundary_at, each_round, every_round}
 use Rattle.cov_build.proofs.Once.{holes_differ, sorted_strict, poly_ways, shells_differ, meet_one, some_way, sorted_once}
 use Rattle.cov_build.proofs.Orders.{points_weak, shells_weak}
 use Rattle.cov_build.proofs.PartSides.{is_boundary}
+use Rattle.cov_build.proofs.RoundFacts.{in_range}
 
 same_test : (a b : Bool) → (a ≡ true → b ≡ true) → (b ≡ true → a ≡ true) → a ≡ b
 same_test true b on back = sym (on refl)
@@ -56,8 +58,16 @@ module _ (o : Overlay) (planar : IsPlanar o.edges) (distinct : AreDistinct o.edg
     once : (w : Coord × Coord) → sum_by (poly_ways w) polys ≤ 1
     once = sorted_once before polys same of.apart (λ rings c. (let is = of.each rings c in (is.boundary, (distinct_boundary (length lists) i rings is, is.polygon.bounds))))
 
-    all_formed : All IsPolyFormed polys
+    pub all_formed : All IsPolyFormed polys
     all_formed = λ k d below. (each_round o planar distinct regions owned parts are lists bound (length lists) i (get_or polys k d) (part_of (get_or polys k d) (Contains-get_or polys k d below))).1.1.formed
+
+    pub all_in_range : All IsPolyInRange polys
+    all_in_range = λ k d below. (
+        let rings = get_or polys k d in
+        let is = part_of rings (Contains-get_or polys k d below) in
+        let same_boundary = boundary_at o planar distinct regions owned parts are lists bound i is.place is.boundary is.member_part in
+        in_range o planar distinct regions (owner_in owned) parts are is.place rings (subst (λ bs. AreBoundaryRings bs rings) same_boundary is.polygon.bounds)
+        )
 
     canonical_poly : (rings : List (List Coord)) → Contains polys rings → IsPolyCanonical rings
     canonical_poly rings c =
@@ -93,3 +103,19 @@ module _ (o : Overlay) (planar : IsPlanar o.edges) (distinct : AreDistinct o.edg
         member_round i before polys (all.each i before at_before) same ascend
         );
   }
+
+  pub built_formed : (members : ℕ) (unsorted out : Members) → members < 2 ^ 32 → AreAllPartPolygons lists owned (length lists) members unsorted → AreSortedMembers unsorted out → IsFormed out
+  built_formed members unsorted out few all sorted = record {
+    in_range = record {
+      coords = λ k d below. (let (before, (of, (same, ascend))) = parts_at k d below in all_in_range k before (get_or out k d) of same ascend);
+      count = subst (λ n. n < 2 ^ 32) (sym (sorted.count ∙ all.count)) few;
+    };
+    shapes = λ k d below. (let (before, (of, (same, ascend))) = parts_at k d below in all_formed k before (get_or out k d) of same ascend);
+  }
+    where
+      parts_at : (k : ℕ) (d : List (List (List Coord))) → k < length out
+          → (before : List (List (List Coord))) × (ArePartPolygons lists owned (length lists) k before × (IsPermutation before (get_or out k d) × AreShellsSorted (get_or out k d)))
+      parts_at k d below =
+          let (before, at_before) = some_at unsorted k (omega (arith, below, sorted.count)) in
+          let moved = sorted.each k before (get_or out k d) at_before (slice_get-get_or out k d below) in
+          (before, (all.each k before at_before, (moved.0, moved.1)))

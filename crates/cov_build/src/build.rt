@@ -31,7 +31,8 @@ pub fn polygons(
     requires count { length owners.now ≡ 2 * length a.now }
     requires below { All (λ o. IfSome o (λ i. i < members)) owners.now }
     requires outer { (n : ℕ) → IsOuterRegion a.now n → owner_in owners.now n ≡ None }
-    ensures { IfOk result (λ c. (o : Overlay) → o.edges ≡ a.now → AreRegions o.edges o.numbers → IsBuiltRound o (owner_in owners.now) members c) }
+    ensures polygons { IfOk result (λ c. (o : Overlay) → o.edges ≡ a.now → AreRegions o.edges o.numbers → IsBuiltRound o (owner_in owners.now) members c) }
+    ensures formed { IfOk result IsFormed }
 {
     let edges = a.edges();
     let parts = parts_of_sides(alloc, r, edges.len(), owners)?;

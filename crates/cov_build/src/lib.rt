@@ -3,7 +3,7 @@
 //! Its promise, that of [`polygons`]: the polygons of each member correspond one to one to the parts of the regions that it owns. The
 //! sides of a polygon's rings are the edges with the part on one side only, each once, with the part on the left. Each ring has three
 //! points or more and begins at the least of them, the holes ascend behind the first ring, and the polygons ascend by their first rings.
-//! (It is `IsBuiltRound` of `specs/RoundParts.antt`.)
+//! (It is `IsBuiltRound` of `specs/RoundParts.antt`.) All points are in range.
 //!
 //! The proof goes in the order of the program. In `proofs/`:
 //!

@@ -6,6 +6,7 @@ ghost use Rattle.plane.specs.Segment.{midpoint};
 
 use box_tree::{Probe, Rect};
 use cov_types::{Coord, Seg};
+use grid_pred::SLOPE;
 
 /// Where a box lies about a midpoint.
 #[derive(Clone, Copy)]
@@ -54,5 +55,5 @@ pub fn is_started(c: Coord, s: Seg) -> bool
 fn sweep_of(p: Coord) -> i64
     ensures { result ≡ (pos (2 ^ 30) *ℤ p.x) +ℤ p.y }
 {
-    (1 << 30) * p.x as i64 + p.y as i64
+    SLOPE * p.x as i64 + p.y as i64
 }

@@ -7,6 +7,8 @@
 
 #[cfg(test)]
 mod borders;
+#[cfg(test)]
+mod cleaning;
 mod files;
 #[cfg(test)]
 mod hostile;

@@ -67,7 +67,12 @@ pub(crate) fn expect_refusal(
     input: &[u8],
     expected: Outcome,
 ) -> Result<(), test::Fail> {
-    for line in ["validate in out", "node in out", "regions in out"] {
+    for line in [
+        "validate in out",
+        "clean in out --rule least-index",
+        "node in out",
+        "regions in out",
+    ] {
         let mut files = shelf_of(alloc, input, &[], ROOM, ROOM)?;
         let came = answer(alloc, line, &mut files)?;
         assert_eq!(rt; came, expected, "{line}");
@@ -186,6 +191,13 @@ fn coverages_without_faults_are_done(rt: HostRuntime) -> Result<(), test::Fail> 
             Outcome::Done,
             "MULTILINESTRING EMPTY\nMULTILINESTRING EMPTY\n",
         ),
+    ];
+    expect_answers(&rt, rt.alloc(), "validate in out", &cases)
+}
+
+#[test]
+fn members_of_few_points_are_done(rt: HostRuntime) -> Result<(), test::Fail> {
+    let cases = [
         (
             "a polygon without rings is a member without segments",
             "POLYGON EMPTY",
@@ -284,6 +296,13 @@ fn regions_lists_each_region_with_its_label_and_doubled_area(
             Outcome::Done,
             "0 outer - - -\n1 single 0 800 -\n7 gap - 72 -\n13 single 2 128 -\n19 single 1 800 -\n",
         ),
+    ];
+    expect_answers(&rt, rt.alloc(), "regions in out", &cases)
+}
+
+#[test]
+fn regions_tells_gaps_from_members(rt: HostRuntime) -> Result<(), test::Fail> {
+    let cases = [
         (
             "a frame of 216 units round a gap that fills the middle of the plane",
             "POLYGON ((-16777216 -16777216, 16777216 -16777216, 16777216 16777216, -16777216 16777216, -16777216 -16777216), \
@@ -384,7 +403,6 @@ fn words_name_the_operation_and_its_files(rt: HostRuntime) -> Result<(), test::F
         ("", Outcome::Usage, TOUCH, BEFORE),
         ("validate", Outcome::Usage, TOUCH, BEFORE),
         ("validate in", Outcome::Usage, TOUCH, BEFORE),
-        ("clean in out", Outcome::Usage, TOUCH, BEFORE),
         ("Validate in out", Outcome::Usage, TOUCH, BEFORE),
         ("scrub in out", Outcome::Usage, TOUCH, BEFORE),
         ("node in", Outcome::Usage, TOUCH, BEFORE),
@@ -402,6 +420,27 @@ fn words_name_the_operation_and_its_files(rt: HostRuntime) -> Result<(), test::F
         let came = answer(rt.alloc(), line, &mut files)?;
         assert_eq!(rt; came, expected, "{line}");
         expect_files(&rt, &files, input, output, line);
+    }
+    Ok(())
+}
+
+#[test]
+fn clean_takes_a_rule_of_four_in_its_place(rt: HostRuntime) -> Result<(), test::Fail> {
+    for line in [
+        "clean in out",
+        "clean in out --rule",
+        "clean in out --rule largest",
+        "clean in out --rule Least-index",
+        "clean in out --gap least-index",
+        "clean --rule least-index in out",
+        "clean in out --rule least-index --gap 1",
+        "clean in -out --rule least-index",
+        "validate in out --rule least-index",
+    ] {
+        let mut files = shelf_of(rt.alloc(), TOUCH.as_bytes(), &[], ROOM, ROOM)?;
+        let came = answer(rt.alloc(), line, &mut files)?;
+        assert_eq!(rt; came, Outcome::Usage, "{line}");
+        expect_files(&rt, &files, TOUCH, BEFORE, line);
     }
     Ok(())
 }
@@ -483,7 +522,7 @@ fn each_outcome_has_its_status_and_its_message(rt: HostRuntime) -> Result<(), te
             1,
             "marked 18446744073709551615",
         ),
-        (Outcome::Usage, 2, "usage: cover validate|node|regions"),
+        (Outcome::Usage, 2, "usage: cover validate|clean|node|regions"),
         (NO_TEXT, 4, "text: syntax at 0"),
         (Outcome::TooLong, 6, "input is longer than 67108864 bytes"),
         (Outcome::ReadFault, 7, "cannot read"),

@@ -6,12 +6,12 @@ use Rattle.cov_io.specs.Contents.{Contents, SameFiles, HoldsNow, HoldsPrefix}
 use Rattle.cov_io.specs.Count.{Rose}
 use Rattle.cov_io.specs.Frame.{KeepsOutput, KeepsInput}
 use Rattle.cov_io.specs.State.{State, IsTelling}
-use Rattle.cover_cli.specs.Answers.{is_success, is_refusal, is_marked, is_touching, Writes, IsOnlyText, HoldsCause, IsAnswer}
+use Rattle.cover_cli.specs.Answers.{is_success, is_refusal, is_marked, touches_output, MayWrite, IsOnlyText, HoldsCause, IsAnswer}
 use Rattle.cover_cli.specs.Input.{AreInputs}
 use Rattle.cover_cli.specs.Made.{Makes, Refuses}
 use Rattle.cover_cli.specs.Refusal.{IsRefusedFor, IsUnread}
 use Rattle.cover_cli.specs.Words.{Operation, inputs_of, output_of}
-use Rattle.cover_cli.specs.Written.{IsWritten, IsWrittenWhole, IsWrittenInPart}
+use Rattle.cover_cli.specs.Written.{IsTextWritten, IsWrittenWhole, IsWrittenInPart}
 use Rattle.cover_cli.specs.declared.outcome.Outcome.{Outcome}
 use Rattle.cover_cli.specs.declared.outcome.Outcome.TheVariants.{Done, Marked, Usage, ReadFault, WriteFault, TooLong, BadText, NoMemory}
 use Rattle.cover_cli.specs.declared.making.Made.{Made}
@@ -161,7 +161,7 @@ module _ (operation : Operation) (old mid new : State) (inputs : List (List ℕ)
   still_told told = kept.tells.files ∙ told
 
   -- on what the files hold the operation writes what was made, and nothing else
-  writes : IsTrue old.tells_files → Writes operation old made.outcome made.text.items
+  writes : IsTrue old.tells_files → MayWrite operation old made.outcome made.text.items
   writes told = record { inputs = inputs; read = read told; makes = makes }
 
   only : IsTrue old.tells_files → IsOnlyText operation old made.outcome made.text.items
@@ -175,7 +175,7 @@ module _ (operation : Operation) (old mid new : State) (inputs : List (List ℕ)
         usage = differs is_success o Usage ok refl;
         written = λ told success. record {
           text = made.text.items;
-          writes = subst (λ (p : Outcome). Writes operation old p made.text.items) (sym is) (writes told);
+          writes = subst (λ (p : Outcome). MayWrite operation old p made.text.items) (sym is) (writes told);
           only = subst (λ (p : Outcome). IsOnlyText operation old p made.text.items) (sym is) (only told);
           held = held_from (output_of operation) made.text.items old.files mid.files new.files (kept.files told) (whole.held (still_told told));
         };
@@ -207,7 +207,7 @@ module _ (operation : Operation) (old mid new : State) (inputs : List (List ℕ)
         marked = λ marks. (let e : false ≡ true = sym (ap is_marked is) ∙ marks in cc);
         some = λ h. (let e : WriteFault ≡ Marked 0 = sym is ∙ h in cc);
         closed = λ touching. closed;
-        current = λ h. (let e : true ≡ false = sym (ap is_touching is) ∙ h in cc);
+        current = λ h. (let e : true ≡ false = sym (ap touches_output is) ∙ h in cc);
         read_fault = λ h. cc;
         no_read_fault = λ h. input.faults ∙ reads;
         write_fault = λ h. subst (λ (n : ℕ). Rose n new.write_faults) kept.faults part.faults;
@@ -223,7 +223,7 @@ module _ (operation : Operation) (old mid new : State) (inputs : List (List ℕ)
             let short : length made.text.items ≤ old.room = fits made.outcome made.text.items (writes told) in
             let same : mid.room ≡ old.room = kept.tells.bytes p.room in
             part.unpromised (promised_after (output_of operation) old mid telling kept p) (omega arith));
-        untouched = λ told h. (let e : true ≡ false = sym (ap is_touching is) ∙ h in cc);
+        untouched = λ told h. (let e : true ≡ false = sym (ap touches_output is) ∙ h in cc);
         left = λ told h. record {
           outcome = made.outcome;
           text = made.text.items;
@@ -234,7 +234,7 @@ module _ (operation : Operation) (old mid new : State) (inputs : List (List ℕ)
       }
 
   -- the text was written, whole or in part
-  pub answered : IsTelling old → IsWritten (output_of operation) made mid new o → IsAnswer operation old new o
+  pub answered : IsTelling old → IsTextWritten (output_of operation) made mid new o → IsAnswer operation old new o
   answered telling w =
       elim w.cases as (λ _. IsAnswer operation old new o) [
         | inl p ↦ written_whole p.0 p.1 w.closed w.input

@@ -1,12 +1,12 @@
 -- Causes of refusals: each input has one cause at most, and none where a text is made of it.
 use Rattle.std.proofs.Common.{◌≡◌, ◌≢◌, ℕ, zero, suc, List, [], ◌∷◌, Bool, true, false, IsTrue, refl, ap, ◌∙◌, sym, inl, inr}
 use Rattle.cov_types.specs.declared.coord.Coord.{Coord}
-use Rattle.cover_cli.specs.Answers.{is_success, is_refusal, is_marked, is_touching}
+use Rattle.cover_cli.specs.Answers.{is_success, is_refusal, is_marked, touches_output}
 use Rattle.cover_cli.specs.Made.{IsOneAnd, Makes, Refuses}
 use Rattle.cover_cli.specs.Refusal.{outcome_of_text, IsRefusedFor}
 use Rattle.cover_cli.specs.Text.{IsReadAnd, RefusesText}
 use Rattle.cover_cli.specs.Validate.{marking}
-use Rattle.cover_cli.specs.Words.{Operation, Validate, Node, Regions, is_validate}
+use Rattle.cover_cli.specs.Words.{Operation, Validate, Clean, Node, Regions, is_validate}
 use Rattle.cover_cli.specs.declared.outcome.Outcome.{Outcome}
 use Rattle.cover_cli.specs.declared.outcome.Outcome.TheVariants.{Done, Marked, Usage, ReadFault, WriteFault, TooLong, BadText, NoMemory}
 use Rattle.geo_text.proofs.Verdicts.{one_fault}
@@ -58,17 +58,20 @@ of_both (input ∷ more ∷ rest) P Q C follows first second = absurd first
 
 pub one_refusal : (operation : Operation) (inputs : List (List ℕ)) (o p : Outcome) → Refuses operation inputs o → Refuses operation inputs p → o ≡ p
 one_refusal (Validate from to) inputs o p = of_both inputs _ _ (o ≡ p) (λ input. one_text_refusal input o p)
+one_refusal (Clean rule from to) inputs o p = of_both inputs _ _ (o ≡ p) (λ input. one_text_refusal input o p)
 one_refusal (Node from to) inputs o p = of_both inputs _ _ (o ≡ p) (λ input. one_text_refusal input o p)
 one_refusal (Regions from to) inputs o p = of_both inputs _ _ (o ≡ p) (λ input. one_text_refusal input o p)
 
 pub refuses_refusal : (operation : Operation) (inputs : List (List ℕ)) (o : Outcome) → Refuses operation inputs o → IsTrue (is_refusal o)
 refuses_refusal (Validate from to) inputs o = of_one inputs _ (IsTrue (is_refusal o)) (λ input. text_refusal input o)
+refuses_refusal (Clean rule from to) inputs o = of_one inputs _ (IsTrue (is_refusal o)) (λ input. text_refusal input o)
 refuses_refusal (Node from to) inputs o = of_one inputs _ (IsTrue (is_refusal o)) (λ input. text_refusal input o)
 refuses_refusal (Regions from to) inputs o = of_one inputs _ (IsTrue (is_refusal o)) (λ input. text_refusal input o)
 
 -- of inputs that are refused no text is made
 pub not_both : (operation : Operation) (inputs : List (List ℕ)) (o p : Outcome) (text : List ℕ) → Makes operation inputs o text → Refuses operation inputs p → ⊥
 not_both (Validate from to) inputs o p text = of_both inputs _ _ ⊥ (λ input. not_read_and_refused input _ p)
+not_both (Clean rule from to) inputs o p text = of_both inputs _ _ ⊥ (λ input. not_read_and_refused input _ p)
 not_both (Node from to) inputs o p text = of_both inputs _ _ ⊥ (λ input. not_read_and_refused input _ p)
 not_both (Regions from to) inputs o p text = of_both inputs _ _ ⊥ (λ input. not_read_and_refused input _ p)
 
@@ -79,12 +82,14 @@ marking_success (suc edges) = refl
 -- what an operation answers with a text is a success
 pub makes_success : (operation : Operation) (inputs : List (List ℕ)) (o : Outcome) (text : List ℕ) → Makes operation inputs o text → IsTrue (is_success o)
 makes_success (Validate from to) inputs o text = of_one inputs _ (IsTrue (is_success o)) (λ input makes. ap is_success makes.holds.counted ∙ marking_success _)
+makes_success (Clean rule from to) inputs o text = of_one inputs _ (IsTrue (is_success o)) (λ input makes. ap is_success makes.holds.done)
 makes_success (Node from to) inputs o text = of_one inputs _ (IsTrue (is_success o)) (λ input makes. ap is_success makes.holds.done)
 makes_success (Regions from to) inputs o text = of_one inputs _ (IsTrue (is_success o)) (λ input makes. ap is_success makes.holds.done)
 
 -- only validate answers marks
 pub makes_marked : (operation : Operation) (inputs : List (List ℕ)) (o : Outcome) (text : List ℕ) → Makes operation inputs o text → IsTrue (is_marked o) → IsTrue (is_validate operation)
 makes_marked (Validate from to) inputs o text makes marks = refl
+makes_marked (Clean rule from to) inputs o text makes marks = of_one inputs _ (IsTrue false) (λ input cleaning. sym (ap is_marked cleaning.holds.done) ∙ marks) makes
 makes_marked (Node from to) inputs o text makes marks = of_one inputs _ (IsTrue false) (λ input noding. sym (ap is_marked noding.holds.done) ∙ marks) makes
 makes_marked (Regions from to) inputs o text makes marks = of_one inputs _ (IsTrue false) (λ input listing. sym (ap is_marked listing.holds.done) ∙ marks) makes
 
@@ -95,6 +100,7 @@ marking_some (suc edges) h = cc
 -- and none answers that no segments are marked
 pub makes_some : (operation : Operation) (inputs : List (List ℕ)) (o : Outcome) (text : List ℕ) → Makes operation inputs o text → o ≢ Marked 0
 makes_some (Validate from to) inputs o text makes h = of_one inputs _ ⊥ (λ input valid. marking_some _ (sym valid.holds.counted ∙ h)) makes
+makes_some (Clean rule from to) inputs o text makes h = of_one inputs _ ⊥ (λ input cleaning. (let e : Done ≡ Marked 0 = sym cleaning.holds.done ∙ h in cc)) makes
 makes_some (Node from to) inputs o text makes h = of_one inputs _ ⊥ (λ input noding. (let e : Done ≡ Marked 0 = sym noding.holds.done ∙ h in cc)) makes
 makes_some (Regions from to) inputs o text makes h = of_one inputs _ ⊥ (λ input listing. (let e : Done ≡ Marked 0 = sym listing.holds.done ∙ h in cc)) makes
 
@@ -110,11 +116,11 @@ refusal_no_success (Marked edges) refusal = cc
 refusal_no_success _ refusal = refl
 
 -- a refusal of what was read touches no output, and a success does
-pub refusal_no_touch : (o : Outcome) → IsTrue (is_refusal o) → is_touching o ≡ false
+pub refusal_no_touch : (o : Outcome) → IsTrue (is_refusal o) → touches_output o ≡ false
 refusal_no_touch (BadText fault) refusal = refl
 refusal_no_touch _ refusal = cc
 
-pub success_touches : (o : Outcome) → IsTrue (is_success o) → IsTrue (is_touching o)
+pub success_touches : (o : Outcome) → IsTrue (is_success o) → IsTrue (touches_output o)
 success_touches Done success = refl
 success_touches (Marked edges) success = refl
 success_touches _ success = cc
@@ -128,7 +134,7 @@ success_no_refusal (BadText fault) success = cc
 success_no_refusal _ success = refl
 
 -- what doesn't touch the output is no success
-pub untouching_no_success : (o : Outcome) → is_touching o ≡ false → is_success o ≡ false
+pub untouching_no_success : (o : Outcome) → touches_output o ≡ false → is_success o ≡ false
 untouching_no_success WriteFault h = refl
 untouching_no_success Done h = h
 untouching_no_success (Marked edges) h = h

@@ -7,7 +7,7 @@ use Rattle.cov_io.specs.Count.{Rose}
 use Rattle.cov_io.specs.State.{State}
 use Rattle.cover_cli.proofs.Causes.{not_both, differs}
 use Rattle.cover_cli.proofs.OneText.{one_text}
-use Rattle.cover_cli.specs.Answers.{is_success, is_refusal, Writes, HoldsCause, HoldsNoCause, FitsRoom, IsUnlessEarlier, IsSuccessUnlessFault, IsAnswer}
+use Rattle.cover_cli.specs.Answers.{is_success, is_refusal, MayWrite, HoldsCause, HoldsNoCause, FitsRoom, IsUnlessEarlier, IsSuccessUnlessFault, IsAnswer}
 use Rattle.cover_cli.specs.Input.{HoldsTooMuch, AreInputs}
 use Rattle.cover_cli.specs.Laws.{is_settled, HoldAlike}
 use Rattle.cover_cli.specs.Words.{Operation, inputs_of, output_of}
@@ -32,7 +32,7 @@ long_again s t names alike (k, name, within, at, long) =
     let same : s.files name ≡ t.files name = subst (λ (n : List ℕ). s.files n ≡ t.files n) at (alike k name within) in
     (k, name, within, at, record { bytes = long.bytes; file = sym same ∙ long.file; longer = long.longer })
 
-writes_again : (operation : Operation) (s t : State) (o : Outcome) (text : List ℕ) → HoldAlike operation s t → Writes operation s o text → Writes operation t o text
+writes_again : (operation : Operation) (s t : State) (o : Outcome) (text : List ℕ) → HoldAlike operation s t → MayWrite operation s o text → MayWrite operation t o text
 writes_again operation s t o text alike writes = record {
   inputs = writes.inputs;
   read = inputs_again s t (inputs_of operation) writes.inputs alike writes.read;
@@ -47,7 +47,7 @@ cause_again operation s t o alike cause = record {
 }
 
 -- what a text is written of is a cause for no refusal
-no_cause_beside : (operation : Operation) (s : State) (o : Outcome) (text : List ℕ) → Writes operation s o text → HoldsNoCause operation s
+no_cause_beside : (operation : Operation) (s : State) (o : Outcome) (text : List ℕ) → MayWrite operation s o text → HoldsNoCause operation s
 no_cause_beside operation s o text writes = record {
   inputs = writes.inputs;
   read = writes.read;

@@ -14,12 +14,14 @@ use Rattle.cov_types.specs.declared.coord.Coord.{Coord}
 use Rattle.cov_types.specs.declared.seg.Seg.{Seg}
 use Rattle.cov_valid.proofs.Unique.{AreMarks-unique}
 use Rattle.cov_valid.specs.declared.mark.Mark.{Mark}
-use Rattle.cov_write.specs.Written.{lines_text}
+use Rattle.cov_write.specs.Written.{lines_text, coverage_text}
+use Rattle.sound_polygons.proofs.OneCleaned.{one_cleaned}
 use Rattle.geo_text.proofs.Formed.{read_formed}
 use Rattle.geo_text.proofs.OneReading.{one_reading}
 use Rattle.cover_cli.proofs.Causes.{one_refusal, not_both}
 use Rattle.cover_cli.proofs.Inputs.{same_inputs}
-use Rattle.cover_cli.specs.Answers.{Writes, HoldsCause}
+use Rattle.cover_cli.specs.Answers.{MayWrite, HoldsCause}
+use Rattle.cover_cli.specs.Clean.{rule_of, IsCleaning}
 use Rattle.cover_cli.specs.Input.{longest_input, AreInputs}
 use Rattle.cover_cli.specs.Lines.{member_lists, marked_uses}
 use Rattle.cover_cli.specs.Made.{IsOneAnd, Makes, Refuses}
@@ -27,8 +29,10 @@ use Rattle.cover_cli.specs.Node.{IsNoding}
 use Rattle.cover_cli.specs.Regions.{IsRow, AreRows, IsRegionList}
 use Rattle.cover_cli.specs.Text.{IsReadAnd}
 use Rattle.cover_cli.specs.Validate.{marking, IsValidation}
-use Rattle.cover_cli.specs.Words.{Operation, Validate, Node, Regions, inputs_of}
+use Rattle.cover_cli.specs.Words.{Operation, Validate, Clean, Node, Regions, inputs_of}
 use Rattle.cover_cli.specs.declared.outcome.Outcome.{Outcome}
+use Rattle.cover_cli.specs.declared.rule_name.RuleName.{RuleName}
+use Rattle.merge_rule.specs.RuleState.{no_state}
 
 -- ---- what is made of a coverage
 
@@ -43,6 +47,11 @@ one_node members o p text other in_range v w =
     let same = one_noding (uses_of members) (uses-in_range members in_range) v.edges w.edges v.odd w.odd v.noded w.noded in
     let listing : List Seg → List OddUse → List ℕ = λ edges odd. lines_text (edges ∷ member_lists (odd_uses edges odd) members) in
     (v.done ∙ sym w.done, v.lines ∙ (λ i. listing (same.0 i) (same.1 i)) ∙ sym w.lines)
+
+one_cleaning : (rule : RuleName) (members : List (List (List (List Coord)))) (o p : Outcome) (text other : List ℕ) → AllInRange members → IsCleaning rule members o text → IsCleaning rule members p other → (o ≡ p) × (text ≡ other)
+one_cleaning rule members o p text other in_range v w =
+    let same : v.out ≡ w.out = one_cleaned members in_range (rule_of rule) no_state 0 v.out w.out v.cleaned w.cleaned in
+    (v.done ∙ sym w.done, v.lines ∙ ap coverage_text same ∙ sym w.lines)
 
 -- a region has one row
 one_row : (o : Overlay) (r : ℕ) (line other : List ℕ) → IsRow o r line → IsRow o r other → line ≡ other
@@ -89,6 +98,8 @@ one_made : (operation : Operation) (s : State) (names inputs : List (List ℕ)) 
     → Makes operation inputs o text → Makes operation inputs p other → (o ≡ p) × (text ≡ other)
 one_made (Validate from to) s names inputs o p text other =
     of_inputs s names inputs _ _ ((o ≡ p) × (text ≡ other)) (of_reading _ _ ((o ≡ p) × (text ≡ other)) (λ members in_range. one_validation members o p text other))
+one_made (Clean rule from to) s names inputs o p text other =
+    of_inputs s names inputs _ _ ((o ≡ p) × (text ≡ other)) (of_reading _ _ ((o ≡ p) × (text ≡ other)) (λ members in_range. one_cleaning rule members o p text other in_range))
 one_made (Node from to) s names inputs o p text other =
     of_inputs s names inputs _ _ ((o ≡ p) × (text ≡ other)) (of_reading _ _ ((o ≡ p) × (text ≡ other)) (λ members in_range. one_node members o p text other in_range))
 one_made (Regions from to) s names inputs o p text other =
@@ -96,7 +107,7 @@ one_made (Regions from to) s names inputs o p text other =
 
 -- ---- what the files hold
 
-pub one_text : (operation : Operation) (s : State) (o p : Outcome) (text other : List ℕ) → Writes operation s o text → Writes operation s p other → (o ≡ p) × (text ≡ other)
+pub one_text : (operation : Operation) (s : State) (o p : Outcome) (text other : List ℕ) → MayWrite operation s o text → MayWrite operation s p other → (o ≡ p) × (text ≡ other)
 one_text operation s o p text other first second =
     let same : first.inputs ≡ second.inputs = same_inputs s (inputs_of operation) first.inputs second.inputs first.read second.read in
     one_made operation s (inputs_of operation) second.inputs o p text other second.read (subst (λ (is : List (List ℕ)). Makes operation is o text) same first.makes) second.makes
@@ -106,7 +117,7 @@ one_cause operation s o p first second =
     let same : first.inputs ≡ second.inputs = same_inputs s (inputs_of operation) first.inputs second.inputs first.read second.read in
     one_refusal operation second.inputs o p (subst (λ (is : List (List ℕ)). Refuses operation is o) same first.refuses) second.refuses
 
-pub written_or_refused : (operation : Operation) (s : State) (o p : Outcome) (text : List ℕ) → Writes operation s o text → HoldsCause operation s p → ⊥
+pub written_or_refused : (operation : Operation) (s : State) (o p : Outcome) (text : List ℕ) → MayWrite operation s o text → HoldsCause operation s p → ⊥
 written_or_refused operation s o p text writes cause =
     let same : cause.inputs ≡ writes.inputs = same_inputs s (inputs_of operation) cause.inputs writes.inputs cause.read writes.read in
     not_both operation writes.inputs o p text writes.makes (subst (λ (is : List (List ℕ)). Refuses operation is p) same cause.refuses)

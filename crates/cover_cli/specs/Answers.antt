@@ -29,21 +29,21 @@ is_marked (Marked edges) = true
 is_marked _ = false
 
 -- the output may have been touched
-abbrev pub is_touching : Outcome → Bool
-is_touching WriteFault = true
-is_touching outcome = is_success outcome
+abbrev pub touches_output : Outcome → Bool
+touches_output WriteFault = true
+touches_output outcome = is_success outcome
 
 -- ---- what the files give the operation to do
 
 -- on what the files hold, the operation answers this success and writes this text
-pub record Writes (operation : Operation) (s : State) (outcome : Outcome) (text : List ℕ) : Type 0 where
+pub record MayWrite (operation : Operation) (s : State) (outcome : Outcome) (text : List ℕ) : Type 0 where
   pub inputs : List (List ℕ)
   pub read : AreInputs s (inputs_of operation) inputs
   pub makes : Makes operation inputs outcome text
 
 -- no other text may be written on what the files hold, and no other success answered
 abbrev pub IsOnlyText : Operation → State → Outcome → List ℕ → Type 0
-IsOnlyText operation s outcome text = (other_outcome : Outcome) (other : List ℕ) → Writes operation s other_outcome other → (other_outcome ≡ outcome) × (other ≡ text)
+IsOnlyText operation s outcome text = (other_outcome : Outcome) (other : List ℕ) → MayWrite operation s other_outcome other → (other_outcome ≡ outcome) × (other ≡ text)
 
 -- what the files hold is a cause for the operation to refuse it with this outcome
 pub record HoldsCause (operation : Operation) (s : State) (refusal : Outcome) : Type 0 where
@@ -62,7 +62,7 @@ pub record HoldsNoCause (operation : Operation) (s : State) : Type 0 where
 -- the output holds the operation's whole text, the only one that it may write, and every other file is as it was
 pub record HoldsText (operation : Operation) (old new : State) (outcome : Outcome) : Type 0 where
   pub text : List ℕ
-  pub writes : Writes operation old outcome text
+  pub writes : MayWrite operation old outcome text
   pub only : IsOnlyText operation old outcome text
   pub held : HoldsNow (output_of operation) text old.files new.files
 
@@ -70,7 +70,7 @@ pub record HoldsText (operation : Operation) (old new : State) (outcome : Outcom
 pub record HoldsPart (operation : Operation) (old new : State) : Type 0 where
   pub outcome : Outcome
   pub text : List ℕ
-  pub writes : Writes operation old outcome text
+  pub writes : MayWrite operation old outcome text
   pub only : IsOnlyText operation old outcome text
   pub held : HoldsPrefix (output_of operation) text old.files new.files
 
@@ -86,7 +86,7 @@ IsSuccessUnlessFault answer = IsTrue (is_success answer) ⊎ ((answer ≡ ReadFa
 
 -- each text that the operation may write has at most as many bytes as the room
 abbrev pub FitsRoom : Operation → State → Type 0
-FitsRoom operation s = (outcome : Outcome) (text : List ℕ) → Writes operation s outcome text → length text ≤ s.room
+FitsRoom operation s = (outcome : Outcome) (text : List ℕ) → MayWrite operation s outcome text → length text ≤ s.room
 
 -- the answer of an operation whose words were accepted: when it comes, and what it leaves. What is said of contents holds where they are told
 pub record IsAnswer (operation : Operation) (old new : State) (answer : Outcome) : Type 0 where
@@ -97,8 +97,8 @@ pub record IsAnswer (operation : Operation) (old new : State) (answer : Outcome)
   pub marked : IsTrue (is_marked answer) → IsTrue (is_validate operation)
   pub some : answer ≢ Marked 0
   -- once the output was created, there is no current output; before that, the current output stays
-  pub closed : IsTrue (is_touching answer) → new.has_output ≡ false
-  pub current : is_touching answer ≡ false → new.has_output ≡ old.has_output
+  pub closed : IsTrue (touches_output answer) → new.has_output ≡ false
+  pub current : touches_output answer ≡ false → new.has_output ≡ old.has_output
   -- a fault comes only where its count rose, and otherwise the count is as it was
   pub read_fault : answer ≡ ReadFault → Rose old.read_faults new.read_faults
   pub no_read_fault : answer ≢ ReadFault → new.read_faults ≡ old.read_faults
@@ -115,5 +115,5 @@ pub record IsAnswer (operation : Operation) (old new : State) (answer : Outcome)
   pub readable : All (λ name. IsPromised name old) (inputs_of operation) → answer ≢ ReadFault
   pub writable : IsPromised (output_of operation) old → FitsRoom operation old → answer ≢ WriteFault
   -- every other answer leaves every file as it was, and after a write fault the output holds at most the first bytes of the text
-  pub untouched : IsTrue old.tells_files → is_touching answer ≡ false → SameFiles old.files new.files
+  pub untouched : IsTrue old.tells_files → touches_output answer ≡ false → SameFiles old.files new.files
   pub left : IsTrue old.tells_files → answer ≡ WriteFault → HoldsPart operation old new

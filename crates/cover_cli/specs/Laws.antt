@@ -5,12 +5,12 @@ use Rattle.cov_io.specs.Count.{Rose}
 use Rattle.cov_io.specs.State.{State}
 use Rattle.cover_cli.specs.declared.outcome.Outcome.{Outcome}
 use Rattle.cover_cli.specs.declared.outcome.Outcome.TheVariants.{ReadFault, WriteFault, NoMemory}
-use Rattle.cover_cli.specs.Answers.{is_success, Writes, HoldsCause, HoldsNoCause, FitsRoom, IsAnswer}
+use Rattle.cover_cli.specs.Answers.{is_success, MayWrite, HoldsCause, HoldsNoCause, FitsRoom, IsAnswer}
 use Rattle.cover_cli.specs.Words.{Operation, inputs_of, output_of}
 
 -- on what the files hold, an operation writes one text and answers one success
 abbrev pub OneTextLaw : Type 0
-OneTextLaw = (operation : Operation) (s : State) (o p : Outcome) (text other : List ℕ) → Writes operation s o text → Writes operation s p other → (o ≡ p) × (text ≡ other)
+OneTextLaw = (operation : Operation) (s : State) (o p : Outcome) (text other : List ℕ) → MayWrite operation s o text → MayWrite operation s p other → (o ≡ p) × (text ≡ other)
 
 -- what the files hold is a cause for one refusal
 abbrev pub OneRefusalLaw : Type 0
@@ -18,7 +18,7 @@ OneRefusalLaw = (operation : Operation) (s : State) (o p : Outcome) → HoldsCau
 
 -- where it is a cause for a refusal, no text is written
 abbrev pub RefusedLaw : Type 0
-RefusedLaw = (operation : Operation) (s : State) (o p : Outcome) (text : List ℕ) → Writes operation s o text → HoldsCause operation s p → ⊥
+RefusedLaw = (operation : Operation) (s : State) (o p : Outcome) (text : List ℕ) → MayWrite operation s o text → HoldsCause operation s p → ⊥
 
 -- no fault of a file came, and memory did not run out
 abbrev pub is_settled : Outcome → Bool

@@ -5,6 +5,7 @@ pub mod Outcome
 pub mod Input
 pub mod Text
 pub mod Validate
+pub mod Clean
 pub mod Node
 pub mod Regions
 pub mod Made

@@ -1,10 +1,11 @@
 -- What an operation makes of the inputs that it read.
 use Rattle.std.specs.Prelude.{ℕ, List, [], ◌∷◌}
+use Rattle.cover_cli.specs.Clean.{IsCleaning}
 use Rattle.cover_cli.specs.Node.{IsNoding}
 use Rattle.cover_cli.specs.Regions.{IsRegionList}
 use Rattle.cover_cli.specs.Text.{IsReadAnd, RefusesText}
 use Rattle.cover_cli.specs.Validate.{IsValidation}
-use Rattle.cover_cli.specs.Words.{Operation, Validate, Node, Regions}
+use Rattle.cover_cli.specs.Words.{Operation, Validate, Clean, Node, Regions}
 use Rattle.cover_cli.specs.declared.outcome.Outcome.{Outcome}
 
 -- there is one input, and this holds of it
@@ -16,11 +17,13 @@ IsOneAnd (input ∷ more ∷ rest) P = ⊥
 -- of these inputs the operation makes this text, and answers this success once it is written
 abbrev pub Makes : Operation → List (List ℕ) → Outcome → List ℕ → Type 0
 Makes (Validate from to) inputs outcome text = IsOneAnd inputs (λ input. IsReadAnd input (λ members. IsValidation members outcome text))
+Makes (Clean rule from to) inputs outcome text = IsOneAnd inputs (λ input. IsReadAnd input (λ members. IsCleaning rule members outcome text))
 Makes (Node from to) inputs outcome text = IsOneAnd inputs (λ input. IsReadAnd input (λ members. IsNoding members outcome text))
 Makes (Regions from to) inputs outcome text = IsOneAnd inputs (λ input. IsReadAnd input (λ members. IsRegionList members outcome text))
 
 -- these inputs are a cause for the operation to refuse them with this outcome
 abbrev pub Refuses : Operation → List (List ℕ) → Outcome → Type 0
 Refuses (Validate from to) inputs outcome = IsOneAnd inputs (λ input. RefusesText input outcome)
+Refuses (Clean rule from to) inputs outcome = IsOneAnd inputs (λ input. RefusesText input outcome)
 Refuses (Node from to) inputs outcome = IsOneAnd inputs (λ input. RefusesText input outcome)
 Refuses (Regions from to) inputs outcome = IsOneAnd inputs (λ input. RefusesText input outcome)

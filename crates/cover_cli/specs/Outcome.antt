@@ -30,7 +30,7 @@ fault_text (RingOpen ring) = codes "text: ring " ++ decimal ring ++ codes " is o
 abbrev pub message_of : Outcome → List ℕ
 message_of Done = codes "done"
 message_of (Marked edges) = codes "marked " ++ decimal edges
-message_of Usage = codes "usage: cover validate|node|regions"
+message_of Usage = codes "usage: cover validate|clean|node|regions"
 message_of ReadFault = codes "cannot read"
 message_of WriteFault = codes "cannot write"
 message_of TooLong = codes "input is longer than 67108864 bytes"

@@ -21,7 +21,7 @@ pub record IsWrittenInPart (to text : List ℕ) (old new : State) : Type 0 where
   pub unpromised : IsPromised to old → length text ≤ old.room → ⊥
 
 -- the answer after the text was written, whole or in part
-pub record IsWritten (to : List ℕ) (made : Made) (old new : State) (outcome : Outcome) : Type 0 where
+pub record IsTextWritten (to : List ℕ) (made : Made) (old new : State) (outcome : Outcome) : Type 0 where
   pub cases : ((outcome ≡ made.outcome) × IsWrittenWhole to made.text.items old new) ⊎ ((outcome ≡ WriteFault) × IsWrittenInPart to made.text.items old new)
   pub closed : new.has_output ≡ false
   pub input : KeepsInput old new

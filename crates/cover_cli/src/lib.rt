@@ -9,6 +9,7 @@
 //! inputs and text in `specs`, and its `make`.
 #![tactic(auto)]
 
+mod clean;
 mod command;
 mod input;
 mod laws;
@@ -19,6 +20,7 @@ mod outcome;
 mod output;
 mod refusal;
 mod regions;
+mod rule_name;
 mod text;
 mod validate;
 mod words;

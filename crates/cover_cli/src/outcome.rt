@@ -51,7 +51,7 @@ pub fn message(alloc: Global, o: &Outcome) -> Result<String, NoMemory>
         Outcome::Marked { edges } => return Ok(format!(in alloc; "marked {edges}")?),
         Outcome::BadText(fault) => return fault_message(alloc, *fault),
         Outcome::Done => "done",
-        Outcome::Usage => "usage: cover validate|node|regions",
+        Outcome::Usage => "usage: cover validate|clean|node|regions",
         Outcome::ReadFault => "cannot read",
         Outcome::WriteFault => "cannot write",
         Outcome::TooLong => "input is longer than 67108864 bytes",

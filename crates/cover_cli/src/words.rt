@@ -1,14 +1,16 @@
 ghost use Rattle.std.specs.Prelude.{◌≡◌, map};
 ghost use Rattle.std.specs.String.{string_bytes};
 ghost use Rattle.cover_cli.specs.Named.{IsNamed, named};
-ghost use Rattle.cover_cli.specs.Words.{operation_of, inputs_of, output_of, is_name as is_name_text};
+ghost use Rattle.cover_cli.specs.Words.{operation_of, operation_on as operation_on_files, operation_with as operation_with_option, inputs_of, output_of, is_name as is_name_text};
 
+use crate::rule_name::{RuleName, rule_named};
 use std::slice;
 
-/// An operation, with the names of the files that it works on.
+/// An operation, with the names of the files that it works on, and the rule of clean.
 #[derive(Clone, Copy)]
 pub enum Operation<'a> {
     Validate { from: &'a str, to: &'a str },
+    Clean { rule: RuleName, from: &'a str, to: &'a str },
     Node { from: &'a str, to: &'a str },
     Regions { from: &'a str, to: &'a str },
 }
@@ -20,6 +22,7 @@ impl<'a> Operation<'a> {
     {
         match self {
             Operation::Validate { from, to: _ } => slice::from_ref(from),
+            Operation::Clean { rule: _, from, to: _ } => slice::from_ref(from),
             Operation::Node { from, to: _ } => slice::from_ref(from),
             Operation::Regions { from, to: _ } => slice::from_ref(from),
         }
@@ -31,6 +34,7 @@ impl<'a> Operation<'a> {
     {
         match self {
             Operation::Validate { from: _, to } => to,
+            Operation::Clean { rule: _, from: _, to } => to,
             Operation::Node { from: _, to } => to,
             Operation::Regions { from: _, to } => to,
         }
@@ -44,11 +48,47 @@ fn is_name(word: &str) -> bool
     !word.starts_with('-')
 }
 
+// The operation that a word names.
+fn operation_on<'a>(word: &str, from: &'a str, to: &'a str) -> Option<Operation<'a>>
+    ensures { IsNamed (operation_on_files word.now from.now to.now) result }
+{
+    if word == "validate" {
+        return Some(Operation::Validate { from, to });
+    }
+    if word == "node" {
+        return Some(Operation::Node { from, to });
+    }
+    if word == "regions" {
+        return Some(Operation::Regions { from, to });
+    }
+    None
+}
+
+// The operation that a word and an option with its value name.
+fn operation_with<'a>(
+    word: &str,
+    from: &'a str,
+    to: &'a str,
+    option: &str,
+    value: &str,
+) -> Option<Operation<'a>>
+    ensures { IsNamed (operation_with_option word.now from.now to.now option.now value.now) result }
+{
+    if word != "clean" {
+        return None;
+    }
+    if option != "--rule" {
+        return None;
+    }
+    let rule = rule_named(value)?;
+    Some(Operation::Clean { rule, from, to })
+}
+
 /// The operation that the words name, or None where they are not accepted.
 pub fn operation_named(words: &[String]) -> Option<Operation<'_>>
     ensures { IsNamed (operation_of (map string_bytes words.now)) result }
 {
-    let [word, from, to] = words else {
+    let [word, from, to, option @ ..] = words else {
         return None;
     };
     let (from, to) = (from.as_str(), to.as_str());
@@ -58,14 +98,9 @@ pub fn operation_named(words: &[String]) -> Option<Operation<'_>>
     if !is_name(to) {
         return None;
     }
-    if word.as_str() == "validate" {
-        return Some(Operation::Validate { from, to });
+    match option {
+        [] => operation_on(word, from, to),
+        [option, value] => operation_with(word, from, to, option, value),
+        _ => None,
     }
-    if word.as_str() == "node" {
-        return Some(Operation::Node { from, to });
-    }
-    if word.as_str() == "regions" {
-        return Some(Operation::Regions { from, to });
-    }
-    None
 }

@@ -27,7 +27,7 @@ use Rattle.region_laws.proofs.Numbered.{fewer_links_regions, outer_number}
 use Rattle.region_laws.proofs.Outwards.{some_out}
 use Rattle.face_walk.specs.Cycles.{LeadsRound, AreCycles}
 use Rattle.face_walk.specs.Links.{IsLinkBelow, node_of, AreLinks}
-use Rattle.face_walk.specs.Numbers.{AreLeastSides, IsOutermost, AreNumbered}
+use Rattle.face_walk.specs.Numbers.{AreLeastSides, IsOutermost, IsNumberTable}
 use Rattle.face_walk.specs.declared.cycle.Cycle.{Cycle}
 use Rattle.face_walk.proofs.Places.{IsPlace, some_side, side_within, one_side, one_place, some_place, side_of_place, side-joined_itself}
 
@@ -300,7 +300,7 @@ module _ (edges : List Seg) (planar : IsPlanar edges) (of : List ℕ) (list : Li
       -- ---- the tables of the code
 
       pub numbered : (table : List ℕ) (place : Option ℕ) → AreLeastSides of list connected table → place ≡ option_map (λ (c : Cycle). c.least) (slice_get list (slice_index connected (length list)))
-          → AreNumbered edges table place
+          → IsNumberTable edges table place
       numbered table place least is = record {
         planar = planar;
         distinct = distinct;

@@ -12,11 +12,11 @@ use Rattle.plane.specs.Point.{Point}
 use Rattle.plane.specs.Joined.{Joined}
 use Rattle.plane.specs.Region.{IsSide, IsOuter, IsRegionOf, AreRegions}
 use Rattle.crossing_laws.proofs.Located.{region-joined, one_numbering, same_region}
-use Rattle.face_walk.specs.Numbers.{AreLeastSides, IsOutermost, AreNumbered}
+use Rattle.face_walk.specs.Numbers.{AreLeastSides, IsOutermost, IsNumberTable}
 use Rattle.face_walk.specs.declared.cycle.Cycle.{Cycle}
 
-pub numbered-shown : (edges shown : List Seg) (table : List ℕ) (outer : Option ℕ) → edges ≡ shown → AreNumbered edges table outer → AreNumbered shown table outer
-numbered-shown edges shown table outer same h = subst (λ es. AreNumbered es table outer) same h
+pub numbered-shown : (edges shown : List Seg) (table : List ℕ) (outer : Option ℕ) → edges ≡ shown → IsNumberTable edges table outer → IsNumberTable shown table outer
+numbered-shown edges shown table outer same h = subst (λ es. IsNumberTable es table outer) same h
 
 -- ---- a side
 

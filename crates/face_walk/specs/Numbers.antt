@@ -17,7 +17,7 @@ pub record IsOutermost (edges : List Seg) (r : ℕ) : Type 0 where
   pub region : (p : Point) → IsOuter edges p → IsRegionOf edges p r
 
 -- the table has the region of each side of distinct planar edges, and beside it stands the outer region, if there is an edge
-pub record AreNumbered (edges : List Seg) (table : List ℕ) (outer : Option ℕ) : Type 0 where
+pub record IsNumberTable (edges : List Seg) (table : List ℕ) (outer : Option ℕ) : Type 0 where
   pub planar : IsPlanar edges
   pub distinct : AreDistinct edges
   pub regions : AreRegions edges table

@@ -5,7 +5,7 @@ ghost use Rattle.plane.specs.Label.{numbers_below};
 ghost use Rattle.plane.specs.Point.{Point};
 ghost use Rattle.plane.specs.Region.{IsSide, IsOuter, IsRegionOf, IsOuterRegion, AreRegions};
 ghost use Rattle.sector_laws.specs.Sector.{IsPlanar, AreDistinct};
-ghost use Rattle.face_walk.specs.Numbers.{AreLeastSides, AreNumbered};
+ghost use Rattle.face_walk.specs.Numbers.{AreLeastSides, IsNumberTable};
 
 use crate::cycle::{Cycles, boundary_cycles};
 use crate::links::links;
@@ -31,7 +31,7 @@ impl<'a> Model for Regions<'a> {
 
     ghost view = { λ r. r.edges.now };
 
-    ghost invariant = { λ r. AreNumbered r.edges.now r.least.items r.outer };
+    ghost invariant = { λ r. IsNumberTable r.edges.now r.least.items r.outer };
 }
 
 impl<'a> Regions<'a> {
@@ -68,6 +68,18 @@ impl<'a> Regions<'a> {
         ensures numbering { (numbers : List ℕ) → AreRegions self.now numbers → result ≡ slice_index numbers side }
     {
         self.least[side]
+    }
+
+    /// The region of each side, by the number of the side.
+    pub fn numbers(&self) -> &[usize]
+        ensures regions { AreRegions self.now result.now }
+        ensures no_later { (n : ℕ) → n < 2 * length self.now → slice_index result.now n ≤ n }
+
+        // The edges are those of an arena.
+        ensures planar { IsPlanar self.now }
+        ensures distinct { AreDistinct self.now }
+    {
+        &self.least
     }
 
     /// The region round everything; None where there is no edge.

@@ -12,7 +12,7 @@ ghost use Rattle.integer_laws.specs.Bound.{IsWithin};
 use crate::below::nearest_with;
 use box_tree::{Rect, Search};
 use cov_types::{Coord, LIMIT, Seg};
-use grid_pred::{rise, turn_to};
+use grid_pred::{SLOPE, rise, turn_to};
 use std::marker::{Brand, PhantomData};
 
 /// What is asked of a search, from its begin to its end.
@@ -108,9 +108,6 @@ fn floor_below(edges: &[Seg], p: Coord, nearest: Option<usize>) -> i32
     }
 }
 
-/// How far the ray goes down, in grid units, where it goes one to the right.
-const SLOPE: u128 = 1 << 30;
-
 // How many rows it is from p down to where the ray meets the edge, rounded down. The way goes a right of p by the turn over the rise.
 fn rows_down(e: Seg, p: Coord) -> i32
     requires edge_in_range { IsSegInRange e }
@@ -121,5 +118,5 @@ fn rows_down(e: Seg, p: Coord) -> i32
 {
     let turn = turn_to(e, p).unsigned_abs() as u128;
     let rise = rise(e).unsigned_abs() as u128;
-    (turn * SLOPE / rise) as i32
+    (turn * SLOPE as u128 / rise) as i32
 }

@@ -37,7 +37,7 @@ pub use measure::{edge_len, root};
 pub use meeting::{meets_badly, relation};
 pub use orientation::{turn, turn_in_range, turn_to};
 pub use plane::{Badness, Contact};
-pub use ray::{over, over_mid, over_upper, rise};
+pub use ray::{SLOPE, over, over_mid, over_upper, rise};
 pub use under::{is_nearer, is_under};
 
 #[cfg(test)]

@@ -65,7 +65,7 @@ pub fn rise(s: Seg) -> i64
 }
 
 /// How far the ray goes up, in grid units, where it goes one to the left.
-const SLOPE: i64 = 1 << 30;
+pub const SLOPE: i64 = 1 << 30;
 
 /// The point (x/d, y/d).
 #[derive(Clone, Copy)]

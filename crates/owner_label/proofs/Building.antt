@@ -8,7 +8,7 @@ use Rattle.std.proofs.lemmas.Option.{slice_get_within}
 use Rattle.cov_types.specs.declared.seg.Seg.{Seg}
 use Rattle.cov_types.specs.Uses.{HasEvenEnds}
 use Rattle.plane.specs.Point.{Point}
-use Rattle.plane.specs.Region.{side_points, IsRegionOf, IsOuter, IsOuterRegion}
+use Rattle.plane.specs.Region.{IsRegionOf, IsOuter, IsOuterRegion, AreRegions}
 use Rattle.crossing_laws.proofs.Located.{one_region}
 use Rattle.sector_laws.specs.Sector.{IsPlanar, AreDistinct}
 use Rattle.arrangement.specs.declared.odd_use.OddUse.{OddUse}
@@ -17,7 +17,7 @@ use Rattle.owner_label.specs.Grouped.{IsGrouped}
 use Rattle.owner_label.specs.Labelled.{Labelled}
 use Rattle.owner_label.specs.Lists.{AreRegionLabels, sided_of, AreLabels}
 use Rattle.owner_label.specs.Members.{has, members_of}
-use Rattle.owner_label.specs.Sided.{Sided, AreSided, region_at, IsOuterOf, AreFirstRegions}
+use Rattle.owner_label.specs.Sided.{Sided, AreSided, region_on, IsOuterOf}
 use Rattle.owner_label.proofs.Ascending.{has_first}
 use Rattle.owner_label.proofs.Sides.{sides-length}
 use Rattle.owner_label.proofs.Toggles.{AreOddAscending, members_chosen, members_skipped}
@@ -34,32 +34,32 @@ used_member (o ∷ odd) k h =
       ]
     ]
 
-pub built : (edges : List Seg) (odd : List OddUse) (regions : List ℕ) (count : ℕ) → IsPlanar edges → AreDistinct edges → AreOddAscending odd → All (λ o. o.edge < length edges) odd
-    → ((k : ℕ) → k < length edges → IsTrue (list_any (λ o. o.edge == k) odd)) → HasEvenEnds (odd_uses edges odd) → count ≡ 2 * length edges → AreFirstRegions edges count regions
+pub built : (edges : List Seg) (odd : List OddUse) (regions : List ℕ) → IsPlanar edges → AreDistinct edges → AreOddAscending odd → All (λ o. o.edge < length edges) odd
+    → ((k : ℕ) → k < length edges → IsTrue (list_any (λ o. o.edge == k) odd)) → HasEvenEnds (odd_uses edges odd) → AreRegions edges regions
     → AreSided (record { edges = edges; odd = odd; regions = regions })
-built edges odd regions count planar distinct ascending places used even all are = record {
+built edges odd regions planar distinct ascending places used even numbered = record {
   planar = planar;
   distinct = distinct;
   ascending = ascending;
   places = places;
   used = λ k inside. used_member odd k (used k inside);
   even = even;
-  numbered = record { count = are.long ∙ all; each = λ n p at. are.each n p (omega (arith, slice_get_within (side_points edges) n p at, sides-length edges)) at };
+  numbered = numbered;
 }
 
--- the same of the edges of an arena
-pub built_from : (edges arena walked : List Seg) (odd : List OddUse) (regions : List ℕ) (count : ℕ) → arena ≡ edges → walked ≡ arena
-    → IsPlanar arena → AreDistinct arena → AreOddAscending odd → All (λ o. o.edge < length edges) odd → ((k : ℕ) → k < length edges → IsTrue (list_any (λ o. o.edge == k) odd))
-    → HasEvenEnds (odd_uses edges odd) → count ≡ 2 * length arena → AreFirstRegions walked count regions → AreSided (record { edges = edges; odd = odd; regions = regions })
-built_from edges arena walked odd regions count is_arena is_walked planar distinct ascending places used even all are =
-    built edges odd regions count (subst (λ es. IsPlanar es) is_arena planar) (subst (λ es. AreDistinct es) is_arena distinct) ascending places used even
-    (all ∙ ap (λ es. 2 * length es) is_arena) (subst (λ es. AreFirstRegions es count regions) (is_walked ∙ is_arena) are)
+-- the same of the edges that were walked
+pub built_from : (edges walked : List Seg) (odd : List OddUse) (regions : List ℕ) → walked ≡ edges
+    → IsPlanar walked → AreDistinct walked → AreOddAscending odd → All (λ o. o.edge < length edges) odd → ((k : ℕ) → k < length edges → IsTrue (list_any (λ o. o.edge == k) odd))
+    → HasEvenEnds (odd_uses edges odd) → AreRegions walked regions → AreSided (record { edges = edges; odd = odd; regions = regions })
+built_from edges walked odd regions is_walked planar distinct ascending places used even numbered =
+    built edges odd regions (subst (λ es. IsPlanar es) is_walked planar) (subst (λ es. AreDistinct es) is_walked distinct) ascending places used even
+    (subst (λ es. AreRegions es regions) is_walked numbered)
 
 -- the outer region of the regions
 pub outer_of : (s : Sided) → AreSided s → (outer : Option ℕ) → (IsNone outer ↔ (s.edges ≡ [])) → IfSome outer (λ r. IsOuterRegion s.edges r)
     → IfSome outer (λ r. (p : Point) → IsOuter s.edges p → IsRegionOf s.edges p r) → IsOuterOf s outer
 outer_of s sided None none outer region = none.0 refl
-outer_of s sided (Some r) none outer region = let side = outer.outer in (outer, one_region s.edges side.at (region_at s r) r (sided.numbered.each r side.at side.side) (region side.at side.outer))
+outer_of s sided (Some r) none outer region = let side = outer.outer in (outer, one_region s.edges side.at (region_on s r) r (sided.numbered.each r side.at side.side) (region side.at side.outer))
 
 pub outer_from : (s : Sided) → AreSided s → (edges : List Seg) → edges ≡ s.edges → (outer : Option ℕ) → (IsNone outer ↔ (edges ≡ [])) → IfSome outer (λ r. IsOuterRegion edges r)
     → IfSome outer (λ r. (p : Point) → IsOuter edges p → IsRegionOf edges p r) → IsOuterOf s outer

@@ -14,7 +14,7 @@ use Rattle.plane.specs.Point.{Point}
 use Rattle.plane.specs.Region.{IsSide, IsRegionOf}
 use Rattle.plane.specs.Label.{numbers_below}
 use Rattle.owner_label.specs.Grouped.{places_of, IsGrouped}
-use Rattle.owner_label.specs.Sided.{Sided, region_at, AreFirstRegions}
+use Rattle.owner_label.specs.Sided.{Sided, region_on}
 use Rattle.owner_label.proofs.Ascending.{chosen_contains}
 
 -- ---- elements of a list that was written or grew
@@ -85,21 +85,6 @@ group_within keys k i d inside = ((group_contains keys k (get_or (places_of keys
 
 -- the sides of a region
 pub region_sides : (s : Sided) (lists : List (List ℕ)) → IsGrouped s.regions (length s.regions) lists → (r : ℕ) (sides : List ℕ) → slice_get lists r ≡ Some sides
-    → (n : ℕ) → Contains sides n ↔ ((n < length s.regions) × (region_at s n ≡ r))
+    → (n : ℕ) → Contains sides n ↔ ((n < length s.regions) × (region_on s n ≡ r))
 region_sides s lists are r sides at n =
-    subst (λ xs. Contains xs n ↔ ((n < length s.regions) × (region_at s n ≡ r))) (sym (group_is s.regions (length s.regions) lists are r sides at)) (group_contains s.regions r n)
-
--- ---- the region of one more side
-
-pub regions-push : (edges : List Seg) (n : ℕ) (regions after : List ℕ) (r : ℕ) → after ≡ regions ++ r ∷ [] → ((p : Point) → IsSide edges n p → IsRegionOf edges p r)
-    → AreFirstRegions edges n regions → AreFirstRegions edges (n + 1) after
-regions-push edges n regions after r pushed is are = subst (λ xs. AreFirstRegions edges (n + 1) xs) (sym pushed) (record {
-  long = length_push regions r ∙ ap (λ k. k + 1) are.long;
-  each = λ k p less at. elim (cases_eq k n) [
-    | inl last ↦ subst (λ t. IsRegionOf edges p t) (sym (get_or_push regions r 0 k (are.long ∙ sym last))) (is p (subst (λ j. IsSide edges j p) last at))
-    | inr other ↦ (
-        let old : k < n = omega arith in
-        subst (λ t. IsRegionOf edges p t) (sym (get_or_append_left regions (r ∷ []) 0 k (omega (arith, are.long)))) (are.each k p old at)
-        )
-  ];
-})
+    subst (λ xs. Contains xs n ↔ ((n < length s.regions) × (region_on s n ≡ r))) (sym (group_is s.regions (length s.regions) lists are r sides at)) (group_contains s.regions r n)

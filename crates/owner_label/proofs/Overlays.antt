@@ -24,7 +24,7 @@ use Rattle.owner_label.specs.Labelled.{Labelled, IsOverlay}
 use Rattle.owner_label.specs.Grouped.{places_of, IsGrouped}
 use Rattle.owner_label.specs.Lists.{AreRegionLabels}
 use Rattle.owner_label.specs.Members.{has, differs}
-use Rattle.owner_label.specs.Sided.{Sided, AreSided, region_at, uses_of, IsLabelAt}
+use Rattle.owner_label.specs.Sided.{Sided, AreSided, region_on, odd_uses_of, IsLabelAt}
 use Rattle.owner_label.proofs.Ascending.{same_ascending, chosen_from, chosen_has}
 use Rattle.owner_label.proofs.Listing.{group_is, region_sides}
 use Rattle.owner_label.proofs.Regions.{label_joined, side_within, outer_label}
@@ -61,23 +61,23 @@ module _ (s : Sided) (sided : AreSided s) (o : Overlay) (overlay : IsOverlay (la
   are_regions : AreRegions s.edges o.numbers
   are_regions = subst (λ es. AreRegions es o.numbers) overlay.edges overlay.numbered
 
-  pub number_is : (n : ℕ) (p : Point) → IsSide s.edges n p → slice_index o.numbers n ≡ region_at s n
-  number_is n p at = one_region s.edges p (slice_index o.numbers n) (region_at s n) (are_regions.each n p at) (sided.numbered.each n p at)
+  pub number_is : (n : ℕ) (p : Point) → IsSide s.edges n p → slice_index o.numbers n ≡ region_on s n
+  number_is n p at = one_region s.edges p (slice_index o.numbers n) (region_on s n) (are_regions.each n p at) (sided.numbered.each n p at)
 
-  holds_below : (m : ℕ) (p : Point) → (ltb m o.members && member_holds (uses_of s) m p) ≡ member_holds (uses_of s) m p
+  holds_below : (m : ℕ) (p : Point) → (ltb m o.members && member_holds (odd_uses_of s) m p) ≡ member_holds (odd_uses_of s) m p
   holds_below m p =
       elim (cases_lt m o.members) [
-        | inl less ↦ ap (λ t. t && member_holds (uses_of s) m p) (lt-ltb m o.members less)
+        | inl less ↦ ap (λ t. t && member_holds (odd_uses_of s) m p) (lt-ltb m o.members less)
         | inr past ↦
-            ap (λ t. t && member_holds (uses_of s) m p) (le-ltb m o.members past)
+            ap (λ t. t && member_holds (odd_uses_of s) m p) (le-ltb m o.members past)
             ∙ sym (ap (λ n. n % 2 == 1) (unnamed s.edges s.odd sided.places o.members m p overlay.members past))
       ]
 
-  label_has : (m : ℕ) (p : Point) → has (label_at o.uses o.members p) m ≡ member_holds (uses_of s) m p
-  label_has m p = ap (λ us. has (label_at us o.members p) m) overlay.uses ∙ chosen_has (λ k. member_holds (uses_of s) k p) o.members m ∙ holds_below m p
+  label_has : (m : ℕ) (p : Point) → has (label_at o.uses o.members p) m ≡ member_holds (odd_uses_of s) m p
+  label_has m p = ap (λ us. has (label_at us o.members p) m) overlay.uses ∙ chosen_has (λ k. member_holds (odd_uses_of s) k p) o.members m ∙ holds_below m p
 
   -- a label of a point is the label of the definition
-  pub label_is : (p : Point) (label : List ℕ) → IsLabelAt (uses_of s) p label → label ≡ label_at o.uses o.members p
+  pub label_is : (p : Point) (label : List ℕ) → IsLabelAt (odd_uses_of s) p label → label ≡ label_at o.uses o.members p
   label_is p label is =
       same_ascending 0 label (label_at o.uses o.members p) is.ascending (chosen_from (λ m. member_holds o.uses m p) o.members) (λ m. is.exact m ∙ sym (label_has m p))
 
@@ -88,27 +88,27 @@ module _ (s : Sided) (sided : AreSided s) (o : Overlay) (overlay : IsOverlay (la
       ∙ ap (λ found. flat_map (label_at o.uses o.members) (option_to_list found)) at ∙ append-nil (label_at o.uses o.members p)
 
   -- and that of each side point in it
-  pub side_label : (n : ℕ) (p : Point) (label : List ℕ) → IsSide s.edges n p → IsLabelAt (uses_of s) p label → label ≡ label_of o (slice_index o.numbers n)
+  pub side_label : (n : ℕ) (p : Point) (label : List ℕ) → IsSide s.edges n p → IsLabelAt (odd_uses_of s) p label → label ≡ label_of o (slice_index o.numbers n)
   side_label n p label at is =
       let region = are_regions.each n p at in
       label_is region.joined.at label (label_joined s sided p region.joined.at label region.joined.joined is) ∙ sym (label_of_is (slice_index o.numbers n) region.joined.at region.joined.side)
 
   -- the label of the definition is one
-  pub label_right : (p : Point) → IsLabelAt (uses_of s) p (label_at (uses_of s) o.members p)
+  pub label_right : (p : Point) → IsLabelAt (odd_uses_of s) p (label_at (odd_uses_of s) o.members p)
   label_right p = record {
-    ascending = chosen_from (λ m. member_holds (uses_of s) m p) o.members;
-    exact = λ m. chosen_has (λ k. member_holds (uses_of s) k p) o.members m ∙ holds_below m p;
+    ascending = chosen_from (λ m. member_holds (odd_uses_of s) m p) o.members;
+    exact = λ m. chosen_has (λ k. member_holds (odd_uses_of s) k p) o.members m ∙ holds_below m p;
   }
 
   -- the labels of the two sides of an edge differ
-  sides_apart : (k : ℕ) → k < length s.edges → (a b : List ℕ) → ((e : Seg) → slice_get s.edges k ≡ Some e → IsLabelAt (uses_of s) (upper e) a × IsLabelAt (uses_of s) (lower e) b) → a ≡ b → ⊥
+  sides_apart : (k : ℕ) → k < length s.edges → (a b : List ℕ) → ((e : Seg) → slice_get s.edges k ≡ Some e → IsLabelAt (odd_uses_of s) (upper e) a × IsLabelAt (odd_uses_of s) (lower e) b) → a ≡ b → ⊥
   sides_apart k inside a b are same =
       let (e, at) = edge_there s.edges k inside in
       let (m, odd) = sided.used k inside in
       let changed = member_below s.edges s.odd sided.planar sided.distinct sided.ascending sided.places k e at m in
       let labels = are e at in
-      not_itself (member_holds (uses_of s) m (upper e))
-      (sym (labels.0.exact m) ∙ ap (λ xs. has xs m) same ∙ labels.1.exact m ∙ changed ∙ ap (λ t. differs t (member_holds (uses_of s) m (upper e))) odd)
+      not_itself (member_holds (odd_uses_of s) m (upper e))
+      (sym (labels.0.exact m) ∙ ap (λ xs. has xs m) same ∙ labels.1.exact m ∙ changed ∙ ap (λ t. differs t (member_holds (odd_uses_of s) m (upper e))) odd)
     where
       edge_there : (edges : List Seg) (k : ℕ) → k < length edges → (e : Seg) × (slice_get edges k ≡ Some e)
       edge_there [] k h = absurd (omega arith)
@@ -118,8 +118,8 @@ module _ (s : Sided) (sided : AreSided s) (o : Overlay) (overlay : IsOverlay (la
       not_itself true h = both_ways true h refl
       not_itself false h = both_ways false refl h
 
-  pub side_label_at : (n : ℕ) (p : Point) → IsSide s.edges n p → IsLabelAt (uses_of s) p (label_of o (slice_index o.numbers n))
-  side_label_at n p at = subst (λ xs. IsLabelAt (uses_of s) p xs) (side_label n p (label_at (uses_of s) o.members p) at (label_right p)) (label_right p)
+  pub side_label_at : (n : ℕ) (p : Point) → IsSide s.edges n p → IsLabelAt (odd_uses_of s) p (label_of o (slice_index o.numbers n))
+  side_label_at n p at = subst (λ xs. IsLabelAt (odd_uses_of s) p xs) (side_label n p (label_at (odd_uses_of s) o.members p) at (label_right p)) (label_right p)
 
   pub labels_apart : (k : ℕ) → k < length s.edges → label_of o (slice_index o.numbers (2 * k)) ≡ label_of o (slice_index o.numbers (2 * k + 1)) → ⊥
   labels_apart k inside same =
@@ -138,7 +138,7 @@ above_all (o ∷ odd) =
 pub some_overlay : (s : Sided) → AreSided s → (o : Overlay) × IsOverlay (labelled_of s) o
 some_overlay s sided =
     let above = above_all s.odd in
-    (record { edges = s.edges; uses = uses_of s; members = above.0; numbers = s.regions }, record { edges = refl; uses = refl; members = above.1; numbered = sided.numbered })
+    (record { edges = s.edges; uses = odd_uses_of s; members = above.0; numbers = s.regions }, record { edges = refl; uses = refl; members = above.1; numbered = sided.numbered })
 
 -- ---- regions
 
@@ -157,22 +157,22 @@ region_among edges walked arena side count r is_walked is_arena all inside is =
 
 -- ---- the label of a region in the table
 
-pub region_ready : (s : Sided) → AreSided s → (r : ℕ) → IsRegion s.edges r → region_at s r ≡ r
-region_ready s sided r is = one_region s.edges is.at (region_at s r) r (sided.numbered.each r is.at is.side) is.own
+pub region_ready : (s : Sided) → AreSided s → (r : ℕ) → IsRegion s.edges r → region_on s r ≡ r
+region_ready s sided r is = one_region s.edges is.at (region_on s r) r (sided.numbered.each r is.at is.side) is.own
 
 module _ (s : Sided) (sided : AreSided s) (lists : List (List ℕ)) (labels : AreRegionLabels s lists) where
   -- the label of the region of a side
-  pub label_at_side : (n : ℕ) (p : Point) → IsSide s.edges n p → (v : List ℕ) → slice_get lists (region_at s n) ≡ Some v → IsLabelAt (uses_of s) p v
+  pub label_at_side : (n : ℕ) (p : Point) → IsSide s.edges n p → (v : List ℕ) → slice_get lists (region_on s n) ≡ Some v → IsLabelAt (odd_uses_of s) p v
   label_at_side n p at v here = labels.each n (omega (arith, side_within s sided n p at, sided.numbered.count)) v here n p at refl
 
-  pub label_read : (n : ℕ) (p : Point) → IsSide s.edges n p → (r : ℕ) → r ≡ region_at s n → (v : List ℕ) → slice_get lists r ≡ Some v → IsLabelAt (uses_of s) p v
+  pub label_read : (n : ℕ) (p : Point) → IsSide s.edges n p → (r : ℕ) → r ≡ region_on s n → (v : List ℕ) → slice_get lists r ≡ Some v → IsLabelAt (odd_uses_of s) p v
   label_read n p at r same v here = label_at_side n p at v (ap (λ k. slice_get lists k) (sym same) ∙ here)
 
   pub region_within : (r : ℕ) → IsRegion s.edges r → r < length lists
   region_within r is = omega (arith, side_within s sided r is.at is.side, sided.numbered.count, labels.count)
 
   module _ (r : ℕ) (is : IsRegion s.edges r) (v : List ℕ) (here : slice_get lists r ≡ Some v) where
-    label_here : IsLabelAt (uses_of s) is.at v
+    label_here : IsLabelAt (odd_uses_of s) is.at v
     label_here = label_at_side r is.at is.side v (ap (λ k. slice_get lists k) (region_ready s sided r is) ∙ here)
 
     pub label_value : (o : Overlay) → IsOverlay (labelled_of s) o → v ≡ label_of o r
@@ -197,7 +197,7 @@ module _ (s : Sided) (sided : AreSided s) (lists : List (List ℕ)) (labels : Ar
         ])
 
   -- the label in the table is that of the definition
-  pub table_label : (o : Overlay) → IsOverlay (labelled_of s) o → (n : ℕ) (p : Point) → IsSide s.edges n p → (v : List ℕ) → slice_get lists (region_at s n) ≡ Some v → v ≡ label_of o (slice_index o.numbers n)
+  pub table_label : (o : Overlay) → IsOverlay (labelled_of s) o → (n : ℕ) (p : Point) → IsSide s.edges n p → (v : List ℕ) → slice_get lists (region_on s n) ≡ Some v → v ≡ label_of o (slice_index o.numbers n)
   table_label o overlay n p at v here = side_label s sided o overlay n p v at (label_at_side n p at v here)
 
 -- ---- the sides of a region in the table

@@ -21,7 +21,7 @@ use Rattle.owner_label.specs.Grouped.{places_of, IsGrouped}
 use Rattle.owner_label.specs.Lists.{AreRegionLabels}
 use Rattle.owner_label.specs.Members.{IsFrom, IsToggled, IsToggledFrom, members_at, pair_edges}
 use Rattle.half_edge.specs.Side.{across}
-use Rattle.owner_label.specs.Sided.{Sided, AreSided, region_at, uses_of, IsLabelAt, IsRegionLabel}
+use Rattle.owner_label.specs.Sided.{Sided, AreSided, region_on, odd_uses_of, IsLabelAt, IsRegionLabel}
 use Rattle.owner_label.specs.Spread.{IsReached, IsReachedNow, IsSpread, Grows, AreReachedAcross, IsLeft, IsBegun}
 use Rattle.owner_label.proofs.Listing.{get-set, group_is, group_within, members_grouped, region_sides}
 use Rattle.owner_label.proofs.Regions.{side_point, side_within, joined_region, label_across, label_outer, region_within}
@@ -92,7 +92,7 @@ module _ (before after : Spread) (r : ℕ) (label : List ℕ) (now : IsReachedNo
 
 -- the outer region is reached, where none was
 pub begun_all : (s : Sided) → AreSided s → (before after : Spread) (r count : ℕ) → IsSpread s before → before.labels ≡ replicate count [] → get_or before.reached.items r false ≡ false
-    → IsOuterRegion s.edges r → region_at s r ≡ r → IsReachedNow before r (get_or before.labels r []) after → IsSpread s after × IsBegun s after
+    → IsOuterRegion s.edges r → region_on s r ≡ r → IsReachedNow before r (get_or before.labels r []) after → IsSpread s after × IsBegun s after
 begun_all s sided before after r count is labels fresh outer own now =
     let inside = side_within s sided r outer.outer.at outer.outer.side in
     let in_reached : r < length before.reached.items = omega (arith, inside, is.reached, sided.numbered.count) in
@@ -118,15 +118,15 @@ grows-trans a b c g h = record { reached = λ r k. h.reached r (g.reached r k); 
 pub crossed-none : (s : Sided) (spread : Spread) (sides : List ℕ) → AreReachedAcross s spread (take 0 sides)
 crossed-none s spread sides n c = absurd (omega (arith, c.1))
 
-pub crossed_one : (s : Sided) (spread : Spread) (n over : ℕ) → over ≡ region_at s (across n) → IsReached spread over → AreReachedAcross s spread (n ∷ [])
-crossed_one s spread n over is reached m (zero, within, same) = subst (λ k. IsReached spread (region_at s (across k))) same (subst (λ r. IsReached spread r) is reached)
+pub crossed_one : (s : Sided) (spread : Spread) (n over : ℕ) → over ≡ region_on s (across n) → IsReached spread over → AreReachedAcross s spread (n ∷ [])
+crossed_one s spread n over is reached m (zero, within, same) = subst (λ k. IsReached spread (region_on s (across k))) same (subst (λ r. IsReached spread r) is reached)
 crossed_one s spread n over is reached m (suc k, within, same) = absurd (omega (arith, within))
 
 pub crossed-more : (s : Sided) (before after : Spread) (sides : List ℕ) (i : ℕ) → i < length sides → AreReachedAcross s before (take i sides) → Grows before after → AreReachedAcross s after (get_or sides i 0 ∷ [])
     → AreReachedAcross s after (take (i + 1) sides)
 crossed-more s before after sides i within crossed grows last n c =
     elim (Contains-push_cases (take i sides) (get_or sides i 0) n (rw (add-one, take-suc sides i 0 within) at c)) [
-      | inl old ↦ grows.reached (region_at s (across n)) (crossed n old)
+      | inl old ↦ grows.reached (region_on s (across n)) (crossed n old)
       | inr here ↦ last n (0, omega arith, here)
     ]
 
@@ -141,12 +141,12 @@ crossed_all s spread sides i past crossed = subst (λ xs. AreReachedAcross s spr
 
 -- ---- across a side
 
-module _ (s : Sided) (sided : AreSided s) (spread : Spread) (is : IsSpread s spread) (n : ℕ) (inside : n < 2 * length s.edges) (reached : IsReached spread (region_at s n))
-    (from : ℕ) (same : from ≡ region_at s n) where
+module _ (s : Sided) (sided : AreSided s) (spread : Spread) (is : IsSpread s spread) (n : ℕ) (inside : n < 2 * length s.edges) (reached : IsReached spread (region_on s n))
+    (from : ℕ) (same : from ≡ region_on s n) where
   abbrev label : List ℕ
   label = get_or spread.labels from []
 
-  label_from : (p : Point) → IsSide s.edges n p → IsLabelAt (uses_of s) p label
+  label_from : (p : Point) → IsSide s.edges n p → IsLabelAt (odd_uses_of s) p label
   label_from p at =
       let within : from < length spread.labels = (let h = region_within s sided n inside in omega (arith, is.labels, sided.numbered.count)) in
       let got = slice_get-get_or spread.labels from [] within in
@@ -155,13 +155,13 @@ module _ (s : Sided) (sided : AreSided s) (spread : Spread) (is : IsSpread s spr
   pub label_ascends : IsFrom 0 label
   label_ascends = let (p, at) = side_point s sided n inside in (label_from p at).ascending
 
-  pub label_over : (places : List ℕ) → places ≡ places_of (pair_edges s.odd) (n / 2) → (after : List ℕ) → IsToggled label (members_at s.odd places) after → IsRegionLabel s (region_at s (across n)) after
+  pub label_over : (places : List ℕ) → places ≡ places_of (pair_edges s.odd) (n / 2) → (after : List ℕ) → IsToggled label (members_at s.odd places) after → IsRegionLabel s (region_on s (across n)) after
   label_over places are after toggled =
       let (p, at) = side_point s sided n inside in
       label_across s sided n p label after at (label_from p at) (subst (λ ms. IsToggled label ms after) (ap (members_at s.odd) are ∙ members_grouped s.odd (n / 2)) toggled)
 
   -- the region across the side is reached
-  pub reach_over : (mid after : Spread) (over : ℕ) (places : List ℕ) → places ≡ places_of (pair_edges s.odd) (n / 2) → over ≡ region_at s (across n) → get_or spread.reached.items over false ≡ false
+  pub reach_over : (mid after : Spread) (over : ℕ) (places : List ℕ) → places ≡ places_of (pair_edges s.odd) (n / 2) → over ≡ region_on s (across n) → get_or spread.reached.items over false ≡ false
       → IsToggledFrom spread.labels over label (members_at s.odd places) mid.labels → mid.reached.items ≡ spread.reached.items → mid.queue.items ≡ spread.queue.items
       → IsReachedNow mid over (get_or mid.labels over []) after → IsSpread s after × Grows spread after × IsReached after over
   reach_over mid after over places are is_over fresh from_it same_reached same_queue now =
@@ -225,7 +225,7 @@ queue_within s spread is next r within at =
 pub begun_stays : (s : Sided) (before after : Spread) → Grows before after → IsBegun s before → IsBegun s after
 begun_stays s before after grows begun = elim begun [
   | inl none ↦ inl none
-  | inr some ↦ inr (some.0, (some.1.0, grows.reached (region_at s some.0) some.1.1))
+  | inr some ↦ inr (some.0, (some.1.0, grows.reached (region_on s some.0) some.1.1))
 ]
 
 -- one more region is left
@@ -244,13 +244,13 @@ left-more s before after next r sides lists are at_sides within at_r left grows 
           let old : i < next = omega arith in
           let was : slice_get before.queue.items i ≡ Some (get_or before.queue.items i k) = slice_get-get_or before.queue.items i k (omega arith) in
           let is : k ≡ get_or before.queue.items i k = same_Some k _ (sym at ∙ grows.queue i _ was) in
-          grows.reached (region_at s (across n)) (left i (get_or before.queue.items i k) old was n inside (same ∙ is))
+          grows.reached (region_on s (across n)) (left i (get_or before.queue.items i k) old was n inside (same ∙ is))
           )
     ]
 
 -- the sides of a region that is reached
 pub sides_ready : (s : Sided) → AreSided s → (spread : Spread) (r : ℕ) (sides : List ℕ) (lists : List (List ℕ)) → IsGrouped s.regions (length s.regions) lists → slice_get lists r ≡ Some sides
-    → IsReached spread r → All (λ n. (n < 2 * length s.edges) × IsReached spread (region_at s n)) sides
+    → IsReached spread r → All (λ n. (n < 2 * length s.edges) × IsReached spread (region_on s n)) sides
 sides_ready s sided spread r sides lists are at_sides reached k d within =
     let each = (region_sides s lists are r sides at_sides (get_or sides k d)).0 (Contains-get_or sides k d within) in
     (omega (arith, each.0, sided.numbered.count), subst (λ j. IsReached spread j) (sym each.1) reached)
@@ -259,7 +259,7 @@ sides_ready s sided spread r sides lists are at_sides reached k d within =
 
 module _ (s : Sided) (sided : AreSided s) (spread : Spread) (is : IsSpread s spread) (left : (r : ℕ) → Contains spread.queue.items r → IsLeft s spread r) where
   abbrev passes : HalfEdge → Bool
-  passes h = get_or spread.reached.items (region_at s (index s.edges h)) false
+  passes h = get_or spread.reached.items (region_on s (index s.edges h)) false
 
   same_test : (a b : Bool) → (a ≡ true → b ≡ true) → (b ≡ true → a ≡ true) → a ≡ b
   same_test true b f g = sym (f refl)
@@ -274,8 +274,8 @@ module _ (s : Sided) (sided : AreSided s) (spread : Spread) (is : IsSpread s spr
 
   passes_over : (h : HalfEdge) → Contains s.edges h.edge → passes h ≡ true → passes (twin h) ≡ true
   passes_over h c reached =
-      ap (λ n. get_or spread.reached.items (region_at s n) false) (index-twin s.edges sided.distinct h c)
-      ∙ left (region_at s (index s.edges h)) (is.queued (region_at s (index s.edges h)) reached) (index s.edges h) (index_within h c) refl
+      ap (λ n. get_or spread.reached.items (region_on s n) false) (index-twin s.edges sided.distinct h c)
+      ∙ left (region_on s (index s.edges h)) (is.queued (region_on s (index s.edges h)) reached) (index s.edges h) (index_within h c) refl
 
   twin_twin : (h : HalfEdge) → twin (twin h) ≡ h
   twin_twin h = ap (λ b. record { edge = h.edge; forwards = b }) (not_not h.forwards)
@@ -291,7 +291,7 @@ module _ (s : Sided) (sided : AreSided s) (spread : Spread) (is : IsSpread s spr
   }
 
   -- each region is reached where one is
-  pub all_reached : IsBegun s spread → (n : ℕ) → n < 2 * length s.edges → IsReached spread (region_at s n)
+  pub all_reached : IsBegun s spread → (n : ℕ) → n < 2 * length s.edges → IsReached spread (region_on s n)
   all_reached begun n inside =
       elim begun [
         | inl none ↦ absurd (omega (arith, ap length none))
@@ -303,14 +303,14 @@ module _ (s : Sided) (sided : AreSided s) (spread : Spread) (is : IsSpread s spr
             let at_h : index s.edges h ≡ n = one_number s.edges sided.distinct (index s.edges h) n h (index_is s.edges h of_h.among) of_h.is in
             let at_g : index s.edges g ≡ some.0 = one_number s.edges sided.distinct (index s.edges g) some.0 g (index_is s.edges g of_g.among) of_g.is in
             let same = crossed_same s.edges sided.planar passes crossed h g of_h.among of_g.among in
-            ap (λ k. get_or spread.reached.items (region_at s k) false) (sym at_h) ∙ same ∙ ap (λ k. get_or spread.reached.items (region_at s k) false) at_g ∙ some.1.1
+            ap (λ k. get_or spread.reached.items (region_on s k) false) (sym at_h) ∙ same ∙ ap (λ k. get_or spread.reached.items (region_on s k) false) at_g ∙ some.1.1
             )
       ]
 
   pub labels_right : IsBegun s spread → AreRegionLabels s spread.labels
   labels_right begun = record {
     count = is.labels;
-    each = λ n inside v at. is.right (region_at s n) v (all_reached begun n (omega (arith, sided.numbered.count))) at;
+    each = λ n inside v at. is.right (region_on s n) v (all_reached begun n (omega (arith, sided.numbered.count))) at;
   }
 
 pub all_left : (s : Sided) (spread : Spread) (next : ℕ) → length spread.queue.items ≤ next → ((i k : ℕ) → i < next → slice_get spread.queue.items i ≡ Some k → IsLeft s spread k)

@@ -3,12 +3,12 @@ use Rattle.std.specs.Prelude.{◌≡◌, ℕ, ◌<◌, List, length, Some, slice
 use Rattle.cov_types.specs.declared.seg.Seg.{Seg}
 use Rattle.owner_label.specs.Grouped.{IsGrouped}
 use Rattle.owner_label.specs.Labelled.{Labelled}
-use Rattle.owner_label.specs.Sided.{Sided, AreSided, region_at, IsRegionLabel}
+use Rattle.owner_label.specs.Sided.{Sided, AreSided, region_on, IsRegionLabel}
 
 -- for each region its label
 pub record AreRegionLabels (s : Sided) (labels : List (List ℕ)) : Type 0 where
   pub count : length labels ≡ length s.regions
-  pub each : (n : ℕ) → n < length s.regions → (label : List ℕ) → slice_get labels (region_at s n) ≡ Some label → IsRegionLabel s (region_at s n) label
+  pub each : (n : ℕ) → n < length s.regions → (label : List ℕ) → slice_get labels (region_on s n) ≡ Some label → IsRegionLabel s (region_on s n) label
 
 -- the edges and the odd pairs, with a number for each side
 abbrev pub sided_of : Labelled → List ℕ → Sided

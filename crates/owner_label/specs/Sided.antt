@@ -18,12 +18,12 @@ pub record Sided : Type 0 where
   pub regions : List ℕ
 
 -- the uses that the odd pairs stand for
-abbrev pub uses_of : Sided → List EdgeUse
-uses_of s = odd_uses s.edges s.odd
+abbrev pub odd_uses_of : Sided → List EdgeUse
+odd_uses_of s = odd_uses s.edges s.odd
 
 -- the region of a side
-abbrev pub region_at : Sided → ℕ → ℕ
-region_at s n = slice_index s.regions n
+abbrev pub region_on : Sided → ℕ → ℕ
+region_on s n = slice_index s.regions n
 
 -- distinct edges that meet in ends alone, each odd for some member; ascending odd pairs with even ends; the regions of the sides
 pub record AreSided (s : Sided) : Type 0 where
@@ -32,7 +32,7 @@ pub record AreSided (s : Sided) : Type 0 where
   pub ascending : AllPairs (λ o p. IsTrue (is_odd_before o p)) s.odd
   pub places : All (λ o. o.edge < length s.edges) s.odd
   pub used : (k : ℕ) → k < length s.edges → (member : ℕ) × (has (members_of s.odd k) member ≡ true)
-  pub even : HasEvenEnds (uses_of s)
+  pub even : HasEvenEnds (odd_uses_of s)
   pub numbered : AreRegions s.edges s.regions
 
 -- the label of a point: the members that hold it, ascending
@@ -42,13 +42,8 @@ pub record IsLabelAt (uses : List EdgeUse) (p : Point) (label : List ℕ) : Type
 
 -- the label of each side point of the region
 abbrev pub IsRegionLabel : Sided → ℕ → List ℕ → Type 0
-IsRegionLabel s r label = (n : ℕ) (p : Point) → IsSide s.edges n p → region_at s n ≡ r → IsLabelAt (uses_of s) p label
+IsRegionLabel s r label = (n : ℕ) (p : Point) → IsSide s.edges n p → region_on s n ≡ r → IsLabelAt (odd_uses_of s) p label
 
 -- the number is that of the outer region, and there is none where there is no edge
 abbrev pub IsOuterOf : Sided → Option ℕ → Type 0
-IsOuterOf s outer = MatchOption outer (s.edges ≡ []) (λ r. IsOuterRegion s.edges r × (region_at s r ≡ r))
-
--- the regions of the first so many sides
-pub record AreFirstRegions (edges : List Seg) (count : ℕ) (regions : List ℕ) : Type 0 where
-  pub long : length regions ≡ count
-  pub each : (n : ℕ) (p : Point) → n < count → IsSide edges n p → IsRegionOf edges p (slice_index regions n)
+IsOuterOf s outer = MatchOption outer (s.edges ≡ []) (λ r. IsOuterRegion s.edges r × (region_on s r ≡ r))

@@ -2,7 +2,7 @@
 use Rattle.std.specs.Prelude.{◌≡◌, ◌⊎◌, ℕ, ◌*◌, ◌<◌, true, false, List, [], ◌∷◌, ◌++◌, length, Contains, count_by, Some, slice_get, slice_set, slice_index_or}
 use Rattle.owner_label.specs.declared.spread.Spread.{Spread}
 use Rattle.half_edge.specs.Side.{across}
-use Rattle.owner_label.specs.Sided.{Sided, region_at, IsRegionLabel}
+use Rattle.owner_label.specs.Sided.{Sided, region_on, IsRegionLabel}
 
 -- the region was reached
 abbrev pub IsReached : Spread → ℕ → Type 0
@@ -30,12 +30,12 @@ pub record Grows (before after : Spread) : Type 0 where
 
 -- across each of the sides a region was reached
 abbrev pub AreReachedAcross : Sided → Spread → List ℕ → Type 0
-AreReachedAcross s spread sides = (n : ℕ) → Contains sides n → IsReached spread (region_at s (across n))
+AreReachedAcross s spread sides = (n : ℕ) → Contains sides n → IsReached spread (region_on s (across n))
 
 -- across each side of the region one was reached
 abbrev pub IsLeft : Sided → Spread → ℕ → Type 0
-IsLeft s spread r = (n : ℕ) → n < length s.regions → region_at s n ≡ r → IsReached spread (region_at s (across n))
+IsLeft s spread r = (n : ℕ) → n < length s.regions → region_on s n ≡ r → IsReached spread (region_on s (across n))
 
 -- the region of some side was reached, or there is no edge
 abbrev pub IsBegun : Sided → Spread → Type 0
-IsBegun s spread = (s.edges ≡ []) ⊎ ((n : ℕ) × ((n < 2 * length s.edges) × IsReached spread (region_at s n)))
+IsBegun s spread = (s.edges ≡ []) ⊎ ((n : ℕ) × ((n < 2 * length s.edges) × IsReached spread (region_on s n)))

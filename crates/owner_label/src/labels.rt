@@ -63,7 +63,7 @@ impl<'a> Labels<'a> {
         requires even { HasEvenEnds (odd_uses l.now.edges.items l.now.odd.items) }
         ensures { IfOk result (λ labels. labels ≡ record { edges = l.now.edges.items; odd = l.now.odd.items }) }
     {
-        let map = SidedEdges::build(alloc, a, r, l)?;
+        let map = SidedEdges::build(r, l);
         let sides = Grouped::build(alloc, map.regions(), 2 * map.len())?;
         let labels = labels_of_regions(alloc, &map, &sides, r.outer())?;
         Ok(Labels {

@@ -2,7 +2,7 @@ ghost use Rattle.std.specs.Prelude.{◌≡◌, ℕ, ◌*◌, ◌<◌, ◌∷◌,
 ghost use Rattle.owner_label.specs.Grouped.{IsGrouped};
 ghost use Rattle.owner_label.specs.Lists.{AreRegionLabels};
 ghost use Rattle.owner_label.specs.Members.{pair_edges};
-ghost use Rattle.owner_label.specs.Sided.{Sided, region_at, IsRegionLabel, IsOuterOf};
+ghost use Rattle.owner_label.specs.Sided.{Sided, region_on, IsRegionLabel, IsOuterOf};
 
 use crate::grouped::Grouped;
 use crate::label_table::LabelTable;
@@ -106,7 +106,7 @@ impl Spread {
         requires within { side.number < 2 * length map.now.edges }
         requires pairs { IsGrouped (pair_edges map.now.odd) (length map.now.edges) pairs.now }
         requires spread { IsSpread map.now self.old }
-        requires reached { IsReached self.old (region_at map.now side.number) }
+        requires reached { IsReached self.old (region_on map.now side.number) }
         ensures spread { OnOk result (IsSpread map.now self.new) }
         ensures grows { OnOk result (Grows self.old self.new) }
         ensures crossed { OnOk result (AreReachedAcross map.now self.new (side.number ∷ [])) }
@@ -126,7 +126,7 @@ impl Spread {
         requires within { All (λ n. n < 2 * length map.now.edges) sides.now }
         requires pairs { IsGrouped (pair_edges map.now.odd) (length map.now.edges) pairs.now }
         requires spread { IsSpread map.now self.old }
-        requires reached { All (λ n. IsReached self.old (region_at map.now n)) sides.now }
+        requires reached { All (λ n. IsReached self.old (region_on map.now n)) sides.now }
         ensures spread { OnOk result (IsSpread map.now self.new) }
         ensures grows { OnOk result (Grows self.old self.new) }
         ensures crossed { OnOk result (AreReachedAcross map.now self.new sides.now) }

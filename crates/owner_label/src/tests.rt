@@ -55,30 +55,33 @@ fn two_squares_share_a_region(rt: HostRuntime) -> Result<(), Fail> {
     expect_labels(rt.alloc(), &rt, &[&[&SQUARE], &[&moved]], &expected)
 }
 
+// Two parcels round a gap, which meet above and below it.
+const WEST: [(i32, i32); 8] = [
+    (0, 0),
+    (15, 0),
+    (15, 10),
+    (10, 10),
+    (10, 20),
+    (15, 20),
+    (15, 30),
+    (0, 30),
+];
+
+const EAST: [(i32, i32); 8] = [
+    (15, 0),
+    (30, 0),
+    (30, 30),
+    (15, 30),
+    (15, 20),
+    (20, 20),
+    (20, 10),
+    (15, 10),
+];
+
 #[test]
 fn a_gap_borders_on_the_members_round_it_and_on_the_island_in_it(
     rt: HostRuntime,
 ) -> Result<(), Fail> {
-    let west = [
-        (0, 0),
-        (15, 0),
-        (15, 10),
-        (10, 10),
-        (10, 20),
-        (15, 20),
-        (15, 30),
-        (0, 30),
-    ];
-    let east = [
-        (15, 0),
-        (30, 0),
-        (30, 30),
-        (15, 30),
-        (15, 20),
-        (20, 20),
-        (20, 10),
-        (15, 10),
-    ];
     let island = [(11, 11), (19, 11), (19, 19), (11, 19)];
     let expected = Expected {
         rows: &[
@@ -104,7 +107,7 @@ fn a_gap_borders_on_the_members_round_it_and_on_the_island_in_it(
     expect_labels(
         rt.alloc(),
         &rt,
-        &[&[&west], &[&east], &[&island]],
+        &[&[&WEST], &[&EAST], &[&island]],
         &expected,
     )
 }

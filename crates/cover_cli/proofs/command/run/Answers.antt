@@ -6,7 +6,7 @@ use Rattle.cover_cli.proofs.Answering.{unread, unmade, answered}
 use Rattle.cover_cli.specs.Input.{AreInputs}
 use Rattle.cover_cli.specs.Named.{named}
 use Rattle.cover_cli.specs.Refusal.{IsUnread}
-use Rattle.cover_cli.specs.Written.{IsWritten}
+use Rattle.cover_cli.specs.Written.{IsTextWritten}
 use Rattle.cover_cli.specs.declared.outcome.Outcome.TheVariants.{ReadFault}
 use Rattle.cover_cli.proofs.command.run.Goals as goal
 
@@ -27,7 +27,7 @@ returns-in-Ok-make g c =
     c.in-Ok.ensures.counted c.in-Ok.ensures.kept
     c.in-Ok-make.ensures.made
     (g.met.F.Files.telling c.args.files.now)
-    (subst (λ (to : List ℕ). IsWritten to c.in-Ok-make.made (g.F.Files.state c.read_inputs.new.files) (g.F.Files.state c.written.new.files) c.written.result) c.output.ensures c.written.ensures)
+    (subst (λ (to : List ℕ). IsTextWritten to c.in-Ok-make.made (g.F.Files.state c.read_inputs.new.files) (g.F.Files.state c.written.new.files) c.written.result) c.output.ensures c.written.ensures)
 
 pub returns-in-Err-make : goal.returns-in-Err-make
 returns-in-Err-make g c =

@@ -5,7 +5,7 @@ use Rattle.components.specs.declared.link.Link.{Link}
 use Rattle.components.specs.Connected.{AreWithin, AreComponents}
 use Rattle.components.proofs.Numbers.{number-low}
 use Rattle.face_walk.specs.Links.{AreLinks}
-use Rattle.face_walk.specs.Numbers.{AreLeastSides, AreNumbered}
+use Rattle.face_walk.specs.Numbers.{AreLeastSides, IsNumberTable}
 use Rattle.face_walk.specs.declared.cycle.Cycle.{Cycle}
 use Rattle.face_walk.proofs.Numbering.{links_within, numbered}
 use Rattle.face_walk.proofs.region.Regions.build.Goals as goal
@@ -57,5 +57,5 @@ invariant_of-result c =
     get_or_read connected c.len-past_range.result c.index.result.now (omega (arith, size, long)) c.index.ensures 0 ∙ ap (λ k. slice_index connected k) size in
     let outer : c.least_side-outer.result ≡ option_map (λ (x : Cycle). x.least) (slice_get list (slice_index connected (length list))) =
     c.least_side-outer.ensures ∙ ap (λ k. option_map (λ (x : Cycle). x.least) (slice_get list k)) place in
-    subst (λ (es : List Seg). AreNumbered es c.in_ok-least.least.items c.least_side-outer.result) (sym c.edges-edges.ensures.edges)
+    subst (λ (es : List Seg). IsNumberTable es c.in_ok-least.least.items c.least_side-outer.result) (sym c.edges-edges.ensures.edges)
     (numbered edges c.edges-edges.ensures.planar of list c.in_ok-cycles.ensures c.edges-edges.ensures.distinct links made connected components c.in_ok-least.least.items c.least_side-outer.result least outer)

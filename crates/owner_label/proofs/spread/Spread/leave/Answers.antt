@@ -1,5 +1,5 @@
 use Rattle.std.proofs.Common.{[], ◌∷◌, sym, subst, get_or, arith}
-use Rattle.owner_label.specs.Sided.{region_at}
+use Rattle.owner_label.specs.Sided.{region_on}
 use Rattle.owner_label.specs.Spread.{IsReached, AreReachedAcross}
 use Rattle.owner_label.proofs.Spreading.{grows-trans, crossed-more, crossed_all}
 use Rattle.owner_label.proofs.spread.Spread.leave.Goals as goal
@@ -9,8 +9,8 @@ cross-requires-clause-within c = omega (arith, c.of_number.ensures, c.requires.w
 
 pub cross-requires-clause-reached : goal.cross-requires-clause-reached
 cross-requires-clause-reached c =
-    subst (λ n. IsReached c.loop-side.self (region_at c.args.map.now n)) (sym c.of_number.ensures)
-    (c.loop-side.invariant.grows.reached (region_at c.args.map.now (get_or c.args.sides.now c.loop-side.side-index 0)) (c.requires.reached c.loop-side.side-index 0 c.loop-side-test.true))
+    subst (λ n. IsReached c.loop-side.self (region_on c.args.map.now n)) (sym c.of_number.ensures)
+    (c.loop-side.invariant.grows.reached (region_on c.args.map.now (get_or c.args.sides.now c.loop-side.side-index 0)) (c.requires.reached c.loop-side.side-index 0 c.loop-side-test.true))
 
 pub loop-side-preserved : goal.loop-side-preserved
 loop-side-preserved c =

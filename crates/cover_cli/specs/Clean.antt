@@ -1,0 +1,25 @@
+-- What cleaning a coverage answers and writes.
+use Rattle.std.specs.Prelude.{◌≡◌, ℕ, List}
+use Rattle.cov_types.specs.Coverage.{Members}
+use Rattle.cov_write.specs.Written.{coverage_text}
+use Rattle.merge_rule.specs.RuleState.{RuleState, no_state}
+use Rattle.region_owners.specs.Owner.{Rule, rule_by, least_index, greatest_area, least_area, longest_border}
+use Rattle.sound_polygons.specs.Cleaned.{IsCleaned}
+use Rattle.cover_cli.specs.declared.outcome.Outcome.{Outcome}
+use Rattle.cover_cli.specs.declared.outcome.Outcome.TheVariants.{Done}
+use Rattle.cover_cli.specs.declared.rule_name.RuleName.{RuleName}
+use Rattle.cover_cli.specs.declared.rule_name.RuleName.TheVariants.{LeastIndex, GreatestArea, LeastArea, LongestBorder}
+
+-- the rule of the name
+abbrev pub rule_of : RuleName → Rule RuleState
+rule_of LeastIndex = rule_by least_index
+rule_of GreatestArea = rule_by greatest_area
+rule_of LeastArea = rule_by least_area
+rule_of LongestBorder = rule_by longest_border
+
+-- it is done, and the text is that of the coverage, cleaned by the rule of the name
+pub record IsCleaning (name : RuleName) (members : Members) (outcome : Outcome) (text : List ℕ) : Type 0 where
+  pub done : outcome ≡ Done
+  pub out : Members
+  pub cleaned : IsCleaned members (rule_of name) no_state 0 out
+  pub lines : text ≡ coverage_text out

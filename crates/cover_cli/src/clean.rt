@@ -1,0 +1,55 @@
+ghost use Rattle.std.specs.Prelude.{◌≡◌, ◌≤◌, length, IfOk, IfErr};
+ghost use Rattle.cov_types.specs.Coverage.{AllInRange};
+ghost use Rattle.merge_rule.specs.RuleState.{no_state};
+ghost use Rattle.sound_polygons.specs.Cleaned.{IsCleaned};
+ghost use Rattle.cover_cli.specs.Clean.{rule_of, IsCleaning};
+ghost use Rattle.cover_cli.specs.Input.{longest_input};
+ghost use Rattle.cover_cli.specs.Refusal.{IsRefusedFor};
+ghost use Rattle.cover_cli.specs.Text.{IsReadAnd, RefusesText};
+
+use crate::making::Made;
+use crate::outcome::Outcome;
+use crate::rule_name::RuleName;
+use crate::text::coverage_of;
+use cov_clean::clean;
+use cov_types::{Coverage, NoMemory};
+use cov_write::text_of;
+use merge_rule::{GreatestArea, LeastArea, LeastIndex, LongestBorder};
+use std::alloc::Global;
+
+// The coverage, cleaned by the rule of the name.
+fn cleaned(alloc: Global, c: &Coverage, rule: RuleName) -> Result<Coverage, NoMemory>
+    requires { AllInRange c.now }
+    ensures { IfOk result (λ out. IsCleaned c.now (rule_of rule) no_state 0 out) }
+{
+    match rule {
+        RuleName::LeastIndex => clean(alloc, c, &mut LeastIndex, 0),
+        RuleName::GreatestArea => clean(alloc, c, &mut GreatestArea, 0),
+        RuleName::LeastArea => clean(alloc, c, &mut LeastArea, 0),
+        RuleName::LongestBorder => clean(alloc, c, &mut LongestBorder, 0),
+    }
+}
+
+// The text of the cleaned coverage.
+fn cleaning(alloc: Global, c: &Coverage, rule: RuleName) -> Result<Made, NoMemory>
+    requires { AllInRange c.now }
+    ensures { IfOk result (λ made. IsCleaning rule c.now made.outcome made.text.items) }
+{
+    let cleaned = cleaned(alloc, c, rule)?;
+    let text = text_of(alloc, &cleaned)?;
+    Ok(Made {
+        outcome: Outcome::Done,
+        text,
+    })
+}
+
+/// Cleans the coverage that the input is read as, by the rule of the name.
+pub fn make(alloc: Global, rule: RuleName, input: Vec<u8>) -> Result<Made, Outcome>
+    requires { length input.items ≤ longest_input }
+    ensures made { IfOk result (λ made.
+        IsReadAnd input.items (λ members. IsCleaning rule members made.outcome made.text.items)) }
+    ensures refused { IfErr result (IsRefusedFor (RefusesText input.items)) }
+{
+    let coverage = coverage_of(alloc, input)?;
+    Ok(cleaning(alloc, &coverage, rule)?)
+}

@@ -7,7 +7,7 @@ use Rattle.std.proofs.lemmas.List.Elements.{Contains-get_or}
 use Rattle.std.proofs.lemmas.List.FromFn.{length-range_with_len, get_or-range_with_len}
 use Rattle.std.specs.List.{range_with_len}
 use Rattle.components.specs.declared.link.Link.{Link}
-use Rattle.components.specs.Connected.{AreWithin, IsTied, LeadsAlong, IsConnected, AreComponents}
+use Rattle.components.specs.Connected.{AreLinksWithin, IsTied, LeadsAlong, IsConnected, AreComponents}
 use Rattle.components.specs.Lower.{AreLow, AreConnected, AreKept}
 use Rattle.components.proofs.Ways.{connected-same, connected-tied, connected-trans, connected-within}
 
@@ -192,7 +192,7 @@ joined-more nodes links i d lower after within long low kept connected so_far = 
 -- ---- the numbers are those of the components
 
 -- the least nodes, from those that the ways down lead to
-pub joined-all : (nodes : ℕ) (links : List Link) (count : ℕ) (lower least : List ℕ) → AreWithin nodes links → length links ≤ count → AreJoined nodes links count lower
+pub joined-all : (nodes : ℕ) (links : List Link) (count : ℕ) (lower least : List ℕ) → AreLinksWithin nodes links → length links ≤ count → AreJoined nodes links count lower
     → length least ≡ length lower → AreLow least → AreKept lower (λ x. get_or least x 0) → AreConnected links least → AreComponents nodes links least
 joined-all nodes links count lower least within all joined long low kept connected = record {
   count = long ∙ joined.long;

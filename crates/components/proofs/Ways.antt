@@ -2,7 +2,7 @@
 use Rattle.std.proofs.Common.{◌≡◌, refl, sym, subst, ℕ, ◌<◌, List, [], ◌∷◌, ◌++◌, inl, inr}
 use Rattle.std.proofs.lemmas.List.Elements.{All-contains}
 use Rattle.components.specs.declared.link.Link.{Link}
-use Rattle.components.specs.Connected.{AreWithin, IsTied, LeadsAlong, IsConnected}
+use Rattle.components.specs.Connected.{AreLinksWithin, IsTied, LeadsAlong, IsConnected}
 
 -- a tie holds both ways
 pub tied-sym : (links : List Link) (x y : ℕ) → IsTied links x y → IsTied links y x
@@ -13,7 +13,7 @@ tied-sym links x y tie = record {
 }
 
 -- both nodes of a tie are within
-pub tied-within : (nodes : ℕ) (links : List Link) (x y : ℕ) → AreWithin nodes links → IsTied links x y → (x < nodes) × (y < nodes)
+pub tied-within : (nodes : ℕ) (links : List Link) (x y : ℕ) → AreLinksWithin nodes links → IsTied links x y → (x < nodes) × (y < nodes)
 tied-within nodes links x y within tie =
     let (from, to) = All-contains (λ (l : Link). (l.from < nodes) × (l.to < nodes)) links tie.link within tie.among in
     elim tie.ends [
@@ -43,9 +43,9 @@ leads-back links x y (v ∷ way) leads =
 pub connected-sym : (links : List Link) (x y : ℕ) → IsConnected links x y → IsConnected links y x
 connected-sym links x y (way, leads) = leads-back links x y way leads
 
-leads-within : (nodes : ℕ) (links : List Link) (x y : ℕ) (way : List ℕ) → AreWithin nodes links → x < nodes → LeadsAlong links x way y → y < nodes
+leads-within : (nodes : ℕ) (links : List Link) (x y : ℕ) (way : List ℕ) → AreLinksWithin nodes links → x < nodes → LeadsAlong links x way y → y < nodes
 leads-within nodes links x y [] within below same = subst (λ z. z < nodes) same below
 leads-within nodes links x y (v ∷ way) within below leads = leads-within nodes links v y way within (tied-within nodes links x v within leads.0).1 leads.1
 
-pub connected-within : (nodes : ℕ) (links : List Link) (x y : ℕ) → AreWithin nodes links → x < nodes → IsConnected links x y → y < nodes
+pub connected-within : (nodes : ℕ) (links : List Link) (x y : ℕ) → AreLinksWithin nodes links → x < nodes → IsConnected links x y → y < nodes
 connected-within nodes links x y within below (way, leads) = leads-within nodes links x y way within below leads

@@ -3,8 +3,8 @@ use Rattle.std.specs.Prelude.{◌≡◌, ◌⊎◌, ℕ, ◌<◌, ◌≤◌, Lis
 use Rattle.components.specs.declared.link.Link.{Link}
 
 -- each link ties two of so many nodes
-abbrev pub AreWithin : ℕ → List Link → Type 0
-AreWithin nodes links = All (λ l. (l.from < nodes) × (l.to < nodes)) links
+abbrev pub AreLinksWithin : ℕ → List Link → Type 0
+AreLinksWithin nodes links = All (λ l. (l.from < nodes) × (l.to < nodes)) links
 
 -- a link of the list ties x and y, in either direction
 pub record IsTied (links : List Link) (x y : ℕ) : Type 0 where

@@ -8,7 +8,7 @@ use Rattle.std.proofs.lemmas.Option.{same_Some, slice_get_within, get_or_from_sl
 use Rattle.std.proofs.Math.ListN.{get_or-eq_default}
 use Rattle.cov_types.specs.declared.seg.Seg.{Seg}
 use Rattle.components.specs.declared.link.Link.{Link}
-use Rattle.components.specs.Connected.{AreWithin, IsTied, LeadsAlong, AreComponents}
+use Rattle.components.specs.Connected.{AreLinksWithin, IsTied, LeadsAlong, AreComponents}
 use Rattle.components.proofs.Numbers.{number-low, same_component}
 use Rattle.components.proofs.Ways.{connected-tied}
 use Rattle.half_edge.proofs.Counts.{number_within, some_half_edge}
@@ -135,7 +135,7 @@ module _ (edges : List Seg) (planar : IsPlanar edges) (of : List ℕ) (list : Li
         let to = is.to in
         (omega (arith, first, from), omega (arith, second, to))
 
-    pub links_within : AreWithin (length list + 1) links
+    pub links_within : AreLinksWithin (length list + 1) links
     links_within i d below = link_within (get_or links i d) (Contains-get_or links i d below)
 
     -- and so do links between nodes

@@ -16,7 +16,7 @@ use Rattle.sector_laws.specs.Sector.{HalfEdge, left, twin}
 use Rattle.sector_laws.proofs.Numbers.{half_edge_side, half_edge_among, forwards_number, back_number}
 use Rattle.region_laws.proofs.Balance.{first_or_later}
 use Rattle.arrangement.specs.Overlay.{Overlay, region_above, region_below, AreBeside}
-use Rattle.shell_laws.specs.Part.{LeadsAcross, IsPart}
+use Rattle.shell_laws.specs.Part.{LeadsAcross, IsPartTest}
 use Rattle.sound_polygons.specs.Parts.{LeadsWithin, InOnePart, IsPartOf}
 use Rattle.sound_polygons.proofs.SameParts.{part_equivalence}
 use Rattle.part_polygons.specs.Inside.{TellsInside}
@@ -154,5 +154,5 @@ module _ (o : Overlay) (regions : AreRegions o.edges o.numbers) (inside : ℕ �
         let on = equivalence.on a.0 r b.0 (equivalence.back r a.0 to_a) to_b in
         leads h g a.0 on.0 b.0 a.1 b.1 to_a on.1
 
-    pub part_test : ((g : ℕ) → IsOuterRegion o.edges g → owners g ≡ Some i → ⊥) → IsPart o.edges passes
+    pub part_test : ((g : ℕ) → IsOuterRegion o.edges g → owners g ≡ Some i → ⊥) → IsPartTest o.edges passes
     part_test free = record { same = same; outside = outside free; connected = connected }

@@ -12,8 +12,8 @@ use Rattle.sector_laws.specs.Sector.{HalfEdge, left, AreDistinct, IsPlanar}
 use Rattle.arrangement.specs.Overlay.{Overlay}
 use Rattle.arrangement.proofs.LiveOverlays.{kept_is}
 use Rattle.shell_laws.specs.Laws.{HasShellFirst}
-use Rattle.shell_laws.specs.Part.{IsPart, is_border, boundary_of, IsTurn}
-use Rattle.shell_laws.specs.Ring.{IsRing, ring_holds}
+use Rattle.shell_laws.specs.Part.{IsPartTest, is_part_border, part_boundary, IsTurn}
+use Rattle.shell_laws.specs.Ring.{IsRingRound, ring_holds}
 use Rattle.shell_laws.proofs.OneRing.{planar_fewer, planar_own, all_or_none}
 use Rattle.shell_laws.proofs.Points.{no_hole}
 use Rattle.shell_laws.proofs.Simple.{no_vertex_twice}
@@ -28,16 +28,16 @@ all_map : {X Y : Type 0} (P : Y → Type 0) (f : X → Y) (xs : List X) → ((x 
 all_map P f [] each = All-nil P
 all_map P f (x ∷ xs) each = All-cons P (f x) (map f xs) (each x (contains_here x xs)) (all_map P f xs (λ y has. each y (contains_there x y xs has)))
 
-module _ (o : Overlay) (planar : IsPlanar o.edges) (distinct : AreDistinct o.edges) (inside : ℕ → Bool) (passes : HalfEdge → Bool) (tells : TellsInside o inside passes) (part : IsPart o.edges passes)
+module _ (o : Overlay) (planar : IsPlanar o.edges) (distinct : AreDistinct o.edges) (inside : ℕ → Bool) (passes : HalfEdge → Bool) (tells : TellsInside o inside passes) (part : IsPartTest o.edges passes)
     (shell : List HalfEdge) (holes : List (List HalfEdge)) (first : HasShellFirst o.edges passes shell holes) where
   abbrev rings : List (List HalfEdge)
   rings = shell ∷ holes
 
   abbrev border : List Seg
-  border = boundary_of o.edges passes
+  border = part_boundary o.edges passes
 
   abbrev Ring : List HalfEdge → Type 0
-  Ring ring = IsRing o.edges passes ring
+  Ring ring = IsRingRound o.edges passes ring
 
   is_ring : (ring : List HalfEdge) → Contains rings ring → Ring ring
   is_ring ring has = All-contains Ring rings ring first.rings.each has
@@ -46,7 +46,7 @@ module _ (o : Overlay) (planar : IsPlanar o.edges) (distinct : AreDistinct o.edg
   of_border ring is k has = All-contains (λ m. Contains border m.edge) ring k is.way.border has
 
   in_edges : (e : Seg) → Contains border e → Contains o.edges e
-  in_edges e has = (kept_is (is_border passes) o.edges e has).0
+  in_edges e has = (kept_is (is_part_border passes) o.edges e has).0
 
   simple : (ring : List HalfEdge) → Ring ring → IsSimple (points_of ring)
   simple ring is = record {

@@ -8,7 +8,7 @@ use Rattle.plane.specs.Region.{IsOuterRegion, IsRegionOf, AreRegions}
 use Rattle.sector_laws.specs.Sector.{HalfEdge, origin, AreDistinct, IsPlanar}
 use Rattle.arrangement.specs.Overlay.{Overlay}
 use Rattle.shell_laws.specs.Laws.{HasShellFirst}
-use Rattle.shell_laws.specs.Part.{IsPart}
+use Rattle.shell_laws.specs.Part.{IsPartTest}
 use Rattle.sound_polygons.specs.Cleaned.{BeginsAtLeast}
 use Rattle.sound_polygons.specs.Parts.{IsPartOf, ring_edges, IsSound, is_in_polygon}
 use Rattle.part_polygons.specs.Inside.{TellsInside, points_of}
@@ -20,22 +20,22 @@ TestExistsLaw = (o : Overlay) → AreDistinct o.edges → (inside : ℕ → Bool
 -- the half-edges with a part of an owner on their left are a part, where the owner does not have the outer region
 abbrev pub PartTestLaw : Type 0
 PartTestLaw = (o : Overlay) → AreRegions o.edges o.numbers → (inside : ℕ → Bool) (passes : HalfEdge → Bool) → TellsInside o inside passes
-    → (owners : ℕ → Option ℕ) (i r : ℕ) → IsPartOf o owners i r inside → ((g : ℕ) → IsOuterRegion o.edges g → ¬ (owners g ≡ Some i)) → IsPart o.edges passes
+    → (owners : ℕ → Option ℕ) (i r : ℕ) → IsPartOf o owners i r inside → ((g : ℕ) → IsOuterRegion o.edges g → ¬ (owners g ≡ Some i)) → IsPartTest o.edges passes
 
 -- the rings of a part, its shell first, are a polygon that is sound for it
 abbrev pub SoundLaw : Type 0
-SoundLaw = (o : Overlay) → IsPlanar o.edges → AreDistinct o.edges → (inside : ℕ → Bool) (passes : HalfEdge → Bool) → TellsInside o inside passes → IsPart o.edges passes
+SoundLaw = (o : Overlay) → IsPlanar o.edges → AreDistinct o.edges → (inside : ℕ → Bool) (passes : HalfEdge → Bool) → TellsInside o inside passes → IsPartTest o.edges passes
     → (shell : List HalfEdge) (holes : List (List HalfEdge)) → HasShellFirst o.edges passes shell holes → IsSound o inside (map points_of (shell ∷ holes))
 
 -- off the edges the polygon has the points of the regions inside
 abbrev pub PointLaw : Type 0
-PointLaw = (o : Overlay) → IsPlanar o.edges → AreDistinct o.edges → AreRegions o.edges o.numbers → (inside : ℕ → Bool) (passes : HalfEdge → Bool) → TellsInside o inside passes → IsPart o.edges passes
+PointLaw = (o : Overlay) → IsPlanar o.edges → AreDistinct o.edges → AreRegions o.edges o.numbers → (inside : ℕ → Bool) (passes : HalfEdge → Bool) → TellsInside o inside passes → IsPartTest o.edges passes
     → (shell : List HalfEdge) (holes : List (List HalfEdge)) → HasShellFirst o.edges passes shell holes
     → (p : Point) → IsOff o.edges p → (g : ℕ) → IsRegionOf o.edges p g → is_in_polygon (map points_of (shell ∷ holes)) p ≡ inside g
 
 -- and so do the edges of all its rings, by even-odd
-abbrev pub EvenOddLaw : Type 0
-EvenOddLaw = (o : Overlay) → IsPlanar o.edges → AreDistinct o.edges → (passes : HalfEdge → Bool) → IsPart o.edges passes
+abbrev pub PolygonEvenOddLaw : Type 0
+PolygonEvenOddLaw = (o : Overlay) → IsPlanar o.edges → AreDistinct o.edges → (passes : HalfEdge → Bool) → IsPartTest o.edges passes
     → (shell : List HalfEdge) (holes : List (List HalfEdge)) → HasShellFirst o.edges passes shell holes
     → (p : Point) → IsOff o.edges p → holds (flat_map ring_edges (map points_of (shell ∷ holes))) p ≡ is_in_polygon (map points_of (shell ∷ holes)) p
 

@@ -1,4 +1,4 @@
-ghost use Rattle.part_polygons.specs.Laws.{TestExistsLaw, PartTestLaw, SoundLaw, PointLaw, EvenOddLaw, BeginsLaw};
+ghost use Rattle.part_polygons.specs.Laws.{TestExistsLaw, PartTestLaw, SoundLaw, PointLaw, PolygonEvenOddLaw, BeginsLaw};
 
 /// Some test tells the half-edges with regions inside on their left; where these regions are a part of an owner, the test is one of a part. A call does nothing.
 pub fn part_test_law()
@@ -15,5 +15,5 @@ pub fn sound_law()
 /// Off the edges the polygon has the points of the part's regions, and so do the edges of all its rings by even-odd. A call does nothing.
 pub fn point_law()
     ensures in_polygon { PointLaw }
-    ensures even_odd { EvenOddLaw }
+    ensures even_odd { PolygonEvenOddLaw }
 {}

@@ -15,8 +15,8 @@ use Rattle.sector_laws.specs.Sector.{HalfEdge, left, AreDistinct, IsPlanar}
 use Rattle.region_laws.specs.Weights.{side_weight, weigh_sides}
 use Rattle.region_owners.proofs.OwnEdges.{IsSideTest, own_sum, jump}
 use Rattle.arrangement.proofs.LiveOverlays.{kept_is}
-use Rattle.shell_laws.specs.Part.{IsPart, is_border, boundary_of}
-use Rattle.shell_laws.specs.Ring.{way_edges, IsRing, AreRings, ring_holds}
+use Rattle.shell_laws.specs.Part.{IsPartTest, is_part_border, part_boundary}
+use Rattle.shell_laws.specs.Ring.{way_edges, IsRingRound, AreRings, ring_holds}
 use Rattle.shell_laws.proofs.Simple.{by_direction}
 use Rattle.shell_laws.proofs.Winding.{sign, winds}
 use Rattle.shell_laws.proofs.OneRing.{holds_count}
@@ -45,9 +45,9 @@ module _ (passes : HalfEdge → Bool) (p : Point) where
       omega (arith, lin, sum_by-cons above e es, sum_by-cons below e es)
 
   -- edges that are not of the boundary weigh nothing
-  border_weights : (edges : List Seg) → crossing_sum (weigh_sides passes (boundary_of edges passes)) p ≡ crossing_sum (weigh_sides passes edges) p
+  border_weights : (edges : List Seg) → crossing_sum (weigh_sides passes (part_boundary edges passes)) p ≡ crossing_sum (weigh_sides passes edges) p
   border_weights [] = refl
-  border_weights (e ∷ es) = by (border_weights es) (is_border passes e) refl
+  border_weights (e ∷ es) = by (border_weights es) (is_part_border passes e) refl
     where
       none : (over up down : Bool) → cond up (not down) down ≡ false → cond over (pos (cond down 1 0) -ℤ pos (cond up 1 0)) (pos 0) ≡ pos 0
       none false up down h = refl
@@ -56,14 +56,14 @@ module _ (passes : HalfEdge → Bool) (p : Point) where
       none true true false h = absurd (false≢true (sym h))
       none true false true h = absurd (false≢true (sym h))
 
-      by : crossing_sum (weigh_sides passes (boundary_of es passes)) p ≡ crossing_sum (weigh_sides passes es) p → (b : Bool) → is_border passes e ≡ b
-          → crossing_sum (weigh_sides passes (cond b (e ∷ boundary_of es passes) (boundary_of es passes))) p ≡ crossing_sum (weigh_sides passes (e ∷ es)) p
+      by : crossing_sum (weigh_sides passes (part_boundary es passes)) p ≡ crossing_sum (weigh_sides passes es) p → (b : Bool) → is_part_border passes e ≡ b
+          → crossing_sum (weigh_sides passes (cond b (e ∷ part_boundary es passes) (part_boundary es passes))) p ≡ crossing_sum (weigh_sides passes (e ∷ es)) p
       by rest true is = ap (λ n. cond (is_over e p) (jump passes e) (pos 0) +ℤ n) rest
       by rest false is = (let nothing = none (is_over e p) (passes (record { edge = e; forwards = true })) (passes (record { edge = e; forwards = false })) is in omega (arith, lin))
 
   -- a half-edge with the part on its left alone
-  one_border : (k : HalfEdge) → passes k ≡ true → is_border passes k.edge ≡ true → cond (is_over k.edge p) (sign k) (pos 0) +ℤ pos (above k.edge) ≡ pos (below k.edge)
-  one_border = by_direction (λ k. passes k ≡ true → is_border passes k.edge ≡ true → cond (is_over k.edge p) (sign k) (pos 0) +ℤ pos (above k.edge) ≡ pos (below k.edge))
+  one_border : (k : HalfEdge) → passes k ≡ true → is_part_border passes k.edge ≡ true → cond (is_over k.edge p) (sign k) (pos 0) +ℤ pos (above k.edge) ≡ pos (below k.edge)
+  one_border = by_direction (λ k. passes k ≡ true → is_part_border passes k.edge ≡ true → cond (is_over k.edge p) (sign k) (pos 0) +ℤ pos (above k.edge) ≡ pos (below k.edge))
       (λ e. up (is_over e p) (passes (record { edge = e; forwards = true })) (passes (record { edge = e; forwards = false })))
       (λ e. down (is_over e p) (passes (record { edge = e; forwards = true })) (passes (record { edge = e; forwards = false })))
     where
@@ -79,12 +79,12 @@ module _ (passes : HalfEdge → Bool) (p : Point) where
       down true true true h k = absurd (false≢true k)
       down true a false h k = absurd (false≢true h)
 
-  ring_weights : (way : List HalfEdge) → All (λ k. passes k ≡ true) way → All (λ k. is_border passes k.edge ≡ true) way
+  ring_weights : (way : List HalfEdge) → All (λ k. passes k ≡ true) way → All (λ k. is_part_border passes k.edge ≡ true) way
       → winds way p +ℤ pos (sum_by above (way_edges way)) ≡ pos (sum_by below (way_edges way))
   ring_weights [] inside border = refl
   ring_weights (k ∷ way) inside border =
-      let first = one_border k (All-head (λ m. passes m ≡ true) k way inside) (All-head (λ m. is_border passes m.edge ≡ true) k way border) in
-      let rest = ring_weights way (All-tail (λ m. passes m ≡ true) k way inside) (All-tail (λ m. is_border passes m.edge ≡ true) k way border) in
+      let first = one_border k (All-head (λ m. passes m ≡ true) k way inside) (All-head (λ m. is_part_border passes m.edge ≡ true) k way border) in
+      let rest = ring_weights way (All-tail (λ m. passes m ≡ true) k way inside) (All-tail (λ m. is_part_border passes m.edge ≡ true) k way border) in
       omega (arith, lin, sum_by-cons above k.edge (way_edges way), sum_by-cons below k.edge (way_edges way))
 
 -- how often the rings together wind round p
@@ -92,16 +92,16 @@ abbrev pub wind_all : List (List HalfEdge) → Point → ℤ
 wind_all rings p = int_sum_by (λ ring. winds ring p) rings
 
 module _ (edges : List Seg) (passes : HalfEdge → Bool) where
-  border_of : (ring : List HalfEdge) → IsRing edges passes ring → All (λ k. is_border passes k.edge ≡ true) ring
-  border_of ring is i d within = (kept_is (is_border passes) edges _ (is.way.border i d within)).1
+  border_of : (ring : List HalfEdge) → IsRingRound edges passes ring → All (λ k. is_part_border passes k.edge ≡ true) ring
+  border_of ring is i d within = (kept_is (is_part_border passes) edges _ (is.way.border i d within)).1
 
-  rings_weights : (p : Point) (rings : List (List HalfEdge)) → All (IsRing edges passes) rings
+  rings_weights : (p : Point) (rings : List (List HalfEdge)) → All (IsRingRound edges passes) rings
       → wind_all rings p +ℤ pos (sum_by (above passes p) (flat_map way_edges rings)) ≡ pos (sum_by (below passes p) (flat_map way_edges rings))
   rings_weights p [] each = refl
   rings_weights p (ring ∷ rings) each =
-      let is = All-head (IsRing edges passes) ring rings each in
+      let is = All-head (IsRingRound edges passes) ring rings each in
       let first = ring_weights passes p ring is.way.inside (border_of ring is) in
-      let rest = rings_weights p rings (All-tail (IsRing edges passes) ring rings each) in
+      let rest = rings_weights p rings (All-tail (IsRingRound edges passes) ring rings each) in
       let up = sum_by-append (above passes p) (way_edges ring) (flat_map way_edges rings) in
       let down = sum_by-append (below passes p) (way_edges ring) (flat_map way_edges rings) in
       omega (arith, lin)
@@ -110,7 +110,7 @@ module _ (edges : List Seg) (passes : HalfEdge → Bool) where
   pub wind_all_is : (rings : List (List HalfEdge)) → AreRings edges passes rings → (p : Point) → wind_all rings p ≡ crossing_sum (weigh_sides passes edges) p
   wind_all_is rings are p =
       let flat = flat_map way_edges rings in
-      let boundary = boundary_of edges passes in
+      let boundary = part_boundary edges passes in
       let here = rings_weights p rings are.each in
       let there = all_weights passes p boundary in
       let up = sum_by-IsPermutation (above passes p) flat boundary are.cover in
@@ -120,7 +120,7 @@ module _ (edges : List Seg) (passes : HalfEdge → Bool) where
 
 -- ---- one ring holds the part
 
-module _ (edges : List Seg) (planar : IsPlanar edges) (distinct : AreDistinct edges) (passes : HalfEdge → Bool) (part : IsPart edges passes) (rings : List (List HalfEdge)) (are : AreRings edges passes rings) where
+module _ (edges : List Seg) (planar : IsPlanar edges) (distinct : AreDistinct edges) (passes : HalfEdge → Bool) (part : IsPartTest edges passes) (rings : List (List HalfEdge)) (are : AreRings edges passes rings) where
   pub test : IsSideTest edges passes
   test = record { same = part.same; outside = part.outside }
 
@@ -128,11 +128,11 @@ module _ (edges : List Seg) (planar : IsPlanar edges) (distinct : AreDistinct ed
   wind_all_side h has = wind_all_is edges passes rings are (left h) ∙ own_sum edges planar distinct passes test h has
 
   module _ (h : HalfEdge) (has : Contains edges h.edge) (pass : passes h ≡ true) where
-    counted : (some : List (List HalfEdge)) → All (IsRing edges passes) some → pos (count_by (λ ring. ring_holds ring (left h)) some) ≡ wind_all some (left h)
+    counted : (some : List (List HalfEdge)) → All (IsRingRound edges passes) some → pos (count_by (λ ring. ring_holds ring (left h)) some) ≡ wind_all some (left h)
     counted [] each = refl
     counted (ring ∷ some) each =
-        let first = holds_count edges planar passes part ring (All-head (IsRing edges passes) ring some each) h has pass in
-        let rest = counted some (All-tail (IsRing edges passes) ring some each) in
+        let first = holds_count edges planar passes part ring (All-head (IsRingRound edges passes) ring some each) h has pass in
+        let rest = counted some (All-tail (IsRingRound edges passes) ring some each) in
         omega (arith, lin, sum_by-cons (λ r. cond (ring_holds r (left h)) 1 0) ring some)
 
     pub one_shell : count_by (λ ring. ring_holds ring (left h)) rings ≡ 1

@@ -22,8 +22,8 @@ use Rattle.region_laws.proofs.Balance.{first_or_later}
 use Rattle.region_laws.proofs.Links.{link_out}
 use Rattle.region_laws.proofs.Nearest.{nearest_or_none}
 use Rattle.region_laws.proofs.Outwards.{below_earlier}
-use Rattle.shell_laws.specs.Part.{IsPart, boundary_of, AreTurns}
-use Rattle.shell_laws.specs.Ring.{way_edges, IsRing, ring_holds, last_of}
+use Rattle.shell_laws.specs.Part.{IsPartTest, part_boundary, AreTurns}
+use Rattle.shell_laws.specs.Ring.{way_edges, IsRingRound, ring_holds, last_of}
 use Rattle.shell_laws.proofs.Simple.{by_direction, twin_from, twin_to, meets}
 use Rattle.shell_laws.proofs.Winding.{holds_none, holds_one}
 use Rattle.shell_laws.proofs.OneRing.{way_has, same_edge, planar_own, far, inner_step, own_count}
@@ -63,7 +63,7 @@ none_in false false z w h k l = l
 
 -- ---- a ring that begins at its least vertex
 
-module _ (edges : List Seg) (planar : IsPlanar edges) (passes : HalfEdge → Bool) (part : IsPart edges passes) (h : HalfEdge) (rest : List HalfEdge) (is : IsRing edges passes (h ∷ rest))
+module _ (edges : List Seg) (planar : IsPlanar edges) (passes : HalfEdge → Bool) (part : IsPartTest edges passes) (h : HalfEdge) (rest : List HalfEdge) (is : IsRingRound edges passes (h ∷ rest))
     (least : All (λ k. IsTrue (is_before (origin h) (origin k))) rest) where
   abbrev ring : List HalfEdge
   ring = h ∷ rest
@@ -90,7 +90,7 @@ module _ (edges : List Seg) (planar : IsPlanar edges) (passes : HalfEdge → Boo
   at_back : Leaves own v back
   at_back = record {
     among = contains-map (λ (x : HalfEdge). x.edge) ring last (last_in h rest);
-    from = twin_from last ∙ last_meets (boundary_of edges passes) h rest h is.closed;
+    from = twin_from last ∙ last_meets (part_boundary edges passes) h rest h is.closed;
   }
 
   not_again : (n : HalfEdge) → Contains rest n → origin n ≡ v → ⊥
@@ -106,7 +106,7 @@ module _ (edges : List Seg) (planar : IsPlanar edges) (passes : HalfEdge → Boo
           | inl here ↦ inl (one ∙ sym here)
           | inr later ↦ absurd (not_again m later (ap origin (sym one) ∙ at.from))
         ]
-        | inr other ↦ elim (follows (boundary_of edges passes) h rest h is.closed m found.1.0) [
+        | inr other ↦ elim (follows (part_boundary edges passes) h rest h is.closed m found.1.0) [
           | inl at_last ↦ inr (other ∙ ap twin at_last)
           | inr next ↦ absurd (not_again next.0 next.1.0 (sym next.1.1 ∙ sym (twin_from m) ∙ ap origin (sym other) ∙ at.from))
         ]
@@ -123,8 +123,8 @@ module _ (edges : List Seg) (planar : IsPlanar edges) (passes : HalfEdge → Boo
   begins m has = elim (first_or_later h rest m has) [ inl here ↦ inl (ap origin (sym here)) | inr later ↦ inr (m, (later, refl)) ]
 
   ends : (m : HalfEdge) → Contains ring m → (target m ≡ v) ⊎ ((n : HalfEdge) × (Contains rest n × (target m ≡ origin n)))
-  ends m has = elim (follows (boundary_of edges passes) h rest h is.closed m has) [
-    | inl at_last ↦ inl (ap target at_last ∙ last_meets (boundary_of edges passes) h rest h is.closed)
+  ends m has = elim (follows (part_boundary edges passes) h rest h is.closed m has) [
+    | inl at_last ↦ inl (ap target at_last ∙ last_meets (part_boundary edges passes) h rest h is.closed)
     | inr next ↦ inr next
   ]
 

@@ -22,8 +22,8 @@ use Rattle.region_laws.proofs.Links.{link_out}
 use Rattle.region_laws.proofs.Nearest.{nearest_or_none}
 use Rattle.region_laws.proofs.Outwards.{some_out, leaves_at}
 use Rattle.arrangement.proofs.LiveOverlays.{kept_is}
-use Rattle.shell_laws.specs.Part.{LeadsAcross, IsPart, is_border, boundary_of}
-use Rattle.shell_laws.specs.Ring.{way_edges, IsClosed, IsRing, ring_holds}
+use Rattle.shell_laws.specs.Part.{LeadsAcross, IsPartTest, is_part_border, part_boundary}
+use Rattle.shell_laws.specs.Ring.{way_edges, IsClosed, IsRingRound, ring_holds}
 use Rattle.shell_laws.proofs.Winding.{winds, closed_balanced, winds_joined, winds_swept, winds_own, winds_other, winds_far, holds_none, holds_one}
 
 -- ---- edges of ways
@@ -51,7 +51,7 @@ planar_fewer edges fewer planar among = record {
 }
 
 -- an edge with the part on both sides is not of its boundary
-two_sided : (passes : HalfEdge → Bool) (k : HalfEdge) → passes k ≡ true → passes (twin k) ≡ true → is_border passes k.edge ≡ true → ⊥
+two_sided : (passes : HalfEdge → Bool) (k : HalfEdge) → passes k ≡ true → passes (twin k) ≡ true → is_part_border passes k.edge ≡ true → ⊥
 two_sided passes k one other border = by k.edge k.forwards one other border
   where
     both : (a b : Bool) → a ≡ true → b ≡ true → cond a (not b) b ≡ true → ⊥
@@ -59,21 +59,21 @@ two_sided passes k one other border = by k.edge k.forwards one other border
     both true false h k is = false≢true k
     both false b h k is = false≢true h
 
-    by : (e : Seg) (b : Bool) → passes (record { edge = e; forwards = b }) ≡ true → passes (record { edge = e; forwards = not b }) ≡ true → is_border passes e ≡ true → ⊥
+    by : (e : Seg) (b : Bool) → passes (record { edge = e; forwards = b }) ≡ true → passes (record { edge = e; forwards = not b }) ≡ true → is_part_border passes e ≡ true → ⊥
     by e true one other is = both _ _ one other is
     by e false one other is = both _ _ other one is
 
 -- ---- one ring
 
-module _ (edges : List Seg) (planar : IsPlanar edges) (passes : HalfEdge → Bool) (part : IsPart edges passes) (ring : List HalfEdge) (is : IsRing edges passes ring) where
+module _ (edges : List Seg) (planar : IsPlanar edges) (passes : HalfEdge → Bool) (part : IsPartTest edges passes) (ring : List HalfEdge) (is : IsRingRound edges passes ring) where
   abbrev own : List Seg
   own = way_edges ring
 
-  pub of_boundary : (e : Seg) → Contains own e → Contains edges e × (is_border passes e ≡ true)
+  pub of_boundary : (e : Seg) → Contains own e → Contains edges e × (is_part_border passes e ≡ true)
   of_boundary e has = (
       let found = way_has ring e has in
-      let border = All-contains (λ m. Contains (boundary_of edges passes) m.edge) ring found.0 is.way.border found.1.0 in
-      kept_is (is_border passes) edges e (subst (Contains (boundary_of edges passes)) found.1.1 border))
+      let border = All-contains (λ m. Contains (part_boundary edges passes) m.edge) ring found.0 is.way.border found.1.0 in
+      kept_is (is_part_border passes) edges e (subst (Contains (part_boundary edges passes)) found.1.1 border))
 
   pub among : (e : Seg) → Contains own e → Contains edges e
   among e has = (of_boundary e has).0
@@ -82,7 +82,7 @@ module _ (edges : List Seg) (planar : IsPlanar edges) (passes : HalfEdge → Boo
   planar_own = planar_fewer edges own planar among
 
   pub along : (p q : Point) → Joined own p q → winds ring p ≡ winds ring q
-  along p q j = winds_joined ring (winds_swept edges planar ring among is.way.once) (closed_balanced (boundary_of edges passes) ring is.closed) p q j
+  along p q j = winds_joined ring (winds_swept edges planar ring among is.way.once) (closed_balanced (part_boundary edges passes) ring is.closed) p q j
 
   pub far : (p : Point) → IsOuter own p → winds ring p ≡ pos 0
   far p out = along p far_point out ∙ winds_far edges planar ring among is.way.once
@@ -125,7 +125,7 @@ module _ (edges : List Seg) (planar : IsPlanar edges) (passes : HalfEdge → Boo
     pub once_or_never : (count ≡ pos 0) ⊎ (count ≡ pos 1)
     once_or_never = by ring is.closed (λ k has. contains-map (λ (x : HalfEdge). x.edge) ring k has)
       where
-        by : (some : List HalfEdge) → IsClosed (boundary_of edges passes) some → ((k : HalfEdge) → Contains some k → Contains own k.edge) → (count ≡ pos 0) ⊎ (count ≡ pos 1)
+        by : (some : List HalfEdge) → IsClosed (part_boundary edges passes) some → ((k : HalfEdge) → Contains some k → Contains own k.edge) → (count ≡ pos 0) ⊎ (count ≡ pos 1)
         by [] closed there = absurd closed
         by (h ∷ rest) closed there =
             let out = some_out own planar_own h (there h (contains_here h rest)) in

@@ -20,8 +20,8 @@ use Rattle.region_owners.proofs.OwnEdges.{sum_joined, own_sum}
 use Rattle.region_laws.proofs.Balance.{first_or_later}
 use Rattle.region_laws.proofs.Edge.{below_joined, none_below_outer}
 use Rattle.region_laws.proofs.Nearest.{nearest_or_none}
-use Rattle.shell_laws.specs.Part.{IsPart}
-use Rattle.shell_laws.specs.Ring.{way_edges, IsInPart, IsRing, AreRings, ring_holds, is_within}
+use Rattle.shell_laws.specs.Part.{IsPartTest}
+use Rattle.shell_laws.specs.Ring.{way_edges, IsInPart, IsRingRound, AreRings, ring_holds, is_within}
 use Rattle.shell_laws.proofs.Winding.{winds, over_way, holds_none, holds_one}
 use Rattle.shell_laws.proofs.OneRing.{among, far, elsewhere, holds_count}
 use Rattle.shell_laws.proofs.AllRings.{wind_all, wind_all_is, test, one_shell}
@@ -94,24 +94,24 @@ down_or_none w c is (inl none) = inl none
 down_or_none w c is (inr (inl same)) = inl (same ∙ is)
 down_or_none w c is (inr (inr less)) = inr (omega (arith, lin))
 
-module _ (edges : List Seg) (planar : IsPlanar edges) (distinct : AreDistinct edges) (passes : HalfEdge → Bool) (part : IsPart edges passes) (shell : List HalfEdge) (holes : List (List HalfEdge))
+module _ (edges : List Seg) (planar : IsPlanar edges) (distinct : AreDistinct edges) (passes : HalfEdge → Bool) (part : IsPartTest edges passes) (shell : List HalfEdge) (holes : List (List HalfEdge))
     (are : AreRings edges passes (shell ∷ holes)) (h : HalfEdge) (in_h : Contains edges h.edge) (pass_h : passes h ≡ true) (holds_h : ring_holds shell (left h) ≡ true) where
   abbrev rings : List (List HalfEdge)
   rings = shell ∷ holes
 
-  off_ring : (ring : List HalfEdge) → IsRing edges passes ring → (p : Point) → IsOff edges p → IsOff (way_edges ring) p
+  off_ring : (ring : List HalfEdge) → IsRingRound edges passes ring → (p : Point) → IsOff edges p → IsOff (way_edges ring) p
   off_ring ring is p off = λ e has. off e (among edges planar passes part ring is e has)
 
   shell_winds : (p : Point) → IsOff edges p → winds shell p ≡ pos (cond (ring_holds shell p) 1 0)
   shell_winds p off =
-      let is = All-head (IsRing edges passes) shell holes are.each in
+      let is = All-head (IsRingRound edges passes) shell holes are.each in
       let once = sym (holds_count edges planar passes part shell is h in_h pass_h) ∙ ap (λ b. pos (cond b 1 0)) holds_h in
       elim (up_or_none _ _ once (elsewhere edges planar passes part shell is h in_h pass_h p (off_ring shell is p off))) [
         | inl none ↦ none ∙ sym (ap (λ b. pos (cond b 1 0)) (holds_none shell p none))
         | inr one ↦ one ∙ sym (ap (λ b. pos (cond b 1 0)) (holds_one shell p (inl one)))
       ]
 
-  hole_winds : (hole : List HalfEdge) → IsRing edges passes hole → ring_holds hole (left h) ≡ false → (p : Point) → IsOff edges p → winds hole p +ℤ pos (cond (ring_holds hole p) 1 0) ≡ pos 0
+  hole_winds : (hole : List HalfEdge) → IsRingRound edges passes hole → ring_holds hole (left h) ≡ false → (p : Point) → IsOff edges p → winds hole p +ℤ pos (cond (ring_holds hole p) 1 0) ≡ pos 0
   hole_winds hole is none_h p off =
       let never = sym (holds_count edges planar passes part hole is h in_h pass_h) ∙ ap (λ b. pos (cond b 1 0)) none_h in
       elim (down_or_none _ _ never (elsewhere edges planar passes part hole is h in_h pass_h p (off_ring hole is p off))) [
@@ -119,13 +119,13 @@ module _ (edges : List Seg) (planar : IsPlanar edges) (distinct : AreDistinct ed
         | inr one ↦ (let told = ap (λ b. pos (cond b 1 0)) (holds_one hole p (inr one)) in omega (arith, lin))
       ]
 
-  holes_wind : (some : List (List HalfEdge)) → All (IsRing edges passes) some → count_by (λ ring. ring_holds ring (left h)) some ≡ 0 → (p : Point) → IsOff edges p
+  holes_wind : (some : List (List HalfEdge)) → All (IsRingRound edges passes) some → count_by (λ ring. ring_holds ring (left h)) some ≡ 0 → (p : Point) → IsOff edges p
       → wind_all some p +ℤ pos (count_by (λ ring. ring_holds ring p) some) ≡ pos 0
   holes_wind [] each none p off = refl
   holes_wind (hole ∷ some) each none p off =
       let sum = sum_by-cons (λ ring. cond (ring_holds ring (left h)) 1 0) hole some in
-      let first = hole_winds hole (All-head (IsRing edges passes) hole some each) (zero_false (ring_holds hole (left h)) (omega (arith, sum, none))) p off in
-      let rest = holes_wind some (All-tail (IsRing edges passes) hole some each) (omega (arith, sum, none)) p off in
+      let first = hole_winds hole (All-head (IsRingRound edges passes) hole some each) (zero_false (ring_holds hole (left h)) (omega (arith, sum, none))) p off in
+      let rest = holes_wind some (All-tail (IsRingRound edges passes) hole some each) (omega (arith, sum, none)) p off in
       omega (arith, lin, sum_by-cons (λ ring. cond (ring_holds ring p) 1 0) hole some)
 
   holes_none : count_by (λ ring. ring_holds ring (left h)) holes ≡ 0
@@ -135,12 +135,12 @@ module _ (edges : List Seg) (planar : IsPlanar edges) (distinct : AreDistinct ed
       let first = ap (λ b. cond {A = ℕ} b 1 0) holds_h in
       omega (arith, one, sum, first)
 
-  none_outer : (p : Point) → IsOuter edges p → (some : List (List HalfEdge)) → All (IsRing edges passes) some → wind_all some p ≡ pos 0
+  none_outer : (p : Point) → IsOuter edges p → (some : List (List HalfEdge)) → All (IsRingRound edges passes) some → wind_all some p ≡ pos 0
   none_outer p out [] each = refl
   none_outer p out (ring ∷ some) each =
-      let is = All-head (IsRing edges passes) ring some each in
+      let is = All-head (IsRingRound edges passes) ring some each in
       let first = far edges planar passes part ring is p (joined-fewer edges (way_edges ring) (among edges planar passes part ring is) p far_point out) in
-      let rest = none_outer p out some (All-tail (IsRing edges passes) ring some each) in
+      let rest = none_outer p out some (All-tail (IsRingRound edges passes) ring some each) in
       omega (arith, lin)
 
   -- no hole holds the part
@@ -149,7 +149,7 @@ module _ (edges : List Seg) (planar : IsPlanar edges) (distinct : AreDistinct ed
 
   module _ (p : Point) (off : IsOff edges p) where
     total : wind_all rings p +ℤ pos (count_by (λ ring. ring_holds ring p) holes) ≡ pos (cond (ring_holds shell p) 1 0)
-    total = let first = shell_winds p off in let rest = holes_wind holes (All-tail (IsRing edges passes) shell holes are.each) holes_none p off in omega (arith, lin)
+    total = let first = shell_winds p off in let rest = holes_wind holes (All-tail (IsRingRound edges passes) shell holes are.each) holes_none p off in omega (arith, lin)
 
     in_once : IsInPart edges passes p → wind_all rings p ≡ pos 1
     in_once (g, has, pass, way) =

@@ -9,8 +9,8 @@ use Rattle.crossing_laws.proofs.Lists.{contains_here, contains_there}
 use Rattle.sector_laws.specs.Sector.{HalfEdge, twin, IsNext}
 use Rattle.sector_laws.proofs.Next.{twin-twin}
 use Rattle.region_laws.proofs.Balance.{first_or_later}
-use Rattle.shell_laws.specs.Part.{boundary_of, IsTurn, AreTurns}
-use Rattle.shell_laws.specs.Ring.{IsClosed, IsRing, last_of, AreNexts, IsWalkOutside}
+use Rattle.shell_laws.specs.Part.{part_boundary, IsTurn, AreTurns}
+use Rattle.shell_laws.specs.Ring.{IsClosed, IsRingRound, last_of, AreNexts, IsWalkOutside}
 
 -- the twins of the walk in reverse order, before the others
 onto : List HalfEdge → List HalfEdge → List HalfEdge
@@ -79,9 +79,9 @@ pairs_onto done (k ∷ ks) pairs apart rest =
 
 -- ---- the ring
 
-pub walk_ring : (edges : List Seg) (passes : HalfEdge → Bool) (f : HalfEdge) (walk : List HalfEdge) → IsWalkOutside edges passes f walk → IsRing edges passes (reverse (map twin (f ∷ walk)))
+pub walk_ring : (edges : List Seg) (passes : HalfEdge → Bool) (f : HalfEdge) (walk : List HalfEdge) → IsWalkOutside edges passes f walk → IsRingRound edges passes (reverse (map twin (f ∷ walk)))
 unfolding onto
-walk_ring edges passes f walk is = subst (IsRing edges passes) (sym (reversed [] (f ∷ walk)) ∙ append-nil (reverse (map twin (f ∷ walk)))) (record {
+walk_ring edges passes f walk is = subst (IsRingRound edges passes) (sym (reversed [] (f ∷ walk)) ∙ append-nil (reverse (map twin (f ∷ walk)))) (record {
   way = record {
     border = all_onto (λ k. Contains boundary k.edge) [] (f ∷ walk) (All-nil (λ k. Contains boundary k.edge)) is.border;
     inside = all_onto (λ k. passes k ≡ true) [] (f ∷ walk) (All-nil (λ k. passes k ≡ true)) is.inside;
@@ -92,7 +92,7 @@ walk_ring edges passes f walk is = subst (IsRing edges passes) (sym (reversed []
 })
   where
     boundary : List Seg
-    boundary = boundary_of edges passes
+    boundary = part_boundary edges passes
 
     closed : IsClosed boundary (onto [] (f ∷ walk))
     closed = closed_onto boundary f f [] walk tt refl is.nexts

@@ -12,7 +12,7 @@ use Rattle.crossing_laws.specs.Crossing.{HaveEvenEnds}
 use Rattle.crossing_laws.proofs.Lists.{contains_here, contains_there}
 use Rattle.sector_laws.specs.Sector.{HalfEdge, origin, target, twin, AreDistinct, IsPlanar}
 use Rattle.region_laws.proofs.Balance.{first_or_later}
-use Rattle.shell_laws.specs.Part.{IsPart, boundary_of, IsTurn, AreTurns, IsWayRound}
+use Rattle.shell_laws.specs.Part.{IsPartTest, part_boundary, IsTurn, AreTurns, IsWayRound}
 use Rattle.shell_laws.proofs.Whole.{both_or_neither}
 
 -- ---- ends of half-edges
@@ -47,9 +47,9 @@ distinct_cons e es fresh distinct i zero d less within same = omega arith
 distinct_cons e es fresh distinct zero (suc j) d less within same = fresh (j, omega arith, get_or_default es j e d (omega arith) ∙ sym same)
 distinct_cons e es fresh distinct (suc i) (suc j) d less within same = distinct i j d (omega arith) (omega arith) same
 
-module _ (edges : List Seg) (planar : IsPlanar edges) (passes : HalfEdge → Bool) (part : IsPart edges passes) (h : HalfEdge) where
+module _ (edges : List Seg) (planar : IsPlanar edges) (passes : HalfEdge → Bool) (part : IsPartTest edges passes) (h : HalfEdge) where
   abbrev boundary : List Seg
-  boundary = boundary_of edges passes
+  boundary = part_boundary edges passes
 
   -- the edges of a way from h to c
   record IsStretch (done : List Seg) (c : HalfEdge) : Type 0 where
@@ -121,16 +121,16 @@ module _ (edges : List Seg) (planar : IsPlanar edges) (passes : HalfEdge → Boo
       not_again : (m : HalfEdge) → Contains rest m → h.edge ≡ m.edge → ⊥
       not_again m (i, within, is) same = way.once 0 (suc i) m (omega arith) (omega arith) (same ∙ sym (ap (λ (x : HalfEdge). x.edge) is))
 
-module _ (edges : List Seg) (planar : IsPlanar edges) (passes : HalfEdge → Bool) (part : IsPart edges passes) where
+module _ (edges : List Seg) (planar : IsPlanar edges) (passes : HalfEdge → Bool) (part : IsPartTest edges passes) where
   rest_way : (h : HalfEdge) (rest : List HalfEdge) → IsWayRound edges passes (h ∷ rest) → IsWayRound edges passes rest
   rest_way h rest way = record {
-    border = All-tail (λ m. Contains (boundary_of edges passes) m.edge) h rest way.border;
+    border = All-tail (λ m. Contains (part_boundary edges passes) m.edge) h rest way.border;
     inside = All-tail (λ m. passes m ≡ true) h rest way.inside;
     turns = turns_of rest way.turns;
     once = λ i j d less within. way.once (suc i) (suc j) d (omega arith) (omega arith);
   }
     where
-      turns_of : (ks : List HalfEdge) → AreTurns (boundary_of edges passes) (h ∷ ks) → AreTurns (boundary_of edges passes) ks
+      turns_of : (ks : List HalfEdge) → AreTurns (part_boundary edges passes) (h ∷ ks) → AreTurns (part_boundary edges passes) ks
       turns_of [] turns = tt
       turns_of (k ∷ ks) turns = turns.1
 
@@ -140,5 +140,5 @@ module _ (edges : List Seg) (planar : IsPlanar edges) (passes : HalfEdge → Boo
   apart (h ∷ rest) round zero (suc j) d less within = first_alone edges planar passes part h rest round j d (omega arith)
   apart (h ∷ rest) round (suc i) (suc j) d less within = apart rest (rest_way h rest round) i j d (omega arith) (omega arith)
 
-pub no_vertex_twice : (edges : List Seg) → IsPlanar edges → (passes : HalfEdge → Bool) → IsPart edges passes → (way : List HalfEdge) → IsWayRound edges passes way → AllPairs (λ h g. ¬ (origin h ≡ origin g)) way
+pub no_vertex_twice : (edges : List Seg) → IsPlanar edges → (passes : HalfEdge → Bool) → IsPartTest edges passes → (way : List HalfEdge) → IsWayRound edges passes way → AllPairs (λ h g. ¬ (origin h ≡ origin g)) way
 no_vertex_twice edges planar passes part way round = apart edges planar passes part way round

@@ -23,7 +23,7 @@ use Rattle.sector_laws.specs.Sector.{HalfEdge, left, twin, AreDistinct, IsPlanar
 use Rattle.sector_laws.proofs.Sectors.{next_joined}
 use Rattle.region_laws.proofs.Balance.{first_or_later, distinct_first, distinct_rest}
 use Rattle.arrangement.proofs.LiveOverlays.{kept_is}
-use Rattle.shell_laws.specs.Part.{LeadsAcross, IsPart, is_border, boundary_of, IsTurn}
+use Rattle.shell_laws.specs.Part.{LeadsAcross, IsPartTest, is_part_border, part_boundary, IsTurn}
 
 -- ---- how often an edge stands in a list of distinct ones
 
@@ -57,12 +57,12 @@ counted e (x ∷ xs) distinct = by (counted e xs (distinct_rest x xs distinct)) 
 
 -- ---- which sides the edges hold
 
-module _ (edges : List Seg) (planar : IsPlanar edges) (passes : HalfEdge → Bool) (part : IsPart edges passes) where
+module _ (edges : List Seg) (planar : IsPlanar edges) (passes : HalfEdge → Bool) (part : IsPartTest edges passes) where
   abbrev boundary : List Seg
-  boundary = boundary_of edges passes
+  boundary = part_boundary edges passes
 
-  of_boundary : (e : Seg) → Contains boundary e → Contains edges e × (is_border passes e ≡ true)
-  of_boundary e has = kept_is (is_border passes) edges e has
+  of_boundary : (e : Seg) → Contains boundary e → Contains edges e × (is_part_border passes e ≡ true)
+  of_boundary e has = kept_is (is_part_border passes) edges e has
 
   in_range : (e : Seg) → Contains edges e → IsSegInRange e
   in_range e has = All-contains IsSegInRange edges e planar.in_range has
@@ -105,7 +105,7 @@ module _ (edges : List Seg) (planar : IsPlanar edges) (passes : HalfEdge → Boo
         none true false h k is = false≢true k
         none false b h k is = false≢true h
 
-        by : (e : Seg) (b : Bool) → passes (record { edge = e; forwards = b }) ≡ true → passes (record { edge = e; forwards = not b }) ≡ true → is_border passes e ≡ true → ⊥
+        by : (e : Seg) (b : Bool) → passes (record { edge = e; forwards = b }) ≡ true → passes (record { edge = e; forwards = not b }) ≡ true → is_part_border passes e ≡ true → ⊥
         by e true one other is = none _ _ one other is
         by e false one other is = none _ _ other one is
 
@@ -139,6 +139,6 @@ module _ (edges : List Seg) (planar : IsPlanar edges) (passes : HalfEdge → Boo
         let on_right = alike (twin g) (twin h) (next_joined boundary planar_boundary (twin g) (twin h) turn) in
         (both h g in_h in_g on_left (sym on_right), both g h in_g in_h (sym on_left) on_right)
 
-pub both_or_neither : (edges : List Seg) → IsPlanar edges → (passes : HalfEdge → Bool) → IsPart edges passes → (h g : HalfEdge) → passes h ≡ true → passes g ≡ true → IsTurn (boundary_of edges passes) h g
-    → (some : List Seg) → AreDistinct some → ((e : Seg) → Contains some e → Contains (boundary_of edges passes) e) → HaveEvenEnds some → Contains some h.edge ↔ Contains some g.edge
+pub both_or_neither : (edges : List Seg) → IsPlanar edges → (passes : HalfEdge → Bool) → IsPartTest edges passes → (h g : HalfEdge) → passes h ≡ true → passes g ≡ true → IsTurn (part_boundary edges passes) h g
+    → (some : List Seg) → AreDistinct some → ((e : Seg) → Contains some e → Contains (part_boundary edges passes) e) → HaveEvenEnds some → Contains some h.edge ↔ Contains some g.edge
 both_or_neither edges planar passes part h g pass_h pass_g turn some distinct among even = both_ways edges planar passes part some distinct among even h g pass_h pass_g turn

@@ -12,19 +12,19 @@ LeadsAcross edges passes h (k ∷ way) g =
     Joined edges (left h) (left k) × Contains edges k.edge × (passes k ≡ true) × (passes (twin k) ≡ true) × LeadsAcross edges passes (twin k) way g
 
 -- the test tells a part: whether it is on the left of a half-edge. It is the same at joined side points, false outside, and connected
-pub record IsPart (edges : List Seg) (passes : HalfEdge → Bool) : Type 0 where
+pub record IsPartTest (edges : List Seg) (passes : HalfEdge → Bool) : Type 0 where
   pub same : (h g : HalfEdge) → Contains edges h.edge → Contains edges g.edge → Joined edges (left h) (left g) → passes h ≡ passes g
   pub outside : (h : HalfEdge) → Contains edges h.edge → IsOuter edges (left h) → passes h ≡ false
   pub connected : (h g : HalfEdge) → Contains edges h.edge → Contains edges g.edge → passes h ≡ true → passes g ≡ true
       → (way : List HalfEdge) × LeadsAcross edges passes h way g
 
 -- the part is on exactly one side of the edge
-abbrev pub is_border : (HalfEdge → Bool) → Seg → Bool
-is_border passes e = cond (passes (record { edge = e; forwards = true })) (not (passes (record { edge = e; forwards = false }))) (passes (record { edge = e; forwards = false }))
+abbrev pub is_part_border : (HalfEdge → Bool) → Seg → Bool
+is_part_border passes e = cond (passes (record { edge = e; forwards = true })) (not (passes (record { edge = e; forwards = false }))) (passes (record { edge = e; forwards = false }))
 
 -- the boundary of the part
-abbrev pub boundary_of : List Seg → (HalfEdge → Bool) → List Seg
-boundary_of edges passes = filter (is_border passes) edges
+abbrev pub part_boundary : List Seg → (HalfEdge → Bool) → List Seg
+part_boundary edges passes = filter (is_part_border passes) edges
 
 -- g follows h round the part on their left: no edge of the boundary leaves within the angle on their right
 abbrev pub IsTurn : List Seg → HalfEdge → HalfEdge → Type 0
@@ -38,7 +38,7 @@ AreTurns boundary (h ∷ g ∷ way) = IsTurn boundary h g × AreTurns boundary (
 
 -- a way round the part: half-edges along its boundary with the part on the left, each turning to the next, and no edge twice
 pub record IsWayRound (edges : List Seg) (passes : HalfEdge → Bool) (way : List HalfEdge) : Type 0 where
-  pub border : All (λ h. Contains (boundary_of edges passes) h.edge) way
+  pub border : All (λ h. Contains (part_boundary edges passes) h.edge) way
   pub inside : All (λ h. passes h ≡ true) way
-  pub turns : AreTurns (boundary_of edges passes) way
+  pub turns : AreTurns (part_boundary edges passes) way
   pub once : AllPairs (λ h g. ¬ (h.edge ≡ g.edge)) way

@@ -7,7 +7,7 @@ use Rattle.plane.specs.Joined.{Joined}
 use Rattle.plane.specs.Parity.{holds}
 use Rattle.plane.specs.Point.{Point}
 use Rattle.sector_laws.specs.Sector.{HalfEdge, left, twin, IsNext}
-use Rattle.shell_laws.specs.Part.{boundary_of, AreTurns, IsWayRound}
+use Rattle.shell_laws.specs.Part.{part_boundary, AreTurns, IsWayRound}
 
 -- the edges of a way
 abbrev pub way_edges : List HalfEdge → List Seg
@@ -19,14 +19,14 @@ IsClosed boundary [] = ⊥
 IsClosed boundary (h ∷ way) = AreTurns boundary (h ∷ (way ++ h ∷ []))
 
 -- a ring round the part: a closed way round it
-pub record IsRing (edges : List Seg) (passes : HalfEdge → Bool) (ring : List HalfEdge) : Type 0 where
+pub record IsRingRound (edges : List Seg) (passes : HalfEdge → Bool) (ring : List HalfEdge) : Type 0 where
   pub way : IsWayRound edges passes ring
-  pub closed : IsClosed (boundary_of edges passes) ring
+  pub closed : IsClosed (part_boundary edges passes) ring
 
 -- the rings of the part: each edge of its boundary stands in one of them, once
 pub record AreRings (edges : List Seg) (passes : HalfEdge → Bool) (rings : List (List HalfEdge)) : Type 0 where
-  pub each : All (IsRing edges passes) rings
-  pub cover : IsPermutation (flat_map way_edges rings) (boundary_of edges passes)
+  pub each : All (IsRingRound edges passes) rings
+  pub cover : IsPermutation (flat_map way_edges rings) (part_boundary edges passes)
 
 -- the ring holds the point
 abbrev pub ring_holds : List HalfEdge → Point → Bool
@@ -53,7 +53,7 @@ AreNexts boundary (f ∷ g ∷ walk) = IsNext boundary f g × AreNexts boundary 
 
 -- a walk round the part from outside, from f: along its boundary with the part on the right, the next of the last one is the first, and no edge twice
 pub record IsWalkOutside (edges : List Seg) (passes : HalfEdge → Bool) (f : HalfEdge) (walk : List HalfEdge) : Type 0 where
-  pub border : All (λ k. Contains (boundary_of edges passes) k.edge) (f ∷ walk)
+  pub border : All (λ k. Contains (part_boundary edges passes) k.edge) (f ∷ walk)
   pub inside : All (λ k. passes (twin k) ≡ true) (f ∷ walk)
-  pub nexts : AreNexts (boundary_of edges passes) (f ∷ (walk ++ f ∷ []))
+  pub nexts : AreNexts (part_boundary edges passes) (f ∷ (walk ++ f ∷ []))
   pub once : AllPairs (λ h g. ¬ (h.edge ≡ g.edge)) (f ∷ walk)

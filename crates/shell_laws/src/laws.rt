@@ -1,4 +1,4 @@
-ghost use Rattle.shell_laws.specs.Laws.{WholeLaw, SimpleLaw, OutsideLaw, RegionPartLaw, NextOutsideLaw, WalkLaw, AllOrNoneLaw, OneShellLaw, LeastVertexLaw, InPartLaw, EvenOddLaw};
+ghost use Rattle.shell_laws.specs.Laws.{WholeLaw, SimpleLaw, OutsideLaw, RegionPartLaw, NextOutsideLaw, WalkOutsideLaw, AllOrNoneLaw, OneShellLaw, LeastVertexLaw, InPartLaw, PartEvenOddLaw};
 
 /// Edges of a part's boundary with even ends have two half-edges that follow one another, or neither; so a way round a part passes no vertex twice. A call does nothing.
 pub fn part_law()
@@ -19,7 +19,7 @@ pub fn region_law()
 /// Next half-edges round a part's boundary keep the part on the right, and a walk of them round it is a ring when it is taken back. A call does nothing.
 pub fn walk_law()
     ensures outside { NextOutsideLaw }
-    ensures ring { WalkLaw }
+    ensures ring { WalkOutsideLaw }
 {}
 
 /// A ring round a part holds all of the part or none of it, and exactly one of the part's rings, its shell, holds it. A call does nothing.
@@ -36,5 +36,5 @@ pub fn least_vertex_law()
 /// Off the edges a point is in a part exactly where the shell holds it and no hole does, and exactly where the edges of all the part's rings hold it. A call does nothing.
 pub fn point_law()
     ensures in_part { InPartLaw }
-    ensures even_odd { EvenOddLaw }
+    ensures even_odd { PartEvenOddLaw }
 {}

@@ -2,7 +2,7 @@ use Rattle.std.proofs.Common.{◌≡◌, sym, ◌∙◌, ap, subst, ℕ, ◌+◌
 use Rattle.std.proofs.lemmas.List.{get_or_read}
 use Rattle.cov_types.specs.declared.seg.Seg.{Seg}
 use Rattle.components.specs.declared.link.Link.{Link}
-use Rattle.components.specs.Connected.{AreWithin, AreComponents}
+use Rattle.components.specs.Connected.{AreLinksWithin, AreComponents}
 use Rattle.components.proofs.Numbers.{number-low}
 use Rattle.face_walk.specs.Links.{AreLinks}
 use Rattle.face_walk.specs.Numbers.{AreLeastSides, IsNumberTable}
@@ -18,7 +18,7 @@ components-requires c =
     let size : c.len-past_range.result ≡ length list = omega (arith, c.len-past_range.ensures) in
     let links = c.deref.result.now in
     let made = subst (λ (ls : List Link). AreLinks edges of list ls) (sym c.deref.ensures.value) c.in_ok-links.ensures in
-    record { within = subst (λ (n : ℕ). AreWithin (n + 1) links) (sym size) (links_within edges c.edges-edges.ensures.planar of list c.in_ok-cycles.ensures c.edges-edges.ensures.distinct links made) }
+    record { within = subst (λ (n : ℕ). AreLinksWithin (n + 1) links) (sym size) (links_within edges c.edges-edges.ensures.planar of list c.in_ok-cycles.ensures c.edges-edges.ensures.distinct links made) }
 
 pub least_sides-requires : goal.least_sides-requires
 least_sides-requires c =

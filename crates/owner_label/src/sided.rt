@@ -78,6 +78,7 @@ impl<'a> SidedEdges<'a> {
         ensures within { result < 2 * length self.now.edges }
         ensures sided { AreSided self.now }
     {
-        self.regions[side.number()]
+        let regions = self.regions;
+        regions[side.number()]
     }
 }

@@ -13,8 +13,8 @@ nonzero_div-result c =
     (rows_read c.args.e c.args.p c.requires.edge_in_range c.requires.point_in_range c.requires.under c.turn_to.result c.rise.result c.unsigned_abs-turn.result c.unsigned_abs-rise.result
     c.turn_to.ensures.side c.turn_to.ensures.small c.unsigned_abs-turn.ensures.value c.rise.ensures.exact c.rise.ensures.small c.unsigned_abs-rise.ensures.value).0
 
-pub overflow_cast-result : goal.overflow_cast-result
-overflow_cast-result c =
+pub overflow_cast-result-2 : goal.overflow_cast-result-2
+overflow_cast-result-2 c =
     let few =
     (rows_read c.args.e c.args.p c.requires.edge_in_range c.requires.point_in_range c.requires.under c.turn_to.result c.rise.result c.unsigned_abs-turn.result c.unsigned_abs-rise.result
     c.turn_to.ensures.side c.turn_to.ensures.small c.unsigned_abs-turn.ensures.value c.rise.ensures.exact c.rise.ensures.small c.unsigned_abs-rise.ensures.value).2 in

@@ -1,0 +1,13 @@
+-- What the laws ask of the owners of the regions of an overlay.
+use Rattle.std.specs.Prelude.{◌≡◌, ℕ, ◌<◌, Option, Some}
+use Rattle.plane.specs.Region.{IsOuterRegion, AreRegions}
+use Rattle.sector_laws.specs.Sector.{AreDistinct, IsPlanar}
+use Rattle.arrangement.specs.Overlay.{Overlay, IsRegion}
+
+-- the edges are distinct and meet in ends alone, the numbers are those of their regions, each owner is one of so many members, and the outer region has none
+pub record AreMemberOwners (o : Overlay) (owners : ℕ → Option ℕ) (members : ℕ) : Type 0 where
+  pub planar : IsPlanar o.edges
+  pub distinct : AreDistinct o.edges
+  pub regions : AreRegions o.edges o.numbers
+  pub below : (r i : ℕ) → IsRegion o.edges r → owners r ≡ Some i → i < members
+  pub outer_free : (r i : ℕ) → IsOuterRegion o.edges r → ¬ (owners r ≡ Some i)

@@ -1,0 +1,6 @@
+//! What is built of owners, and the cleaned coverage.
+#![tactic(auto)]
+
+mod laws;
+
+pub use laws::built_law;

@@ -6,3 +6,6 @@ pub mod MemberUses
 pub mod Built
 pub mod Holders
 pub mod Valid
+pub mod Snapped
+pub mod Cleaned
+pub mod Labelled

@@ -1,7 +1,19 @@
-ghost use Rattle.cleaned_laws.specs.Laws.{BuiltHoldsLaw, BuiltValidLaw};
+ghost use Rattle.cleaned_laws.specs.Laws.{BuiltHoldsLaw, BuiltValidLaw, CleanedOwnersLaw, CleanedValidLaw, CleanedHoldsLaw, CleanedHeldLaw};
 
 /// What is built of owners holds each point by its owner, and is valid. A call does nothing.
 pub fn built_law()
     ensures holds { BuiltHoldsLaw }
     ensures valid { BuiltValidLaw }
+{}
+
+/// The cleaned coverage holds each point by the owner of its region, and is valid. A call does nothing.
+pub fn cleaned_law<State>()
+    ensures owners { CleanedOwnersLaw State }
+    ensures valid { CleanedValidLaw State }
+    ensures holds { CleanedHoldsLaw State }
+{}
+
+/// In the cleaned coverage the label of a point tells who holds it. A call does nothing.
+pub fn label_law<State>()
+    ensures { CleanedHeldLaw State }
 {}

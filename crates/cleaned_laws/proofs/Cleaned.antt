@@ -51,7 +51,7 @@ none_pass p [] none = refl
 none_pass p (x ∷ xs) none = ap (λ b. cond b (x ∷ filter p xs) (filter p xs)) (none x) ∙ none_pass p xs none
 
 -- the point past the range is one of the outer region
-far_region : (edges : List Seg) (r : ℕ) → IsOuterRegion edges r → IsRegionOf edges far_point r
+pub far_region : (edges : List Seg) (r : ℕ) → IsOuterRegion edges r → IsRegionOf edges far_point r
 far_region edges r outer = record {
   joined = record { at = outer.outer.at; side = outer.outer.side; joined = joined-sym edges outer.outer.at far_point outer.outer.outer };
   least = λ n other. outer.least n (record { at = other.at; side = other.side; outer = joined-sym edges far_point other.at other.joined });
@@ -65,7 +65,7 @@ far_label o live = none_pass (λ m. member_holds o.uses m far_point) (numbers_be
         mapped (λ (u : EdgeUse). u.seg) IsSegInRange o.uses (λ u has. All-contains IsSegInRange o.edges u.seg live.planar.in_range (live.listed u has))
         (get_or (segments o.uses) k d) (Contains-get_or (segments o.uses) k d within))
 
-outer_label : (o : Overlay) → IsLiveOverlay o → (r : ℕ) → IsOuterRegion o.edges r → label_of o r ≡ []
+pub outer_label : (o : Overlay) → IsLiveOverlay o → (r : ℕ) → IsOuterRegion o.edges r → label_of o r ≡ []
 outer_label o live r outer = label_is o live far_point r (far_region o.edges r outer) ∙ far_label o live
 
 -- ---- the owners of a cleaning

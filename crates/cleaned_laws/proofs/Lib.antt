@@ -9,3 +9,4 @@ pub mod Valid
 pub mod Snapped
 pub mod Cleaned
 pub mod Labelled
+pub mod Union

@@ -9,12 +9,12 @@ use Rattle.plane.specs.Point.{Point}
 use Rattle.plane.specs.Validity.{IsValid}
 use Rattle.arrangement.specs.declared.odd_use.OddUse.{OddUse}
 use Rattle.arrangement.specs.Noding.{IsNoded}
-use Rattle.arrangement.specs.Overlay.{Overlay}
+use Rattle.arrangement.specs.Overlay.{Overlay, IsOverlayOf}
 use Rattle.region_owners.specs.Owner.{Rule, IsLawful}
 use Rattle.sound_polygons.specs.Cleaned.{IsBuilt, IsCleaned}
-use Rattle.sound_polygons.specs.Holding.{HoldsByOwner}
+use Rattle.sound_polygons.specs.Holding.{HoldsByOwner, IsUnionOf}
 use Rattle.cleaned_laws.specs.Labelled.{IsHeldByLabel}
-use Rattle.cleaned_laws.specs.Owning.{AreMemberOwners}
+use Rattle.cleaned_laws.specs.Owning.{AreMemberOwners, AreUnionOwners}
 
 -- what is built of owners: each point off the edges is held by the owner of its region and by no other member, and by none where it has no owner or no region
 abbrev pub BuiltHoldsLaw : Type 0
@@ -43,3 +43,13 @@ abbrev pub CleanedHeldLaw : (State : Type 0) → Type 0
 CleanedHeldLaw State = (members : Members) → AllInRange members → (rule : Rule State) → IsLawful rule → (state : State) (w : ℕ) (out : Members) → (cleaned : IsCleaned members rule state w out)
     → (edges : List Seg) (odd : List OddUse) → (noded : IsNoded (uses_of members) edges odd)
     → (p : Point) → IsOff edges p → IsHeldByLabel rule state cleaned.overlay w out (label_at noded.snapped (length members) p) p
+
+-- what is built of a valid coverage's overlay for one owner of all regions with a label holds the points that some member holds
+abbrev pub UnionHoldsLaw : Type 0
+UnionHoldsLaw = (members : Members) → AllInRange members → IsValid (uses_of members) → (o : Overlay) → IsOverlayOf (uses_of members) (length members) o
+    → (owners : ℕ → Option ℕ) → AreUnionOwners o owners → (out : Members) → IsBuilt o owners 1 out → IsUnionOf members out
+
+-- and it is valid
+abbrev pub UnionValidLaw : Type 0
+UnionValidLaw = (members : Members) → AllInRange members → IsValid (uses_of members) → (o : Overlay) → IsOverlayOf (uses_of members) (length members) o
+    → (owners : ℕ → Option ℕ) → AreUnionOwners o owners → (out : Members) → IsBuilt o owners 1 out → IsValid (uses_of out)

@@ -1,4 +1,4 @@
-ghost use Rattle.cleaned_laws.specs.Laws.{BuiltHoldsLaw, BuiltValidLaw, CleanedOwnersLaw, CleanedValidLaw, CleanedHoldsLaw, CleanedHeldLaw};
+ghost use Rattle.cleaned_laws.specs.Laws.{BuiltHoldsLaw, BuiltValidLaw, CleanedOwnersLaw, CleanedValidLaw, CleanedHoldsLaw, CleanedHeldLaw, UnionHoldsLaw, UnionValidLaw};
 
 /// What is built of owners holds each point by its owner, and is valid. A call does nothing.
 pub fn built_law()
@@ -16,4 +16,10 @@ pub fn cleaned_law<State>()
 /// In the cleaned coverage the label of a point tells who holds it. A call does nothing.
 pub fn label_law<State>()
     ensures { CleanedHeldLaw State }
+{}
+
+/// What is built for one owner of all regions with a label is the union of a valid coverage, and is valid. A call does nothing.
+pub fn union_law()
+    ensures holds { UnionHoldsLaw }
+    ensures valid { UnionValidLaw }
 {}

@@ -3,4 +3,4 @@
 
 mod laws;
 
-pub use laws::{built_law, cleaned_law, label_law};
+pub use laws::{built_law, cleaned_law, label_law, union_law};

@@ -1,8 +1,8 @@
 -- What is built of owners: its segments are edges of the overlay, a member has each once at most, and holds the regions that it owns.
-use mathlib.Core.List.{[], ◌∷◌}
-use Rattle.std.proofs.Common.{◌≡◌, ◌⊎◌, inl, inr, refl, sym, ◌∙◌, ap, subst, ℕ, ◌+◌, ◌≤◌, ◌<◌, ◌%◌, ◌==◌, ◌&&◌, ◌↔◌, Bool, true, false, cond, List, map, length, get_or, arith}
-use Rattle.std.specs.Prelude.{Contains, sum_by, count_by, Option, Some, slice_get}
-use Rattle.std.proofs.lemmas.Bool.{false_from_ne_true, cases_lt, and_parts, and_from, cases_order}
+use mathlib.Core.List.{[]}
+use Rattle.std.proofs.Common.{◌≡◌, inl, inr, refl, sym, ◌∙◌, ap, subst, ℕ, ◌≤◌, ◌<◌, ◌%◌, ◌==◌, ◌&&◌, ◌↔◌, Bool, true, false, cond, List, get_or, arith}
+use Rattle.std.specs.Prelude.{Contains, sum_by, Option, Some, slice_get}
+use Rattle.std.proofs.lemmas.Bool.{false_from_ne_true, cases_lt, and_from, cases_order}
 use Rattle.std.proofs.lemmas.Bool.Decides.{Decides-eqb}
 use Rattle.std.proofs.lemmas.Option.{slice_get-get_or, slice_get_within, get_or_from_slice_get}
 use Rattle.cov_types.specs.declared.coord.Coord.{Coord}
@@ -23,8 +23,8 @@ use Rattle.sound_polygons.specs.Cleaned.{IsBuilt}
 use Rattle.cleaned_laws.specs.Owning.{AreMemberOwners}
 use Rattle.cleaned_laws.proofs.Level.{over}
 use Rattle.cleaned_laws.proofs.MemberUses.{of_member, uses_at, uses_none}
-use Rattle.cleaned_laws.proofs.PartEdges.{border_value, border_sum}
-use Rattle.cleaned_laws.proofs.Pieces.{pieces_of, pieces_sum, rings_of, odd_owned, owned_odd, border_at_most}
+use Rattle.cleaned_laws.proofs.PartEdges.{boundary_value}
+use Rattle.cleaned_laws.proofs.OwnedPolygons.{owned_polygons, polygons_sum, odd_owned, owned_odd, boundary_at_most}
 use Rattle.cleaned_laws.proofs.Sums.{sum_same, sum_at_most, sum_exchanged, sum_numbered, numbered_within, one_of_sum, some_counted, PassOnce, at_most_one}
 
 pub region_of : (edges : List Seg) (p : Point) (r : ℕ) → IsRegionOf edges p r → IsRegion edges r
@@ -85,9 +85,9 @@ module _ (o : Overlay) (owners : ℕ → Option ℕ) (members : ℕ) (are : AreM
         elim (cases_lt m members) [
           | inl below ↦ (
               let polys = member_at m below in
-              let pieces = pieces_of o owners members are m polys.0 (built.each m polys.0 polys.1) in
+              let polygons = owned_polygons o owners members are m polys.0 (built.each m polys.0 polys.1) in
               let there = ap (λ n. n % 2) (sym (own_uses m over_p polys.0 polys.1)) ∙ odd in
-              odd_owned o owners members are m pieces.0 pieces.1.1 p r own (subst (λ xs. sum_by (λ u. over p u.seg) (member_uses (m, xs)) % 2 ≡ 1) (sym pieces.1.0) there)
+              odd_owned o owners members are m polygons.0 polygons.1.1 p r own (subst (λ xs. sum_by (λ u. over p u.seg) (member_uses (m, xs)) % 2 ≡ 1) (sym polygons.1.0) there)
               )
           | inr past ↦ absurd (let none = no_uses m over_p past in omega (arith, none, odd))
         ]
@@ -96,9 +96,9 @@ module _ (o : Overlay) (owners : ℕ → Option ℕ) (members : ℕ) (are : AreM
     owned_held owned =
         let region = region_of o.edges p r own in
         let polys = member_at m (are.below r m region owned) in
-        let pieces = pieces_of o owners members are m polys.0 (built.each m polys.0 polys.1) in
-        let odd = owned_odd o owners members are m pieces.0 pieces.1.1 p r own (record { region = region; owned = owned }) in
-        let there = subst (λ xs. sum_by (λ u. over p u.seg) (member_uses (m, xs)) % 2 ≡ 1) pieces.1.0 odd in
+        let polygons = owned_polygons o owners members are m polys.0 (built.each m polys.0 polys.1) in
+        let odd = owned_odd o owners members are m polygons.0 polygons.1.1 p r own (record { region = region; owned = owned }) in
+        let there = subst (λ xs. sum_by (λ u. over p u.seg) (member_uses (m, xs)) % 2 ≡ 1) polygons.1.0 odd in
         (Decides-eqb (sum_by (passing m over_p) (uses_of out) % 2) 1).1 (ap (λ n. n % 2) (own_uses m over_p polys.0 polys.1) ∙ there)
 
     -- a member holds a point exactly where it owns its region
@@ -113,13 +113,13 @@ module _ (o : Overlay) (owners : ℕ → Option ℕ) (members : ℕ) (are : AreM
 
     edge_uses : (polys : List (List (List Coord))) → slice_get out m ≡ Some polys → sum_by (λ u. same u.seg) (member_uses (m, polys)) ≤ sum_by same o.edges
     edge_uses polys found =
-        let pieces = pieces_of o owners members are m polys (built.each m polys found) in
-        let ps = pieces.0 in
-        let all = sym (ap (λ xs. sum_by (λ u. same u.seg) (member_uses (m, xs))) pieces.1.0)
-        ∙ pieces_sum o owners members are m (λ u. same u.seg) ps
-        ∙ sum_exchanged (λ q s. border_value o same q.sound.inside s) ps (numbered_edges o) in
-        let most = sum_at_most (λ s. sum_by (λ q. border_value o same q.sound.inside s) ps) (λ s. same s.1) (numbered_edges o)
-        (λ s has. border_at_most o owners members are m ps pieces.1.1 s.0 (let within = (numbered_within 0 o.edges s has).1 in omega (arith, within)) same s.1) in
+        let polygons = owned_polygons o owners members are m polys (built.each m polys found) in
+        let ps = polygons.0 in
+        let all = sym (ap (λ xs. sum_by (λ u. same u.seg) (member_uses (m, xs))) polygons.1.0)
+        ∙ polygons_sum o owners members are m (λ u. same u.seg) ps
+        ∙ sum_exchanged (λ q s. boundary_value o same q.sound.inside s) ps (numbered_edges o) in
+        let most = sum_at_most (λ s. sum_by (λ q. boundary_value o same q.sound.inside s) ps) (λ s. same s.1) (numbered_edges o)
+        (λ s has. boundary_at_most o owners members are m ps polygons.1.1 s.0 (let within = (numbered_within 0 o.edges s has).1 in omega (arith, within)) same s.1) in
         let numbered = sum_numbered same 0 o.edges in
         omega (arith, all, most, numbered)
 

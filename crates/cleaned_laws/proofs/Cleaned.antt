@@ -1,7 +1,7 @@
 -- The owners of a cleaned coverage are members and none has the outer region, so the coverage is valid and holds each point by its owner.
 use mathlib.Core.List.{[], ◌∷◌}
-use Rattle.std.proofs.Common.{◌≡◌, inl, inr, refl, sym, ◌∙◌, ap, subst, ℕ, ◌<◌, Bool, true, false, cond, List, filter, length, arith}
-use Rattle.std.specs.Prelude.{All, AllPairs, Contains, Option, Some, None, get_or, IsTrue}
+use Rattle.std.proofs.Common.{◌≡◌, inl, inr, refl, sym, ◌∙◌, ap, subst, ℕ, ◌<◌, Bool, false, cond, List, filter, length}
+use Rattle.std.specs.Prelude.{All, Contains, Some, get_or}
 use Rattle.std.proofs.lemmas.Bool.{true≢false}
 use Rattle.std.proofs.lemmas.List.Elements.{All-contains, Contains-get_or}
 use Rattle.std.proofs.lemmas.Option.{none-some}
@@ -19,25 +19,24 @@ use Rattle.plane.specs.Parity.{member_holds}
 use Rattle.plane.specs.Point.{Point}
 use Rattle.plane.specs.Region.{far_point, IsOuterRegion, IsRegionOf}
 use Rattle.plane.specs.Validity.{IsValid}
-use Rattle.crossing_laws.proofs.Lists.{contains_here, contains_there}
 use Rattle.crossing_laws.proofs.Located.{region-joined}
 use Rattle.crossing_laws.proofs.Ways.{joined-sym}
 use Rattle.sector_laws.specs.Sector.{AreDistinct}
 use Rattle.arrangement.specs.declared.odd_use.OddUse.{OddUse}
 use Rattle.arrangement.specs.Live.{IsLiveOverlay}
 use Rattle.arrangement.specs.Noding.{segments, IsAscending, IsNoded}
-use Rattle.arrangement.specs.Overlay.{Overlay, IsRegion, label_of, IsSnappedOverlay}
+use Rattle.arrangement.specs.Overlay.{Overlay, label_of}
 use Rattle.arrangement.proofs.Labels.{mapped, far_free}
 use Rattle.arrangement.proofs.LiveOverlays.{label_is}
 use Rattle.arrangement.proofs.OddUses.{odd_used}
 use Rattle.arrangement.proofs.OneNoding.{same_snapped}
-use Rattle.region_owners.specs.Owner.{Rule, IsOwner, label_owner, owner_by}
+use Rattle.region_owners.specs.Owner.{Rule, IsOwner, owner_by}
 use Rattle.region_owners.proofs.Owners.{owner_below}
 use Rattle.sound_polygons.specs.Cleaned.{IsCleaned}
 use Rattle.sound_polygons.specs.Holding.{HoldsByOwner}
 use Rattle.cleaned_laws.specs.Owning.{AreMemberOwners}
 use Rattle.cleaned_laws.proofs.Holders.{built_holds}
-use Rattle.cleaned_laws.proofs.Snapped.{snapped_live}
+use Rattle.cleaned_laws.proofs.SnappedLive.{snapped_live}
 use Rattle.cleaned_laws.proofs.Valid.{built_valid}
 
 pub ascending_distinct : (edges : List Seg) → IsAscending edges → AreDistinct edges

@@ -1,6 +1,6 @@
 -- What is built of owners holds each point off the edges by the owner of its region.
-use Rattle.std.proofs.Common.{◌≡◌, ◌⊎◌, inl, inr, refl, sym, ◌∙◌, ap, subst, ℕ, ◌*◌, Bool, true, List, map, arith}
-use Rattle.std.specs.Prelude.{All, Contains, Option, Some, None, slice_get, get_or}
+use Rattle.std.proofs.Common.{◌≡◌, ◌⊎◌, inl, inr, sym, ◌∙◌, ℕ, true, List}
+use Rattle.std.specs.Prelude.{All, Contains, Option, get_or}
 use Rattle.std.proofs.lemmas.Bool.{false≢true}
 use Rattle.std.proofs.lemmas.List.Elements.{All-contains, Contains-get_or}
 use Rattle.std.proofs.lemmas.Option.{none-some}

@@ -23,7 +23,7 @@ use Rattle.part_polygons.specs.Inside.{TellsInside}
 use Rattle.part_polygons.proofs.PartTest.{on_left, part_test}
 use Rattle.part_polygons.proofs.TestExists.{test_exists}
 use Rattle.cleaned_laws.specs.Owning.{AreMemberOwners}
-use Rattle.cleaned_laws.proofs.PartEdges.{if_one, border_value, border_sum}
+use Rattle.cleaned_laws.proofs.PartEdges.{if_one, boundary_value, boundary_total}
 
 -- 1 for an edge over the point
 abbrev pub over : Point → Seg → ℕ
@@ -48,7 +48,7 @@ module _ (o : Overlay) (planar : IsPlanar o.edges) (distinct : AreDistinct o.edg
     (test : IsSideTest o.edges passes) (p : Point) where
   all_over : (n : ℕ) (es : List Seg) → ((k : ℕ) (e : Seg) → Contains (enumerate_from n es) (k, e)
       → (passes (record { edge = e; forwards = true }) ≡ inside (region_above o k)) × (passes (record { edge = e; forwards = false }) ≡ inside (region_below o k)))
-      → (m : ℕ) × (crossing_sum (weigh_sides passes es) p +ℤ pos (m + m) ≡ pos (sum_by (border_value o (over p) inside) (enumerate_from n es)))
+      → (m : ℕ) × (crossing_sum (weigh_sides passes es) p +ℤ pos (m + m) ≡ pos (sum_by (boundary_value o (over p) inside) (enumerate_from n es)))
   all_over n [] each = (0, refl)
   all_over n (e ∷ es) each =
       let here = each n e (contains_here (n, e) (enumerate_from (n + 1) es)) in
@@ -56,8 +56,8 @@ module _ (o : Overlay) (planar : IsPlanar o.edges) (distinct : AreDistinct o.edg
       let first = one_over (is_over e p) (passes (record { edge = e; forwards = true })) (passes (record { edge = e; forwards = false })) in
       let is_first = first.1 in
       let is_rest = rest.1 in
-      let told : if_one (passes (record { edge = e; forwards = true })) (passes (record { edge = e; forwards = false })) (over p e) ≡ border_value o (over p) inside (n, e) = λ i. if_one (here.0 i) (here.1 i) (over p e) in
-      (first.0 + rest.0, omega (arith, lin, told, sum_by-cons (border_value o (over p) inside) (n, e) (enumerate_from (n + 1) es)))
+      let told : if_one (passes (record { edge = e; forwards = true })) (passes (record { edge = e; forwards = false })) (over p e) ≡ boundary_value o (over p) inside (n, e) = λ i. if_one (here.0 i) (here.1 i) (over p e) in
+      (first.0 + rest.0, omega (arith, lin, told, sum_by-cons (boundary_value o (over p) inside) (n, e) (enumerate_from (n + 1) es)))
 
   module _ (r : ℕ) (own : IsRegionOf o.edges p r) where
     level : sum_at o.edges planar distinct passes test p ≡ pos (cond (inside r) 1 0)
@@ -70,11 +70,11 @@ module _ (o : Overlay) (planar : IsPlanar o.edges) (distinct : AreDistinct o.edg
         ∙ own_sum o.edges planar distinct passes test h found.1.among
         ∙ ap (λ b. pos (cond b 1 0)) (n.1.told ∙ ap inside (one_region o.edges (left h) n.0 r n.1.own (region-joined o.edges p (left h) r j own)))
 
-    level_parity : border_sum o (over p) inside % 2 ≡ cond (inside r) 1 0
+    level_parity : boundary_total o (over p) inside % 2 ≡ cond (inside r) 1 0
     level_parity = let sum = all_over 0 o.edges (λ k e has. (tells.above k e has, tells.below k e has)) in parity_of (inside r) _ sum.0 _ level sum.1
 
 pub part_parity : (o : Overlay) (owners : ℕ → Option ℕ) (members : ℕ) → AreMemberOwners o owners members → (i g : ℕ) (inside : ℕ → Bool) → IsPartOf o owners i g inside
-    → (p : Point) (r : ℕ) → IsRegionOf o.edges p r → border_sum o (over p) inside % 2 ≡ cond (inside r) 1 0
+    → (p : Point) (r : ℕ) → IsRegionOf o.edges p r → boundary_total o (over p) inside % 2 ≡ cond (inside r) 1 0
 part_parity o owners members are i g inside is p r own =
     let told = test_exists o are.distinct inside in
     let part = part_test o are.regions inside told.0 told.1 owners i g is (λ h out. are.outer_free h i out) in

@@ -1,12 +1,12 @@
 pub mod Sums
 pub mod PartEdges
 pub mod Level
-pub mod Pieces
+pub mod OwnedPolygons
 pub mod MemberUses
 pub mod Built
 pub mod Holders
 pub mod Valid
-pub mod Snapped
+pub mod SnappedLive
 pub mod Cleaned
-pub mod Labelled
+pub mod ByLabel
 pub mod Union

@@ -1,6 +1,6 @@
 -- What the uses of a polygon of a part add up to: a sum over the edges with the part on one side alone.
 use mathlib.Core.List.{[], ◌∷◌}
-use Rattle.std.proofs.Common.{◌≡◌, refl, sym, ◌∙◌, ap, ℕ, ◌+◌, Bool, true, false, not, cond, List, ◌++◌, map, arith}
+use Rattle.std.proofs.Common.{◌≡◌, refl, sym, ◌∙◌, ap, ℕ, ◌+◌, Bool, true, false, not, cond, List, map, arith}
 use Rattle.std.specs.Prelude.{sum_by, flat_map, option_to_list, Option}
 use Rattle.std.specs.List.{enumerate_from}
 use Rattle.std.proofs.lemmas.List.Sums.{sum_by-cons, sum_by-append}
@@ -25,12 +25,12 @@ abbrev pub if_one : Bool → Bool → ℕ → ℕ
 if_one a b n = cond (differ a b) n 0
 
 -- the value of an edge with just one side in a region inside
-abbrev pub border_value : Overlay → (Seg → ℕ) → (ℕ → Bool) → ℕ × Seg → ℕ
-border_value o value inside p = if_one (inside (region_above o p.0)) (inside (region_below o p.0)) (value p.1)
+abbrev pub boundary_value : Overlay → (Seg → ℕ) → (ℕ → Bool) → ℕ × Seg → ℕ
+boundary_value o value inside p = if_one (inside (region_above o p.0)) (inside (region_below o p.0)) (value p.1)
 
 -- the sum of these values
-abbrev pub border_sum : Overlay → (Seg → ℕ) → (ℕ → Bool) → ℕ
-border_sum o value inside = sum_by (border_value o value inside) (numbered_edges o)
+abbrev pub boundary_total : Overlay → (Seg → ℕ) → (ℕ → Bool) → ℕ
+boundary_total o value inside = sum_by (boundary_value o value inside) (numbered_edges o)
 
 module _ (o : Overlay) (i : ℕ) (f : EdgeUse → ℕ) where
   -- the value of the member's use of an edge
@@ -71,12 +71,12 @@ module _ (o : Overlay) (i : ℕ) (f : EdgeUse → ℕ) where
     abbrev way_round : ℕ × Seg → List Way
     way_round p = boundary_way (inside (region_above o p.0)) (inside (region_below o p.0)) p.1
 
-    boundary_sum : (n : ℕ) (es : List Seg) → sum_by side_sum (flat_map way_round (enumerate_from n es)) ≡ sum_by (border_value o use_value inside) (enumerate_from n es)
-    boundary_sum n [] = refl
-    boundary_sum n (e ∷ es) =
+    numbered_sum : (n : ℕ) (es : List Seg) → sum_by side_sum (flat_map way_round (enumerate_from n es)) ≡ sum_by (boundary_value o use_value inside) (enumerate_from n es)
+    numbered_sum n [] = refl
+    numbered_sum n (e ∷ es) =
         sum_by-append side_sum (way_round (n, e)) (flat_map way_round (enumerate_from (n + 1) es))
-        ∙ (λ j. one_edge (inside (region_above o n)) (inside (region_below o n)) e j + boundary_sum (n + 1) es j)
-        ∙ sym (sum_by-cons (border_value o use_value inside) (n, e) (enumerate_from (n + 1) es))
+        ∙ (λ j. one_edge (inside (region_above o n)) (inside (region_below o n)) e j + numbered_sum (n + 1) es j)
+        ∙ sym (sum_by-cons (boundary_value o use_value inside) (n, e) (enumerate_from (n + 1) es))
 
-    pub part_sum : (rings : List (List Coord)) → GoRoundPart o inside rings → sum_by f (poly_uses i rings) ≡ border_sum o use_value inside
-    part_sum rings round = rings_sum rings ∙ sym (sum_by-IsPermutation side_sum (flat_map sides rings) (boundary o inside) round) ∙ boundary_sum 0 o.edges
+    pub part_sum : (rings : List (List Coord)) → GoRoundPart o inside rings → sum_by f (poly_uses i rings) ≡ boundary_total o use_value inside
+    part_sum rings round = rings_sum rings ∙ sym (sum_by-IsPermutation side_sum (flat_map sides rings) (boundary o inside) round) ∙ numbered_sum 0 o.edges

@@ -1,7 +1,7 @@
 -- What is built of a valid coverage's overlay for one owner of all regions with a label is the union of the coverage.
 use mathlib.Core.List.{[], ◌∷◌}
 use Rattle.std.proofs.Common.{◌≡◌, inl, inr, refl, sym, ◌∙◌, ap, subst, ℕ, ◌<◌, ◌%◌, ◌==◌, ◌&&◌, ◌↔◌, true, List, filter, length, arith}
-use Rattle.std.specs.Prelude.{All, Contains, Option, Some, None, get_or, unwrap_or, count_by}
+use Rattle.std.specs.Prelude.{All, Contains, Option, Some, get_or, unwrap_or, count_by}
 use Rattle.std.proofs.lemmas.Bool.{false≢true, and_parts}
 use Rattle.std.proofs.lemmas.Bool.Decides.{Decides-eqb}
 use Rattle.std.proofs.lemmas.List.Elements.{All-contains, All-map, Contains-get_or}
@@ -18,7 +18,7 @@ use Rattle.plane.specs.Noded.{MeetInEnds}
 use Rattle.plane.specs.Parity.{member_holds}
 use Rattle.plane.specs.Point.{Point}
 use Rattle.plane.specs.Ray.{is_over}
-use Rattle.plane.specs.Region.{far_point, IsOuter, IsOuterRegion, IsRegionOf}
+use Rattle.plane.specs.Region.{far_point, IsOuter, IsRegionOf}
 use Rattle.plane.specs.Validity.{IsValid}
 use Rattle.crossing_laws.proofs.Coverages.{swept_in_range, uses_even}
 use Rattle.crossing_laws.proofs.Sums.{member_holds-joined}
@@ -57,8 +57,8 @@ module _ (members : Members) (in_range : AllInRange members) (valid : IsValid (u
   planar = record {
     in_range = λ k d within. All-contains IsSegInRange (segments uses) (get_or o.edges k d) segs_range (of_segment (get_or o.edges k d) (Contains-get_or o.edges k d within));
     noded = λ e f in_e in_f.
-    mapped (λ (u : EdgeUse). u.seg) (λ e. MeetInEnds e f) uses
-    (λ u in_u. mapped (λ (v : EdgeUse). v.seg) (λ f. MeetInEnds u.seg f) uses (λ v in_v. valid.ends u v in_u in_v) f (of_segment f in_f)) e (of_segment e in_e);
+        mapped (λ (u : EdgeUse). u.seg) (λ e. MeetInEnds e f) uses
+        (λ u in_u. mapped (λ (v : EdgeUse). v.seg) (λ f. MeetInEnds u.seg f) uses (λ v in_v. valid.ends u v in_u in_v) f (of_segment f in_f)) e (of_segment e in_e);
   }
 
   live : IsLiveOverlay o

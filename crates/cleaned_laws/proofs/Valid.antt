@@ -1,6 +1,6 @@
 -- What is built of owners is valid.
-use Rattle.std.proofs.Common.{◌≡◌, inl, inr, refl, sym, ◌∙◌, ap, ℕ, ◌≤◌, ◌==◌, ◌&&◌, Bool, true, cond, List, arith}
-use Rattle.std.specs.Prelude.{Contains, Option, Some, unwrap_or}
+use Rattle.std.proofs.Common.{◌≡◌, inl, inr, refl, sym, ◌∙◌, ap, ℕ, ◌==◌, ◌&&◌, true, cond, List, arith}
+use Rattle.std.specs.Prelude.{Contains, Option, unwrap_or}
 use Rattle.std.proofs.lemmas.Bool.{and_from}
 use Rattle.std.proofs.lemmas.Bool.Decides.{Decides-eqb}
 use Rattle.cov_types.specs.declared.edge_use.EdgeUse.{EdgeUse}

@@ -13,7 +13,7 @@ use Rattle.arrangement.specs.Overlay.{Overlay, IsOverlayOf}
 use Rattle.region_owners.specs.Owner.{Rule, IsLawful}
 use Rattle.sound_polygons.specs.Cleaned.{IsBuilt, IsCleaned}
 use Rattle.sound_polygons.specs.Holding.{HoldsByOwner, IsUnionOf}
-use Rattle.cleaned_laws.specs.Labelled.{IsHeldByLabel}
+use Rattle.cleaned_laws.specs.HeldByLabel.{IsHeldByLabel}
 use Rattle.cleaned_laws.specs.Owning.{AreMemberOwners, AreUnionOwners}
 
 -- what is built of owners: each point off the edges is held by the owner of its region and by no other member, and by none where it has no owner or no region

@@ -1,3 +1,3 @@
 pub mod Owning
-pub mod Labelled
+pub mod HeldByLabel
 pub mod Laws

@@ -7,14 +7,14 @@ pub fn built_law()
 {}
 
 /// The cleaned coverage holds each point by the owner of its region, and is valid. A call does nothing.
-pub fn cleaned_law<State>()
+pub fn cleaned_coverage_law<State>()
     ensures owners { CleanedOwnersLaw State }
     ensures valid { CleanedValidLaw State }
     ensures holds { CleanedHoldsLaw State }
 {}
 
 /// In the cleaned coverage the label of a point tells who holds it. A call does nothing.
-pub fn label_law<State>()
+pub fn held_by_label_law<State>()
     ensures { CleanedHeldLaw State }
 {}
 

@@ -21,12 +21,12 @@ use Rattle.arrangement.specs.Overlay.{Overlay, label_of}
 use Rattle.arrangement.proofs.LiveOverlays.{label_is}
 use Rattle.arrangement.proofs.OddUses.{live_uses_law}
 use Rattle.arrangement.proofs.OneNoding.{same_snapped}
-use Rattle.region_owners.specs.Owner.{Rule, IsLawful, IsNarrowGap, label_owner, owner_by, picked_owner}
+use Rattle.region_owners.specs.Owner.{Rule, IsLawful, IsNarrowGap, owner_by, picked_owner}
 use Rattle.region_owners.proofs.Held.{held_owner}
 use Rattle.region_owners.proofs.Neighbours.{gap_neighbour}
 use Rattle.sound_polygons.specs.Cleaned.{IsCleaned}
 use Rattle.sound_polygons.specs.Holding.{IsHeldBy}
-use Rattle.cleaned_laws.specs.Labelled.{IsHeldByPick, IsHeldByNeighbour, IsHeldByLabel}
+use Rattle.cleaned_laws.specs.HeldByLabel.{IsHeldByPick, IsHeldByNeighbour, IsHeldByLabel}
 use Rattle.cleaned_laws.proofs.Built.{in_edges, region_of}
 use Rattle.cleaned_laws.proofs.Cleaned.{far_label, live, member_owners, off_live, cleaned_holds}
 use Rattle.cleaned_laws.proofs.Holders.{outer_free, region_or_outer}

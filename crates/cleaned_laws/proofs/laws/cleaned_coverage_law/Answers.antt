@@ -1,5 +1,5 @@
 use Rattle.cleaned_laws.proofs.Cleaned.{member_owners, cleaned_valid, cleaned_holds}
-use Rattle.cleaned_laws.proofs.laws.cleaned_law.Goals as goal
+use Rattle.cleaned_laws.proofs.laws.cleaned_coverage_law.Goals as goal
 
 pub returns-clause-owners : goal.returns-clause-owners
 returns-clause-owners g c = member_owners

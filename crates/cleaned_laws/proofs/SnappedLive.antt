@@ -1,7 +1,7 @@
 -- The uses of the snapped members have even ends and are of the same members, so the overlay of a coverage in range is live.
 use mathlib.Core.List.{[], ◌∷◌}
-use Rattle.std.proofs.Common.{◌≡◌, refl, sym, ◌∙◌, ap, subst, ℕ, ◌+◌, ◌<◌, ◌%◌, ◌==◌, Bool, true, false, cond, List, ◌++◌, map, length, arith}
-use Rattle.std.specs.Prelude.{All, Contains, sum_by, flat_map, zip}
+use Rattle.std.proofs.Common.{◌≡◌, refl, sym, ◌∙◌, ap, subst, ℕ, ◌<◌, ◌%◌, ◌==◌, Bool, true, false, cond, List, map, length, arith}
+use Rattle.std.specs.Prelude.{All, Contains, sum_by}
 use Rattle.std.specs.List.{AllZip}
 use Rattle.std.proofs.lemmas.List.Elements.{All-nil, All-append, All-contains, All-map, All-head, All-tail}
 use Rattle.std.proofs.lemmas.List.Sums.{sum_by-cons, sum_by-append}
@@ -18,7 +18,7 @@ use Rattle.crossing_laws.proofs.Coverages.{uses_even}
 use Rattle.crossing_laws.proofs.Lists.{contains_here, contains_there, contains-map}
 use Rattle.rounding_laws.proofs.Ends.{even_ends}
 use Rattle.arrangement.specs.Live.{IsLiveOverlay}
-use Rattle.arrangement.specs.Noding.{segments, AreChains, snapped_uses, AreSnapped}
+use Rattle.arrangement.specs.Noding.{segments, AreChains, snapped_uses}
 use Rattle.arrangement.specs.Overlay.{Overlay, IsSnappedOverlay}
 use Rattle.arrangement.proofs.LiveOverlays.{live_overlay}
 use Rattle.arrangement.proofs.SnappedPlanar.{snapped_planar}

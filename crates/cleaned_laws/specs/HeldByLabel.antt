@@ -1,5 +1,5 @@
 -- How the label of a point tells who holds it in the cleaned coverage.
-use Rattle.std.specs.Prelude.{◌≡◌, ℕ, ◌≤◌, List, [], ◌∷◌, length, Contains, Option, Some, None}
+use Rattle.std.specs.Prelude.{◌≡◌, ℕ, ◌≤◌, List, [], ◌∷◌, length, Contains, Some, None}
 use Rattle.cov_types.specs.Coverage.{Members}
 use Rattle.cov_types.specs.Uses.{uses_of}
 use Rattle.plane.specs.Point.{Point}
@@ -17,7 +17,7 @@ pub record IsHeldByPick {State : Type 0} (rule : Rule State) (state : State) (o 
   pub picked : picked_owner rule state o region ≡ Some member
   pub held : IsHeldBy (uses_of out) (Some member) p
 
--- p is held by the member with the longest border with its region, a narrow gap
+-- p is held by the member with the longest owned border with its region, a narrow gap
 pub record IsHeldByNeighbour {State : Type 0} (rule : Rule State) (state : State) (o : Overlay) (out : Members) (region : ℕ) (p : Point) : Type 0 where
   pub member : ℕ
   pub neighbour : neighbour_of o (label_owner rule state o) region ≡ Some member

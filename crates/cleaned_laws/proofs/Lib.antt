@@ -1,0 +1,12 @@
+pub mod Sums
+pub mod PartEdges
+pub mod Level
+pub mod OwnedPolygons
+pub mod MemberUses
+pub mod Built
+pub mod Holders
+pub mod Valid
+pub mod SnappedLive
+pub mod Cleaned
+pub mod ByLabel
+pub mod Union

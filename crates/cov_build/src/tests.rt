@@ -112,7 +112,7 @@ fn expect_polygons(
     want: Coverage,
 ) -> Result<(), Fail> {
     let edges = edges_between(alloc, rt, ends)?;
-    assert!(rt; are_arranged(&edges));
+    assert!(rt; are_arranged(alloc, &edges)?);
     let arena = Arena::build(alloc, edges)?;
     let regions = Regions::build(alloc, &arena)?;
     let owners = owners_of(alloc, rt, arena.len(), owned)?;

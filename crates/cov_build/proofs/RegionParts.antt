@@ -12,7 +12,7 @@ use Rattle.arrangement.specs.Overlay.{Overlay, region_at, region_above, region_b
 use Rattle.sector_laws.specs.Sector.{IsPlanar, AreDistinct}
 use Rattle.sound_polygons.specs.Parts.{InOnePart, LeadsWithin, IsPartOf, boundary_way, boundary}
 use Rattle.sound_polygons.proofs.SameParts.{part_equivalence}
-use Rattle.cov_build.specs.Boundaries.{boundary_edge, boundary_of, way_round}
+use Rattle.cov_build.specs.Boundaries.{boundary_edge, part_boundary, way_round}
 use Rattle.cov_build.specs.Parted.{IsLeastInPart, IsPartAt, ArePartsOf, part_at, is_part}
 use Rattle.cov_build.specs.declared.part.Part.{Part}
 use Rattle.cov_build.proofs.BoundaryLists.{is_part_some}
@@ -127,7 +127,7 @@ module _ (o : Overlay) (planar : IsPlanar o.edges) (distinct : AreDistinct o.edg
   ways_of false true e = refl
   ways_of false false e = refl
 
-  pub boundary_is : (p : ℕ) → map way_round (boundary_of parts p o.edges) ≡ boundary o (inside_of p)
+  pub boundary_is : (p : ℕ) → map way_round (part_boundary parts p o.edges) ≡ boundary o (inside_of p)
   boundary_is p = by 0 o.edges (omega arith)
     where
       by : (k : ℕ) (es : List Seg) → k + length es ≤ length o.edges

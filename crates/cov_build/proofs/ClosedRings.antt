@@ -1,16 +1,16 @@
 -- The rings of closed walks as closed ways of half-edges, and which of them is the shell.
 use mathlib.Core.List.{List, [], ◌∷◌, ◌++◌, reverse, reverse-cons}
-use Rattle.std.proofs.Common.{◌≡◌, refl, sym, ◌∙◌, ap, subst, ℕ, zero, suc, ◌+◌, ◌<◌, Bool, true, false, true≢false, not, cond, length, get_or, take, drop, map, set, swap, remove, All, Contains, slice_get, inl, inr, arith}
+use Rattle.std.proofs.Common.{◌≡◌, refl, sym, ◌∙◌, ap, subst, ℕ, zero, suc, ◌+◌, ◌<◌, Bool, true, false, true≢false, not, cond, length, get_or, take, drop, map, set, swap, remove, Contains, inl, inr, arith}
 use Rattle.std.specs.Prelude.{⊤}
 use Rattle.std.specs.List.Sorted.{IsPermutation}
 use Rattle.std.proofs.lemmas.List.{length-map, map-append, map-set, take-map, drop-map, get_or_append_left}
 use Rattle.std.proofs.Math.ListN.{get_or-map}
 use Rattle.std.proofs.Math.Seq.{get_or-append_seam}
-use Rattle.std.proofs.lemmas.List.Elements.{All-nil, All-push, Contains-push_cases, Contains-get_or}
+use Rattle.std.proofs.lemmas.List.Elements.{All-nil, All-push, Contains-push_cases}
 use Rattle.std.proofs.lemmas.List.Sorted.{IsPermutation-refl, IsPermutation-sym, IsPermutation-trans, IsPermutation-cons, IsPermutation-swap, IsPermutation-keeps, IsPermutation-remove, Contains-permutation, All-permutation}
 use Rattle.cov_types.specs.declared.coord.Coord.{Coord}
 use Rattle.cov_types.specs.declared.seg.Seg.{Seg}
-use Rattle.sector_laws.specs.Sector.{HalfEdge, origin, twin, half_edges, is_before_by_angle, IsHalfEdge, IsNext, IsNextNumber}
+use Rattle.sector_laws.specs.Sector.{HalfEdge, origin, twin, is_before_by_angle, IsHalfEdge, IsNext, IsNextNumber}
 use Rattle.sector_laws.proofs.Next.{twin-twin}
 use Rattle.sector_laws.proofs.Numbers.{one_half_edge}
 use Rattle.shell_laws.specs.Part.{IsTurn, AreTurns}

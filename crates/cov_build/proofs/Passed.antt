@@ -20,7 +20,7 @@ use Rattle.sector_laws.proofs.Numbers.{forwards_number, back_number}
 use Rattle.sound_polygons.specs.Cleaned.{BeginsAtLeast}
 use Rattle.cov_build.specs.Boundaries.{way_round, boundary_edges}
 use Rattle.cov_build.specs.Rings.{outside_of, IsOutside, IsBoundary, IsRingBack, AreRingsBack, AreClosedRings, AreBoundaryRings, AreHolesSorted, IsBoundaryPolygon}
-use Rattle.cov_build.specs.Walks.{first_or, LeadsByNext, is_visited, mark_of, occurrences, AreVisited, IsWalkFrom, back_along, ways_back}
+use Rattle.cov_build.specs.Walks.{first_or, LeadsByNext, is_visited, visit_of, occurrences, AreVisitFlags, IsWalkFrom, back_along, ways_back}
 use Rattle.cov_build.specs.declared.boundary.BoundaryEdge.{BoundaryEdge}
 use Rattle.cov_build.proofs.FlatLists.{flat-permutation}
 use Rattle.cov_build.proofs.Walking.{bit}
@@ -160,19 +160,19 @@ edge_at (x ∷ bs) (suc k) b at = edge_at bs k b at
 
 -- ---- walk by walk
 
--- the outside half-edges of the first edges are marked, and no other but such: those that the rings go back along
+-- the outside half-edges of the first edges were visited, and no other but such: those that the rings go back along
 pub record IsWalkedTo (boundary : List BoundaryEdge) (first : ℕ) (seen : List Bool) (rings : List (List Coord)) : Type 0 where
   pub passed : List ℕ
-  pub marks : AreVisited (boundary_edges boundary) seen
-  pub each : (n : ℕ) → occurrences n passed ≡ mark_of seen n
+  pub flags : AreVisitFlags (boundary_edges boundary) seen
+  pub each : (n : ℕ) → occurrences n passed ≡ visit_of seen n
   pub outside : (n : ℕ) → is_visited seen n ≡ true → IsOutside boundary n
   pub done : (k : ℕ) (b : BoundaryEdge) → k < first → slice_get boundary k ≡ Some b → is_visited seen (outside_of k b.above) ≡ true
   pub listed : AreRingsBack (boundary_edges boundary) passed rings
 
-marked_by : (seen : List Bool) (n : ℕ) → 0 < mark_of seen n → is_visited seen n ≡ true
+marked_by : (seen : List Bool) (n : ℕ) → 0 < visit_of seen n → is_visited seen n ≡ true
 marked_by seen n some = elim (true_or_false (is_visited seen n)) [ inl is ↦ is | inr not ↦ absurd (let none = ap bit not in omega (arith, none, some)) ]
 
-marked_one : (seen : List Bool) (n : ℕ) → is_visited seen n ≡ true → mark_of seen n ≡ 1
+marked_one : (seen : List Bool) (n : ℕ) → is_visited seen n ≡ true → visit_of seen n ≡ 1
 marked_one seen n is = ap bit is
 
 all_outside : (boundary : List BoundaryEdge) → IsBoundary boundary → (way : List ℕ) (m : ℕ) → LeadsByNext (boundary_edges boundary) way m → IsOutside boundary (first_or m way) → (n : ℕ) → Contains way n → IsOutside boundary n
@@ -194,7 +194,7 @@ module _ (boundary : List BoundaryEdge) (is : IsBoundary boundary) where
   pub walked_none : (seen : List Bool) → length seen ≡ 2 * length (boundary_edges boundary) → ((n : ℕ) → is_visited seen n ≡ false) → (rings : List (List Coord)) → rings ≡ [] → IsWalkedTo boundary 0 seen rings
   walked_none seen long free rings none = subst (IsWalkedTo boundary 0 seen) (sym none) (record {
     passed = [];
-    marks = record { count = long; along = λ n m next. free n ∙ sym (free m) };
+    flags = record { count = long; along = λ n m next. free n ∙ sym (free m) };
     each = λ n. sym (ap bit (free n));
     outside = λ n marked. absurd (true≢false (sym marked ∙ free n));
     done = λ k b below. absurd (omega (arith, below));
@@ -205,7 +205,7 @@ module _ (boundary : List BoundaryEdge) (is : IsBoundary boundary) where
     pub walked_same : is_visited seen (outside_of k b.above) ≡ true → IsWalkedTo boundary (k + 1) seen rings
     walked_same marked = record {
       passed = so_far.passed;
-      marks = so_far.marks;
+      flags = so_far.flags;
       each = so_far.each;
       outside = so_far.outside;
       done = λ j x below at_j. elim (cases_eq j k) [
@@ -219,7 +219,7 @@ module _ (boundary : List BoundaryEdge) (is : IsBoundary boundary) where
         → (more : List (List Coord)) → ((passed : List ℕ) → AreRingsBack (boundary_edges boundary) passed rings → AreRingsBack (boundary_edges boundary) (passed ++ way) more) → IsWalkedTo boundary (k + 1) after more
     walked_more start is_start way after walked more more_listed = record {
       passed = so_far.passed ++ way;
-      marks = walked.marks;
+      flags = walked.flags;
       each = λ n. (let both = occurrences-append n so_far.passed way in let old = so_far.each n in let new = walked.each n in omega (arith, both, old, new));
       outside = λ n marked. elim (true_or_false (is_visited seen n)) [
         | inl old ↦ so_far.outside n old

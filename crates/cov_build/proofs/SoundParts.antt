@@ -1,6 +1,6 @@
 -- The rings of a part's boundary, the shell first, are a polygon that is sound for the part.
 use mathlib.Core.List.{List, [], ◌∷◌, ◌++◌}
-use Rattle.std.proofs.Common.{◌≡◌, refl, sym, ◌∙◌, ap, subst, ℕ, zero, suc, ◌+◌, ◌*◌, ◌%◌, ◌<◌, Bool, true, false, true≢false, not, cond, IsTrue, length, get_or, map, filter, flat_map, option_to_list, All, AllPairs, Contains, Option, Some, slice_get, inl, inr, arith}
+use Rattle.std.proofs.Common.{◌≡◌, refl, sym, ◌∙◌, ap, subst, ℕ, suc, ◌+◌, ◌*◌, ◌%◌, ◌<◌, Bool, true, false, true≢false, not, cond, IsTrue, length, get_or, map, filter, flat_map, option_to_list, All, AllPairs, Contains, Option, Some, slice_get, inl, inr, arith}
 use Rattle.std.specs.Cmp.{both_ways}
 use Rattle.std.specs.List.{enumerate_from}
 use Rattle.std.specs.List.Sorted.{IsPermutation}
@@ -47,7 +47,7 @@ use Rattle.cov_build.proofs.BoundaryLists.{some_at}
 use Rattle.cov_build.proofs.FlatLists.{flat-permutation}
 use Rattle.cov_build.proofs.MemberLists.{one_way}
 use Rattle.cov_build.proofs.PartLists.{at_of}
-use Rattle.cov_build.proofs.PartSides.{passes, passes_up, passes_down, HasPart, bounds_part, is_boundary}
+use Rattle.cov_build.proofs.PartSides.{passes, passes_up, passes_down, bounds_part, is_boundary}
 use Rattle.cov_build.proofs.RegionParts.{inside_of, inside_at}
 use Rattle.cov_build.proofs.RoundFacts.{edge_of_side}
 use Rattle.cov_build.proofs.Thinned.{up, down}

@@ -1,4 +1,4 @@
--- A walk along next: it marks what it passes, and comes back to its start.
+-- A walk along next: it visits each half-edge once, and comes back to its start.
 use mathlib.Core.List.{List, [], ◌∷◌, ◌++◌}
 use Rattle.std.proofs.Common.{◌≡◌, refl, sym, ◌∙◌, ap, subst, ℕ, zero, suc, ◌+◌, ◌*◌, ◌<◌, ◌==◌, Bool, true, false, true≢false, cond, length, get_or, set, count_by, ◌⊎◌, inl, inr, arith}
 use Rattle.std.proofs.lemmas.Bool.{cases_eq, eq-eqb, ne_eqb}
@@ -8,7 +8,7 @@ use Rattle.cov_types.specs.declared.seg.Seg.{Seg}
 use Rattle.half_edge.proofs.Counts.{number_within}
 use Rattle.sector_laws.specs.Sector.{IsNextNumber, IsPlanar, AreDistinct}
 use Rattle.sector_laws.proofs.Numbers.{one_next_number, next_of_one_number}
-use Rattle.cov_build.specs.Walks.{first_or, LeadsByNext, is_visited, mark_of, occurrences, AreVisited, IsWalkFrom}
+use Rattle.cov_build.specs.Walks.{first_or, LeadsByNext, is_visited, visit_of, occurrences, AreVisitFlags, IsWalkFrom}
 
 abbrev pub bit : Bool → ℕ
 bit b = cond b 1 0
@@ -27,12 +27,12 @@ first-push (n ∷ way) h m = refl
 pub occurrences-push : (n : ℕ) (way : List ℕ) (m : ℕ) → occurrences n (way ++ m ∷ []) ≡ occurrences n way + bit (m == n)
 occurrences-push n way m = (let split = sum_by-append (λ k. bit (k == n)) way (m ∷ []) in omega (arith, split))
 
--- ---- marks
+-- ---- visits
 
-mark_true : (seen : List Bool) (n : ℕ) → is_visited seen n ≡ true → mark_of seen n ≡ 1
+mark_true : (seen : List Bool) (n : ℕ) → is_visited seen n ≡ true → visit_of seen n ≡ 1
 mark_true seen n h = ap bit h
 
-mark_false : (seen : List Bool) (n : ℕ) → is_visited seen n ≡ false → mark_of seen n ≡ 0
+mark_false : (seen : List Bool) (n : ℕ) → is_visited seen n ≡ false → visit_of seen n ≡ 0
 mark_false seen n h = ap bit h
 
 module _ (edges : List Seg) (start : ℕ) (before : List Bool) where
@@ -42,22 +42,22 @@ module _ (edges : List Seg) (start : ℕ) (before : List Bool) where
     pub within : h < 2 * length edges
     pub leads : LeadsByNext edges way h
     pub first : first_or h way ≡ start
-    pub each : (n : ℕ) → occurrences n way + mark_of before n ≡ mark_of now n
+    pub each : (n : ℕ) → occurrences n way + visit_of before n ≡ visit_of now n
     pub come : ((h ≡ start) × (way ≡ [])) ⊎ ((last : ℕ) × (IsNextNumber edges last h × (is_visited now last ≡ true)))
     pub back : is_visited now h ≡ true → h ≡ start
     pub along : (n m : ℕ) → IsNextNumber edges n m → (is_visited now n ≡ is_visited now m) ⊎ ((m ≡ start) ⊎ (m ≡ h))
 
 module _ (edges : List Seg) (planar : IsPlanar edges) (distinct : AreDistinct edges) (start : ℕ) (before : List Bool) where
-  pub walk_none : AreVisited edges before → start < 2 * length edges → (way : List ℕ) → way ≡ [] → IsWalking edges start before start way before
-  walk_none marks within way none = subst (λ w. IsWalking edges start before start w before) (sym none) (record {
-    count = marks.count;
+  pub walk_none : AreVisitFlags edges before → start < 2 * length edges → (way : List ℕ) → way ≡ [] → IsWalking edges start before start way before
+  walk_none flags within way none = subst (λ w. IsWalking edges start before start w before) (sym none) (record {
+    count = flags.count;
     within = within;
     leads = tt;
     first = refl;
     each = λ n. (let no_occurrence : occurrences n [] ≡ 0 = refl in omega (arith, no_occurrence));
     come = inl (refl, refl);
     back = λ _. refl;
-    along = λ n m to. inl (marks.along n m to);
+    along = λ n m to. inl (flags.along n m to);
   })
 
   pub walk_more : (h next : ℕ) (way : List ℕ) (now : List Bool) → is_visited now h ≡ false → IsNextNumber edges h next → IsWalking edges start before h way now → IsWalking edges start before next (way ++ h ∷ []) (set now h true)
@@ -78,13 +78,13 @@ module _ (edges : List Seg) (planar : IsPlanar edges) (distinct : AreDistinct ed
         each = λ n. (let was = walk.each n in let pushed = occurrences-push n way h in elim (cases_eq h n) [
           | inl same ↦ (
               let one : bit (h == n) ≡ 1 = ap bit (eq-eqb h n same) in
-              let free_n : mark_of now n ≡ 0 = mark_false now n (ap (is_visited now) (sym same) ∙ free) in
-              let now_n : mark_of after n ≡ 1 = mark_true after n (ap (is_visited after) (sym same) ∙ here) in
+              let free_n : visit_of now n ≡ 0 = mark_false now n (ap (is_visited now) (sym same) ∙ free) in
+              let now_n : visit_of after n ≡ 1 = mark_true after n (ap (is_visited after) (sym same) ∙ here) in
               omega (arith, was, pushed, one, free_n, now_n)
               )
           | inr apart ↦ (
               let none : bit (h == n) ≡ 0 = ap bit (ne_eqb h n apart) in
-              let same : mark_of after n ≡ mark_of now n = ap bit (other n (λ e. apart (sym e))) in
+              let same : visit_of after n ≡ visit_of now n = ap bit (other n (λ e. apart (sym e))) in
               omega (arith, was, pushed, none, same)
               )
         ]);
@@ -129,7 +129,7 @@ module _ (edges : List Seg) (planar : IsPlanar edges) (distinct : AreDistinct ed
       record {
         round = record { leads = subst (LeadsByNext edges way) (at_start ∙ sym first) walk.leads; some = some };
         first = first;
-        marks = record {
+        flags = record {
           count = walk.count;
           along = λ n m to. elim (walk.along n m to) [
             | inl same ↦ same
@@ -139,7 +139,7 @@ module _ (edges : List Seg) (planar : IsPlanar edges) (distinct : AreDistinct ed
         each = walk.each;
       }
     where
-      by_way : (w : List ℕ) → occurrences start w + mark_of before start ≡ mark_of now start → is_visited now start ≡ true → 0 < length w
+      by_way : (w : List ℕ) → occurrences start w + visit_of before start ≡ visit_of now start → is_visited now start ≡ true → 0 < length w
       by_way [] each is = absurd (let a = mark_false before start free in let b = mark_true now start is in let none : occurrences start [] ≡ 0 = refl in omega (arith, a, b, none, each))
       by_way (n ∷ w) each is = omega arith
 

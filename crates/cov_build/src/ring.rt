@@ -1,7 +1,7 @@
 ghost use Rattle.std.specs.Prelude.{◌≡◌, ◌*◌, ◌<◌, false, length, slice_index, IfOk, vec_len};
 ghost use Rattle.sector_laws.specs.Sector.{IsPlanar, AreDistinct};
 ghost use Rattle.cov_build.specs.Rings.{IsClosedFrom, IsLeastEnd, IsRingBack};
-ghost use Rattle.cov_build.specs.Walks.{AreVisited, IsRound, IsWalkFrom, is_visited, target_of};
+ghost use Rattle.cov_build.specs.Walks.{AreVisitFlags, IsRound, IsWalkFrom, is_visited, target_of};
 
 use cov_types::{Coord, NoMemory, Ring};
 use half_edge::Arena;
@@ -15,7 +15,7 @@ pub fn walk(
     start: usize,
     seen: &mut [bool],
 ) -> Result<Vec<usize>, NoMemory>
-    requires marks { AreVisited a.now seen.old }
+    requires flags { AreVisitFlags a.now seen.old }
     requires within { start < 2 * length a.now }
     requires free { is_visited seen.old start ≡ false }
     requires planar { IsPlanar a.now }

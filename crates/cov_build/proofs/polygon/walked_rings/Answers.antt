@@ -34,7 +34,7 @@ loop-k-preserved c =
     let within = c.loop-k-test.true in
     let at : slice_get boundary k ≡ Some b = slice_get_read boundary (length boundary) k b refl within c.index-boundary-k.is in
     let is_start : start ≡ outside_of k b.above = c.outside-start.ensures in
-    let fits : start < length seen = (let far = outside_within boundary k b.above within in let long = c.loop-k.invariant.walked.marks.count in omega (arith, far, long, is_start)) in
+    let fits : start < length seen = (let far = outside_within boundary k b.above within in let long = c.loop-k.invariant.walked.flags.count in omega (arith, far, long, is_start)) in
     let read : c.index.result.now ≡ is_visited seen start = get_or_read seen start c.index.result.now fits c.index.ensures false in
     elim c.if-not-index.branch [
       | then-not-index+in_ok-way+in_ok-add_ring w ↦ (

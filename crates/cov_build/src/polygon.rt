@@ -80,8 +80,9 @@ fn add_ring(alloc: Global, a: &Arena, way: Vec<usize>, rings: &mut RingList) -> 
     ensures shell { OnOk result (rings.new.shell < vec_len rings.new.list) }
 {
     let last = least_end(a, &way);
+    let place = rings.list.len();
     if a.opens_down(way[last]) {
-        rings.shell = rings.list.len();
+        rings.shell = place;
     }
     let ring = ring_of(alloc, a, way, last)?;
     rings.list.push(ring)?;

@@ -33,7 +33,7 @@ returns-clause-closed c = λ are.
     let from : IsClosedFrom edges c.index.result.now c.in_ok-ring.ring = subst (λ n. IsClosedFrom edges n c.in_ok-ring.ring) (sym read) c.in_ok-ring.ensures.closed in
     let same : c.if-opens_down.rings.list.items ≡ rings = elim c.if-opens_down.branch [ then-opens_down w ↦ ap (λ (r : RingList). r.list.items) w.rings-is | else-opens_down w ↦ ap (λ (r : RingList). r.list.items) w.rings-is ] in
     let place : c.if-opens_down.rings.shell ≡ cond c.opens_down.result (length rings) c.args.rings.now.shell = elim c.if-opens_down.branch [
-      | then-opens_down w ↦ ap (λ (r : RingList). r.shell) w.rings-is ∙ omega (arith, w.len-rings.ensures, c.args.rings.now.list.ok.0) ∙ ap (λ b. cond b (length rings) c.args.rings.now.shell) (sym w.if-opens_down.true)
+      | then-opens_down w ↦ ap (λ (r : RingList). r.shell) w.rings-is ∙ omega (arith, c.len-place.ensures, c.args.rings.now.list.ok.0) ∙ ap (λ b. cond b (length rings) c.args.rings.now.shell) (sym w.if-opens_down.true)
       | else-opens_down w ↦ ap (λ (r : RingList). r.shell) w.rings-is ∙ ap (λ b. cond b (length rings) c.args.rings.now.shell) (sym w.if-opens_down.false)
     ] in
     subst (λ k. AreClosedRings edges k c.push.new.self.items) (sym place)

@@ -2,7 +2,7 @@ ghost use Rattle.std.specs.Prelude.{◌≡◌, ℕ, ◌*◌, ◌<◌, length, sl
 ghost use Rattle.components.specs.Connected.{AreLinksWithin};
 ghost use Rattle.plane.specs.Region.{AreRegions};
 ghost use Rattle.arrangement.specs.Overlay.{Overlay};
-ghost use Rattle.cov_build.specs.RoundParts.{owner_in};
+ghost use Rattle.cov_build.specs.Owners.{owner_in};
 ghost use Rattle.cov_build.specs.Parted.{AreOwnerLinks, ArePartsOf, AreBelow};
 
 use components::{Link, components};

@@ -1,6 +1,6 @@
 ghost use Rattle.std.specs.Prelude.{◌≡◌, ℕ, ◌<◌, All, None, IfSome, IsTrue};
 ghost use Rattle.plane.specs.Region.{IsOuterRegion};
-ghost use Rattle.cov_build.specs.RoundParts.{owner_in};
+ghost use Rattle.cov_build.specs.Owners.{owner_in};
 
 use crate::polygons;
 use cov_types::{Coord, Coverage, Member, NoMemory, Poly, Ring, Seg, same_coverage};

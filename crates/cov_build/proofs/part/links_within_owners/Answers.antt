@@ -5,7 +5,7 @@ use Rattle.components.specs.declared.link.Link.{Link}
 use Rattle.components.specs.Connected.{AreLinksWithin}
 use Rattle.plane.specs.Region.{AreRegions}
 use Rattle.cov_build.specs.Parted.{AreOwnerLinks}
-use Rattle.cov_build.specs.RoundParts.{owner_in}
+use Rattle.cov_build.specs.Owners.{owner_in}
 use Rattle.cov_build.proofs.OwnerLinks.{owner_is, links_none, links_same, links_more}
 use Rattle.cov_build.proofs.part.links_within_owners.Goals.{then-have_one_owner+in_ok-push, else-have_one_owner}
 use Rattle.cov_build.proofs.part.links_within_owners.Goals as goal

@@ -3,7 +3,7 @@ use Rattle.plane.specs.Region.{AreRegions}
 use Rattle.arrangement.specs.Overlay.{Overlay}
 use Rattle.components.specs.Connected.{AreLinksWithin}
 use Rattle.cov_build.specs.Parted.{AreOwnerLinks}
-use Rattle.cov_build.specs.RoundParts.{owner_in}
+use Rattle.cov_build.specs.Owners.{owner_in}
 use Rattle.cov_build.proofs.part.links_within_owners.Given as goal
 
 abbrev pub invariant-loop-edge : goal.invariant-loop-edge

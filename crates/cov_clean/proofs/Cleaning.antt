@@ -1,5 +1,5 @@
 -- The owners of the sides between the live edges of a coverage, and what is built of them.
-use Rattle.std.proofs.Common.{◌≡◌, sym, ◌∙◌, ap, subst, ℕ, ◌*◌, ◌<◌, List, [], length, map, Option, None, IfSome}
+use Rattle.std.proofs.Common.{◌≡◌, sym, ◌∙◌, ap, subst, ℕ, ◌*◌, ◌<◌, List, length, map, Option, None, IfSome}
 use Rattle.std.specs.Prelude.{All}
 use Rattle.cov_types.specs.declared.seg.Seg.{Seg}
 use Rattle.cov_types.specs.Coverage.{Members, AllInRange}
@@ -10,9 +10,9 @@ use Rattle.arrangement.specs.declared.odd_use.OddUse.{OddUse}
 use Rattle.arrangement.specs.Overlay.{Overlay, IsSnappedOverlay}
 use Rattle.region_owners.specs.Owner.{Rule, AreOwners}
 use Rattle.owner_label.specs.Labelled.{Labelled, IsOverlay}
-use Rattle.cov_build.specs.RoundParts.{owner_in, IsBuiltRound}
+use Rattle.cov_build.specs.RoundParts.{owner_in}
 use Rattle.cov_clean.specs.Asked.{side_owner}
-use Rattle.cov_clean.specs.CleanedRound.{IsCleanedRound}
+use Rattle.sound_polygons.specs.Cleaned.{IsBuilt, IsCleaned}
 use Rattle.cov_clean.specs.SnappedEdges.{AreSnappedEdges}
 use Rattle.cov_clean.proofs.Overlays.{snapped_one, snapped_labels, snapped_outer}
 use Rattle.cov_clean.proofs.SideOwners.{owners_count, owners_are, owners_below, owners_outer}
@@ -41,7 +41,7 @@ module _ {State : Type 0} (rule : Rule State) (state : State) (members : Members
       owners_outer rule state o is.overlay.numbered owners (of o is) (snapped_outer members in_range edges odd are o is) n (subst (λ (es : List Seg). IsOuterRegion es n) (sym between) outer)
 
   -- the coverage that is built of them is the cleaned one
-  pub cleaned : (w : ℕ) → w ≡ 0 → (out : Members) → ((o : Overlay) → o.edges ≡ edges → AreRegions o.edges o.numbers → IsBuiltRound o (owner_in owners) (length members) out) → IsCleanedRound members rule state w out
+  pub cleaned : (w : ℕ) → w ≡ 0 → (out : Members) → ((o : Overlay) → o.edges ≡ edges → AreRegions o.edges o.numbers → IsBuilt o (owner_in owners) (length members) out) → IsCleaned members rule state w out
   cleaned w none out built =
       let (o, (is, between)) = snapped_one members in_range edges odd are in
       record {
@@ -52,7 +52,7 @@ module _ {State : Type 0} (rule : Rule State) (state : State) (members : Members
         built = built o between is.overlay.numbered;
       }
 
-  pub built_count : (out : Members) → ((o : Overlay) → o.edges ≡ edges → AreRegions o.edges o.numbers → IsBuiltRound o (owner_in owners) (length members) out) → length out ≡ length members
+  pub built_count : (out : Members) → ((o : Overlay) → o.edges ≡ edges → AreRegions o.edges o.numbers → IsBuilt o (owner_in owners) (length members) out) → length out ≡ length members
   built_count out built =
       let (o, (is, between)) = snapped_one members in_range edges odd are in
       let round = built o between is.overlay.numbered in

@@ -4,7 +4,7 @@ ghost use Rattle.cov_types.specs.Uses.{uses_of};
 ghost use Rattle.arrangement.specs.Overlay.{Overlay, IsSnappedOverlay};
 ghost use Rattle.region_owners.specs.Owner.{last_state};
 ghost use Rattle.cov_clean.specs.Asked.{HasAskedFirst};
-ghost use Rattle.cov_clean.specs.CleanedRound.{IsCleanedRound};
+ghost use Rattle.sound_polygons.specs.Cleaned.{IsCleaned};
 ghost use Rattle.cov_clean.specs.SnappedEdges.{AreSnappedEdges};
 
 use crate::facts::areas_of_members;
@@ -34,7 +34,7 @@ pub fn clean<R: MergeRule>(
 ) -> Result<Coverage, NoMemory>
     requires in_range { AllInRange c.now }
     requires gap { gap ≡ 0 }
-    ensures cleaned { IfOk result (λ out. IsCleanedRound c.now R.rule (R.state rule.old) gap out) }
+    ensures cleaned { IfOk result (λ out. IsCleaned c.now R.rule (R.state rule.old) gap out) }
     ensures formed { IfOk result IsFormed }
     ensures count { IfOk result (λ out. length out ≡ length c.now) }
 

@@ -78,7 +78,10 @@ fn expect_cleaned<R: MergeRule>(
     let given = coverage(alloc, members)?;
     assert!(rt; in_range(&given));
     let cleaned = clean(alloc, &given, rule, 0)?;
-    assert!(rt; same_coverage(&cleaned, &coverage(alloc, want)?), "{cleaned:?}");
+    assert!(rt;
+        same_coverage(&cleaned, &coverage(alloc, want)?),
+        "{cleaned:?}"
+    );
     Ok(())
 }
 

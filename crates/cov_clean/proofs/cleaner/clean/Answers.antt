@@ -1,5 +1,5 @@
 -- The owners of the regions between the live edges, and what is built of them.
-use Rattle.std.proofs.Common.{◌≡◌, sym, ◌∙◌, ap, subst, ℕ, ◌*◌, ◌<◌, List, length, Option, None, rules, arith}
+use Rattle.std.proofs.Common.{◌≡◌, sym, ◌∙◌, ap, subst, ℕ, ◌*◌, ◌<◌, List, length, Option, rules}
 use Rattle.std.specs.Prelude.{All, IfSome}
 use Rattle.std.proofs.lemmas.Result.{IfOk-weaker}
 use Rattle.cov_types.specs.declared.seg.Seg.{Seg}
@@ -8,13 +8,13 @@ use Rattle.plane.specs.Region.{IsOuterRegion, AreRegions}
 use Rattle.arrangement.specs.Overlay.{Overlay}
 use Rattle.arrangement.specs.declared.odd_use.OddUse.{OddUse}
 use Rattle.owner_label.specs.Labelled.{Labelled}
-use Rattle.cov_build.specs.RoundParts.{owner_in, IsBuiltRound}
+use Rattle.cov_build.specs.RoundParts.{owner_in}
+use Rattle.sound_polygons.specs.Cleaned.{IsBuilt}
 use Rattle.cov_clean.proofs.Asking.{asked_all}
 use Rattle.cov_clean.proofs.Candidates.{areas_long, areas_all}
 use Rattle.cov_clean.proofs.Cleaning.{sides_count, sides_below, sides_outer, cleaned, built_count}
 use Rattle.cov_clean.proofs.Overlays.{snapped_labels}
 use Rattle.cov_clean.proofs.Results.{if_ok, if_err}
-use Rattle.cov_clean.specs.Asked.{member_areas}
 use Rattle.cov_clean.proofs.cleaner.clean.Goals as goal
 
 pub owners_of_sides-requires-clause-areas : goal.owners_of_sides-requires-clause-areas
@@ -63,9 +63,9 @@ polygons-requires-clause-outer g c = λ n outer.
 
 -- what is built, as it is said of the list of owners and of the members
 built_is : (arena edges : List Seg) (slice owners : List (Option ℕ)) (n members : ℕ) (out : Members) → arena ≡ edges → slice ≡ owners → n ≡ members
-    → ((o : Overlay) → o.edges ≡ arena → AreRegions o.edges o.numbers → IsBuiltRound o (owner_in slice) n out) → (o : Overlay) → o.edges ≡ edges → AreRegions o.edges o.numbers → IsBuiltRound o (owner_in owners) members out
+    → ((o : Overlay) → o.edges ≡ arena → AreRegions o.edges o.numbers → IsBuilt o (owner_in slice) n out) → (o : Overlay) → o.edges ≡ edges → AreRegions o.edges o.numbers → IsBuilt o (owner_in owners) members out
 built_is arena edges slice owners n members out between same many built o is regions =
-    subst (λ (k : ℕ). IsBuiltRound o (owner_in owners) k out) many (subst (λ (os : List (Option ℕ)). IsBuiltRound o (owner_in os) n out) same (built o (is ∙ sym between) regions))
+    subst (λ (k : ℕ). IsBuilt o (owner_in owners) k out) many (subst (λ (os : List (Option ℕ)). IsBuilt o (owner_in os) n out) same (built o (is ∙ sym between) regions))
 
 pub returns-clause-cleaned : goal.returns-clause-cleaned
 returns-clause-cleaned g c =

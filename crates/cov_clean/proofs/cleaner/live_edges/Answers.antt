@@ -1,5 +1,5 @@
 -- The edges of the snapped members.
-use Rattle.std.proofs.Common.{◌≡◌, ◌<◌, ◌∙◌, List, length, subst}
+use Rattle.std.proofs.Common.{◌<◌, ◌∙◌, List, length, subst}
 use Rattle.std.specs.Prelude.{All}
 use Rattle.cov_types.specs.Uses.{uses_of, HasEvenEnds}
 use Rattle.cov_types.specs.declared.edge_use.EdgeUse.{EdgeUse}

@@ -1,8 +1,6 @@
-use Rattle.std.proofs.Common.{◌≡◌, refl, sym, ◌∙◌, ap, ℕ, ◌<◌, length, get_or, pos, FitsSigned, rules, arith}
+use Rattle.std.proofs.Common.{refl, ◌∙◌, length, get_or, pos, FitsSigned, rules}
 use mir.Syntax.{w128}
 use Rattle.std.proofs.lemmas.Int.{to_z-of_z}
-use Rattle.arrangement.specs.Measure.{border}
-use Rattle.region_owners.specs.Candidates.{candidates_of}
 use Rattle.region_owners.specs.Owner.{facts_of}
 use Rattle.cov_clean.proofs.Candidates.{same_facts, area_is, label_within, candidates_more, candidates_all, candidates_ascend}
 use Rattle.cov_clean.proofs.facts.facts_of_region.Goals as goal
@@ -25,9 +23,11 @@ loop-member-preserved c = λ o is.
 
 pub invariant_of-result : goal.invariant_of-result
 invariant_of-result c =
-    let (o, is) = c.label-label.ensures.some in
-    (candidates_ascend o c.args.region c.loop-member.candidates.items
-    (candidates_all o c.args.region c.label-label.result.now c.loop-member.member-index c.loop-member.candidates.items c.loop-member-test.false (c.label-label.ensures.label o is) (c.loop-member.invariant o is)), tt)
+    let (o, is) = c.label-label.ensures.some in (
+      candidates_ascend o c.args.region c.loop-member.candidates.items
+          (candidates_all o c.args.region c.label-label.result.now c.loop-member.member-index c.loop-member.candidates.items c.loop-member-test.false (c.label-label.ensures.label o is) (c.loop-member.invariant o is)),
+      tt,
+    )
 
 pub returns : goal.returns
 returns c = λ o is.

@@ -1,4 +1,4 @@
-use Rattle.std.proofs.Common.{◌≡◌, ◌∙◌, ap, ℕ, length, rules, vec_len, arith}
+use Rattle.std.proofs.Common.{◌≡◌, ◌∙◌, ap, length, rules, vec_len, arith}
 use Rattle.arrangement.specs.Overlay.{label_of}
 use Rattle.region_owners.specs.Candidates.{candidates_of}
 use Rattle.region_owners.specs.Facts.{RegionFacts}

@@ -53,28 +53,28 @@ loop-side-preserved g c =
     let region = λ (o : Overlay) (is : IsOverlay c.args.labels.now o). c.region_of.ensures.numbering o.numbers (subst (λ (es : List Seg). AreRegions es o.numbers) (is.edges ∙ sym c.requires.regions) is.numbered) in
     elim c.if-region_of-side.branch [
       | then-region_of-side+in_ok-owner_of_region+in_ok-push w ↦ record {
-          owners = λ o is. (
-              let own : region_at o side ≡ side = sym (region o is) ∙ w.if-region_of-side.true in
-              let edges = ap length is.edges in
-              let there = state_there o rule start side (state c.loop-side.rule) (omega (arith, edges, c.requires.sides, c.loop-side-test.true)) (c.loop-side.invariant.state o is) in
-              let owner = side_own rule start o side (state c.loop-side.rule) w.in_ok-owner_of_region.field-0 own there (w.in_ok-owner_of_region.ensures.owner o is) in
-              made_more (side_owner rule start o) side c.loop-side.owners.items c.if-region_of-side.owners.items w.in_ok-owner_of_region.field-0 (c.loop-side.invariant.owners o is)
-              (ap (λ (v : Vec (Option ℕ) Global). v.items) w.owners-is ∙ w.in_ok-push.ensures.items) owner
-              );
-          state = λ o is. (
-              let own : region_at o side ≡ side = sym (region o is) ∙ w.if-region_of-side.true in
-              state_more o rule start side (state c.loop-side.rule) (state c.if-region_of-side.rule) own (c.loop-side.invariant.state o is) (ap state w.rule-is ∙ w.in_ok-owner_of_region.ensures.state o is)
-              );
-        }
+        owners = λ o is. (
+            let own : region_at o side ≡ side = sym (region o is) ∙ w.if-region_of-side.true in
+            let edges = ap length is.edges in
+            let there = state_there o rule start side (state c.loop-side.rule) (omega (arith, edges, c.requires.sides, c.loop-side-test.true)) (c.loop-side.invariant.state o is) in
+            let owner = side_own rule start o side (state c.loop-side.rule) w.in_ok-owner_of_region.field-0 own there (w.in_ok-owner_of_region.ensures.owner o is) in
+            made_more (side_owner rule start o) side c.loop-side.owners.items c.if-region_of-side.owners.items w.in_ok-owner_of_region.field-0 (c.loop-side.invariant.owners o is)
+            (ap (λ (v : Vec (Option ℕ) Global). v.items) w.owners-is ∙ w.in_ok-push.ensures.items) owner
+            );
+        state = λ o is. (
+            let own : region_at o side ≡ side = sym (region o is) ∙ w.if-region_of-side.true in
+            state_more o rule start side (state c.loop-side.rule) (state c.if-region_of-side.rule) own (c.loop-side.invariant.state o is) (ap state w.rule-is ∙ w.in_ok-owner_of_region.ensures.state o is)
+            );
+      }
       | else-region_of-side+in_ok-push-2 w ↦ record {
-          owners = λ o is. (
-              let other : ¬ (region_at o side ≡ side) = λ own. w.if-region_of-side.false (region o is ∙ own) in
-              made_more (side_owner rule start o) side c.loop-side.owners.items c.if-region_of-side.owners.items None (c.loop-side.invariant.owners o is)
-              (ap (λ (v : Vec (Option ℕ) Global). v.items) w.owners-is ∙ w.in_ok-push-2.ensures.items) (side_other rule start o side other)
-              );
-          state = λ o is. (
-              let other : ¬ (region_at o side ≡ side) = λ own. w.if-region_of-side.false (region o is ∙ own) in
-              state_same o rule start side (state c.if-region_of-side.rule) other (ap state w.rule-is ∙ c.loop-side.invariant.state o is)
-              );
-        }
+        owners = λ o is. (
+            let other : ¬ (region_at o side ≡ side) = λ own. w.if-region_of-side.false (region o is ∙ own) in
+            made_more (side_owner rule start o) side c.loop-side.owners.items c.if-region_of-side.owners.items None (c.loop-side.invariant.owners o is)
+            (ap (λ (v : Vec (Option ℕ) Global). v.items) w.owners-is ∙ w.in_ok-push-2.ensures.items) (side_other rule start o side other)
+            );
+        state = λ o is. (
+            let other : ¬ (region_at o side ≡ side) = λ own. w.if-region_of-side.false (region o is ∙ own) in
+            state_same o rule start side (state c.if-region_of-side.rule) other (ap state w.rule-is ∙ c.loop-side.invariant.state o is)
+            );
+      }
     ]

@@ -1,15 +1,17 @@
 -- Boxes near a block of neighbours: those that touch its hull.
 use mathlib.Core.List.{[], ◌∷◌}
-use Rattle.std.proofs.Common.{◌≡◌, refl, sym, ◌∙◌, ap, subst, ℕ, ◌+◌, ◌-◌, ◌<◌, ◌≤◌, List, length, get_or, take, drop, IsTrue, true, Some, slice_get, arith}
+use Rattle.std.proofs.Common.{◌≡◌, refl, sym, ◌∙◌, ap, subst, ℕ, ◌+◌, ◌-◌, ◌<◌, ◌≤◌, List, length, get_or, take, drop, IsTrue, true, ◌&&◌, int_le, Some, slice_get, arith}
 use Rattle.std.specs.Prelude.{All, Contains}
 use Rattle.std.proofs.lemmas.List.{get_or-take, get_or-drop, length-take-le, length-drop}
 use Rattle.std.proofs.lemmas.Option.{slice_get_within, get_or_from_slice_get, slice_get-get_or}
+use Rattle.std.proofs.lemmas.Bool.{and_parts}
+use Rattle.integer_laws.proofs.Compare.{int_le_is}
 use Rattle.box_tree.specs.Places.{places}
 use Rattle.box_tree.specs.Rect.{IsInside, is_touching}
 use Rattle.box_tree.specs.declared.rect.Rect.{Rect}
 use Rattle.box_tree.proofs.PlaceLaws.{place_in, place_below}
 use Rattle.box_tree.proofs.Touching.{touch_wider}
-use Rattle.hot_pixel.specs.Near.{AreNear}
+use Rattle.hot_pixel.specs.Near.{AreNear, is_inside}
 
 -- a box of a block is inside its hull
 in_block : (boxes : List Rect) (first past i : ℕ) (a round : Rect) → past ≤ length boxes → All (λ b. IsInside b round) (take (past - first) (drop first boxes)) → first ≤ i → i < past → slice_get boxes i ≡ Some a → IsInside a round
@@ -35,3 +37,16 @@ near_one boxes first past i near from to all = record {
   within = all.within;
   has = λ j k a b below above at_j at_k touch. all.has j k a b (omega arith) (omega arith) at_j at_k touch;
 }
+
+-- what the test of a box inside another tells
+pub inside_is : (a b : Rect) → is_inside a b ≡ true → IsInside a b
+inside_is a b h =
+    let outer = and_parts (int_le b.lo.x a.lo.x && int_le a.hi.x b.hi.x && int_le b.lo.y a.lo.y) (int_le a.hi.y b.hi.y) h in
+    let inner = and_parts (int_le b.lo.x a.lo.x && int_le a.hi.x b.hi.x) (int_le b.lo.y a.lo.y) outer.0 in
+    let sides = and_parts (int_le b.lo.x a.lo.x) (int_le a.hi.x b.hi.x) inner.0 in
+    record {
+      left = (int_le_is b.lo.x a.lo.x).0 sides.0;
+      right = (int_le_is a.hi.x b.hi.x).0 sides.1;
+      bottom = (int_le_is b.lo.y a.lo.y).0 inner.1;
+      top = (int_le_is a.hi.y b.hi.y).0 outer.1;
+    }

@@ -49,3 +49,7 @@ pub record HasMetCentre (s : Seg) (centres : List Coord) (r : Coord) (k : ℕ) :
 -- of the centres with the numbers near, those whose pixels the segment meets
 abbrev pub AreMet : Seg → List Coord → List ℕ → List Coord → Type 0
 AreMet s centres near met = (r : Coord) → Contains met r ↔ Any (HasMetCentre s centres r) near
+
+-- all those of the centres whose pixels the segment meets
+abbrev pub AreAllMet : Seg → List Coord → List Coord → Type 0
+AreAllMet s centres met = (r : Coord) → Contains met r ↔ (Contains centres r × MeetsPixel s r)

@@ -1,10 +1,12 @@
 ghost use Rattle.std.specs.Prelude.{◌≡◌, ◌<◌, All, AllPairs, Contains, IfOk, length, map, ◌↔◌};
-ghost use Rattle.box_tree.specs.Rect.{box_of_point};
+ghost use Rattle.box_tree.specs.Places.{places};
+ghost use Rattle.box_tree.specs.Rect.{IsInside, box_of_point, box_of_segment, is_touching};
 ghost use Rattle.cov_types.specs.Range.{IsInRange, IsSegInRange};
 ghost use Rattle.plane.specs.Snapping.{IsChain};
 ghost use Rattle.rounding_laws.specs.Formulas.{ComesFirst};
-ghost use Rattle.hot_pixel.specs.Centres.{AreMet};
+ghost use Rattle.hot_pixel.specs.Centres.{AreAllMet, AreMet};
 ghost use Rattle.hot_pixel.specs.HotSet.{segs_of};
+ghost use Rattle.hot_pixel.specs.Near.{is_inside};
 
 use crate::centres::hot_centres;
 use crate::passing::meets;
@@ -22,11 +24,15 @@ pub struct HotSet {
     centres: Vec<Coord>,
     // A tree over the centres.
     tree: BoxTree,
+    // The numbers of the centres in a box: those that were gathered.
+    round: Rect,
+    near: Vec<usize>,
 }
 
 impl Model for HotSet {
     ghost use Rattle.std.specs.Prelude.{◌≡◌, List, map};
-    ghost use Rattle.box_tree.specs.Rect.{box_of_point};
+    ghost use Rattle.box_tree.specs.Places.{places};
+    ghost use Rattle.box_tree.specs.Rect.{box_of_point, is_touching};
     ghost use Rattle.cov_types.specs.declared.seg.Seg.{Seg};
     ghost use Rattle.hot_pixel.specs.Centres.{AreHotCentres};
 
@@ -34,7 +40,7 @@ impl Model for HotSet {
 
     ghost view = { λ hot. hot.segs.items };
 
-    ghost invariant = { λ hot. AreHotCentres hot.segs.items hot.centres.items × (hot.tree ≡ map box_of_point hot.centres.items) };
+    ghost invariant = { λ hot. AreHotCentres hot.segs.items hot.centres.items × (hot.tree ≡ map box_of_point hot.centres.items) × (hot.near.items ≡ places (is_touching hot.round) 0 hot.tree) };
 }
 
 impl HotSet {
@@ -47,11 +53,29 @@ impl HotSet {
         let segs = segments(alloc, list)?;
         let centres = hot_centres(alloc, segs.as_slice())?;
         let tree = BoxTree::build(alloc, boxes_of(alloc, centres.as_slice())?)?;
+        let round = Rect::of_point(Coord { x: 0, y: 0 });
+        let near = tree.meeting(&Probe::Box(round))?;
         Ok(HotSet {
             segs,
             centres,
             tree,
+            round,
+            near,
         })
+    }
+
+    /// Gathers the centres near the segments of these uses with one query, so that until the next call their chains are found without one. No
+    /// chain depends on it. Takes time in proportion to the centres in the box about the segments and to the logarithm of all, and
+    /// then each chain of a segment in that box takes time in proportion to these centres: few, where the segments are near.
+    pub fn gather(&mut self, uses: &[EdgeUse]) -> Result<(), NoMemory>
+        requires { 0 < length uses.now }
+        ensures { self.new ≡ self.old }
+    {
+        let round = box_about(uses);
+        let near = self.tree.meeting(&Probe::Box(round))?;
+        self.round = round;
+        self.near = near;
+        Ok(())
     }
 
     /// The chain of a segment, listed or not: the centres of the hot pixels that it meets, in the order from lo to hi. Takes time in
@@ -61,12 +85,13 @@ impl HotSet {
         requires { IsSegInRange s }
         ensures { IfOk result (λ chain. IsChain self.now s chain.items) }
     {
-        let near = self.tree.meeting(&Probe::Pixels(s))?;
-        let mut chain = met_centres(
+        let mut chain = all_met(
             *self.centres.allocator(),
-            s,
+            &self.tree,
             self.centres.as_slice(),
-            near.as_slice(),
+            self.round,
+            self.near.as_slice(),
+            s,
         )?;
         sort_along(s, &mut chain);
         Ok(chain)
@@ -104,6 +129,74 @@ fn met_centres(
             met.push(r)?;
         }
     }
+    Ok(met)
+}
+
+// A box about the segments of uses. Only the time of a query depends on it.
+fn box_about(uses: &[EdgeUse]) -> Rect
+    requires { 0 < length uses.now }
+{
+    let mut round = Rect::of_segment(uses[0].seg);
+    for u in uses {
+        round = round.hull(Rect::of_segment(u.seg));
+    }
+    round
+}
+
+// Whether the first box is inside the second.
+fn is_inside(a: Rect, b: Rect) -> bool
+    ensures { result ≡ is_inside a b }
+{
+    (b.lo.x <= a.lo.x) & (a.hi.x <= b.hi.x) & (b.lo.y <= a.lo.y) & (a.hi.y <= b.hi.y)
+}
+
+// The centres that the segment meets, where those in the box round have the numbers near.
+fn all_met(
+    alloc: Global,
+    tree: &BoxTree,
+    centres: &[Coord],
+    round: Rect,
+    near: &[usize],
+    s: Seg,
+) -> Result<Vec<Coord>, NoMemory>
+    requires in_range { IsSegInRange s }
+    requires boxed { tree.now ≡ map box_of_point centres.now }
+    requires near { near.now ≡ places (is_touching round) 0 tree.now }
+    ensures { IfOk result (λ met. AreAllMet s centres.now met.items) }
+{
+    if is_inside(Rect::of_segment(s), round) {
+        return met_in_box(alloc, centres, round, near, s);
+    }
+    met_by_query(alloc, tree, centres, s)
+}
+
+fn met_in_box(
+    alloc: Global,
+    centres: &[Coord],
+    round: Rect,
+    near: &[usize],
+    s: Seg,
+) -> Result<Vec<Coord>, NoMemory>
+    requires inside { IsInside (box_of_segment s) round }
+    requires near { near.now ≡ places (is_touching round) 0 (map box_of_point centres.now) }
+    ensures { IfOk result (λ met. AreAllMet s centres.now met.items) }
+{
+    let met = met_centres(alloc, s, centres, near)?;
+    Ok(met)
+}
+
+fn met_by_query(
+    alloc: Global,
+    tree: &BoxTree,
+    centres: &[Coord],
+    s: Seg,
+) -> Result<Vec<Coord>, NoMemory>
+    requires in_range { IsSegInRange s }
+    requires boxed { tree.now ≡ map box_of_point centres.now }
+    ensures { IfOk result (λ met. AreAllMet s centres.now met.items) }
+{
+    let near = tree.meeting(&Probe::Pixels(s))?;
+    let met = met_centres(alloc, s, centres, near.as_slice())?;
     Ok(met)
 }
 

@@ -12,3 +12,4 @@ mod Marking
 mod LiveUses
 mod Renumbering
 mod Snapping
+pub mod AlongCurve

@@ -5,6 +5,7 @@
 //! noded, odd and live edges are is defined in `arrangement`, whose `noding_law` says that uses have one noding.
 #![tactic(auto)]
 
+mod along_curve;
 mod live_edges;
 mod liveness;
 mod noded;

@@ -6,8 +6,9 @@ ghost use Rattle.arrangement.specs.Noding.{AreEdges, IsNoded, odd_uses, segments
 ghost use Rattle.sector_laws.specs.Sector.{AreDistinct};
 ghost use Rattle.snap_noder.specs.Snapped.{AreSnappedOver, HasSegmentBefore, IsNearSegments, chain_uses};
 
+use crate::along_curve::along_curve;
 use crate::noded::Noded;
-use crate::parity::{by_segment, edges_of};
+use crate::parity::edges_of;
 use cov_types::{Coord, EdgeUse, NoMemory, Seg};
 use hot_pixel::HotSet;
 use std::alloc::Global;
@@ -28,9 +29,9 @@ pub fn node(alloc: Global, list: &[EdgeUse]) -> Result<Noded, NoMemory>
     // Of any set of points, each member has an even number of ends of its odd edges in it, where its uses have.
     ensures even { IfOk result (λ n. HasEvenEnds list.now → HasEvenEnds (odd_uses n.edges.items n.odd.items)) }
 {
-    let hot = HotSet::build(alloc, list)?;
-    let sorted = by_segment(Vec::from_slice(alloc, list)?);
-    let uses = snapped_uses(alloc, &hot, sorted.as_slice())?;
+    let mut hot = HotSet::build(alloc, list)?;
+    let along = along_curve(alloc, list)?;
+    let uses = snapped_uses(alloc, &mut hot, along.as_slice())?;
     edges_of(alloc, uses)
 }
 
@@ -49,19 +50,35 @@ pub fn plain(alloc: Global, list: &[EdgeUse]) -> Result<Noded, NoMemory>
 }
 
 // The uses of all chain edges: of each use in turn, along its chain. Uses of one segment that stand together share one chain.
-fn snapped_uses(alloc: Global, hot: &HotSet, uses: &[EdgeUse]) -> Result<Vec<EdgeUse>, NoMemory>
+fn snapped_uses(alloc: Global, hot: &mut HotSet, uses: &[EdgeUse]) -> Result<Vec<EdgeUse>, NoMemory>
     requires { All (λ u. IsSegInRange u.seg) uses.now }
-    ensures { IfOk result (λ snapped. AreSnappedOver hot.now uses.now snapped.items) }
+    ensures { IfOk result (λ snapped. AreSnappedOver hot.old uses.now snapped.items) }
 {
     let mut snapped = Vec::new(alloc);
     let mut chain = Vec::new(alloc);
     for (i, u) in uses.iter().enumerate() {
+        gather_at(hot, uses, i)?;
         if !has_segment_before(uses, i) {
             chain = hot.chain(u.seg)?;
         }
         add_chain(&mut snapped, *u, chain.as_slice())?;
     }
     Ok(snapped)
+}
+
+// How many uses that stand together ask for the centres near them with one query.
+const BLOCK: usize = 16;
+
+// Where a block of uses begins, gathers what their chains are found in.
+fn gather_at(hot: &mut HotSet, uses: &[EdgeUse], i: usize) -> Result<(), NoMemory>
+    requires { i < length uses.now }
+    ensures { hot.new ≡ hot.old }
+{
+    if i % BLOCK == 0 {
+        let past = uses.len().min(i + BLOCK);
+        hot.gather(&uses[i..past])?;
+    }
+    Ok(())
 }
 
 // Whether the use before this one has the same segment.

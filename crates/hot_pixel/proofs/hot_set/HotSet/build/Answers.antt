@@ -15,4 +15,5 @@ pub invariant_of-result : goal.invariant_of-result
 invariant_of-result c = (
   subst (λ (segs : List Seg). AreHotCentres segs c.in_ok-centres.centres.items) c.as_slice.ensures.value c.in_ok-centres.ensures,
   c.in_ok-tree.ensures ∙ c.in_ok-boxes_of.ensures ∙ ap (map box_of_point) c.as_slice-2.ensures.value,
+  c.in_ok-near.ensures,
 )

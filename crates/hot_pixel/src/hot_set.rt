@@ -29,6 +29,9 @@ pub struct HotSet {
     near: Vec<usize>,
 }
 
+// The most centres that are looked at for a segment without a query of its own.
+const MOST_GATHERED: usize = 64;
+
 impl Model for HotSet {
     ghost use Rattle.std.specs.Prelude.{◌≡◌, List, map};
     ghost use Rattle.box_tree.specs.Places.{places};
@@ -64,17 +67,19 @@ impl HotSet {
         })
     }
 
-    /// Gathers the centres near the segments of these uses with one query, so that until the next call their chains are found without one. No
-    /// chain depends on it. Takes time in proportion to the centres in the box about the segments and to the logarithm of all, and
-    /// then each chain of a segment in that box takes time in proportion to these centres: few, where the segments are near.
+    /// Gathers the centres near the segments of these uses with one query, where they are few, so that until the next call their chains
+    /// are found without one. No chain depends on it. Takes time in proportion to the centres in the box about the segments and to the
+    /// logarithm of all.
     pub fn gather(&mut self, uses: &[EdgeUse]) -> Result<(), NoMemory>
         requires { 0 < length uses.now }
         ensures { self.new ≡ self.old }
     {
         let round = box_about(uses);
         let near = self.tree.meeting(&Probe::Box(round))?;
-        self.round = round;
-        self.near = near;
+        if near.len() <= MOST_GATHERED {
+            self.round = round;
+            self.near = near;
+        }
         Ok(())
     }
 

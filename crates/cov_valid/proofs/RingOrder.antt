@@ -17,7 +17,7 @@ use Rattle.box_tree.specs.Places.{places}
 use Rattle.box_tree.specs.Rect.{box_of_point}
 use Rattle.box_tree.specs.declared.rect.Rect.{Rect}
 use Rattle.cov_valid.proofs.Ascending.{same_ascending}
-use Rattle.cov_valid.specs.RingTree.{AreFirstNumbers, AreAlong}
+use Rattle.cov_valid.specs.RingTree.{AreFirstNumbers, AreMovedBoxes}
 
 -- ---- numbers that differ
 
@@ -89,7 +89,7 @@ module _ {X : Type 0} where
 no_box : Rect
 no_box = box_of_point (record { x = pos 0; y = pos 0 })
 
-module _ (boxes : List Rect) (order : List ℕ) (moved : List Rect) (along : AreAlong boxes order moved) where
+module _ (boxes : List Rect) (order : List ℕ) (moved : List Rect) (along : AreMovedBoxes boxes order moved) where
   long_as : length moved ≡ length order
   long_as = ap length (along.moved_boxes no_box) ∙ length-map order (λ n. get_or boxes n no_box)
 

@@ -21,7 +21,7 @@ use Rattle.cov_types.specs.declared.ring_run.RingRun.{RingRun}
 use Rattle.cov_types.specs.declared.seg.Seg.{Seg}
 use Rattle.cov_valid.proofs.Boxes.{lesser, greater}
 use Rattle.cov_valid.proofs.Stabs.{AreIn, beside_holds, higher_in}
-use Rattle.cov_valid.specs.Holders.{AreHolders, IsToggled}
+use Rattle.cov_valid.specs.Holders.{AreHolders, IsMemberToggled}
 use Rattle.cov_valid.specs.Levels.{IsAbout, twice_middle}
 use Rattle.cov_valid.specs.RunIndex.{AreRingBoxes, IsInOrder}
 use Rattle.integer_laws.proofs.Compare.{int_le_is, int_lt_is, not_int_lt_is}
@@ -124,7 +124,7 @@ held_kept uses p runs places holders k not_held are = record {
 
 -- one that holds it turns whether its member does
 pub held_toggled : (uses : List EdgeUse) (p : Point) (runs : List RingRun) (places holders after : List ℕ) (k : ℕ) → run_holds uses p (run_at runs k) ≡ true
-    → IsToggled holders (run_at runs k).member after → AreHeldAt uses p runs places holders → AreHeldAt uses p runs (places ++ k ∷ []) after
+    → IsMemberToggled holders (run_at runs k).member after → AreHeldAt uses p runs places holders → AreHeldAt uses p runs (places ++ k ∷ []) after
 held_toggled uses p runs places holders after k held toggled are =
     let owner : ℕ = (run_at runs k).member in record {
       ascending = toggled.ascending;

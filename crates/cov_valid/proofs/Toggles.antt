@@ -6,7 +6,7 @@ use Rattle.std.proofs.lemmas.List.{get_or_append_left, get_or_push, length_push}
 use Rattle.std.proofs.lemmas.List.Elements.{All-push, Contains-append_left, Contains-get_or, Contains-push, Contains-push_cases}
 use Rattle.std.proofs.lemmas.List.Quantifiers.{all_pairs_push}
 use Rattle.std.proofs.lemmas.Option.{slice_get-get_or, slice_get_within, get_or_from_slice_get}
-use Rattle.cov_valid.specs.Holders.{IsToggled}
+use Rattle.cov_valid.specs.Holders.{IsMemberToggled}
 
 abbrev AreAscending : List ℕ → Type 0
 AreAscending ns = AllPairs (λ (i : ℕ) (j : ℕ). i < j) ns
@@ -21,7 +21,7 @@ before_last front member k d up within =
     let less : get_or (front ++ member ∷ []) k d < get_or (front ++ member ∷ []) (length front) d = up k (length front) d within (omega (arith, long)) in
     omega (arith, less, here, last)
 
-toggled_last : (front : List ℕ) (member : ℕ) → AreAscending (front ++ member ∷ []) → IsToggled (front ++ member ∷ []) member front
+toggled_last : (front : List ℕ) (member : ℕ) → AreAscending (front ++ member ∷ []) → IsMemberToggled (front ++ member ∷ []) member front
 toggled_last front member up = record {
   ascending = λ i j d h k.
       let long = length_push front member in
@@ -38,13 +38,13 @@ toggled_last front member up = record {
   );
 }
 
-pub toggled_away : (old front : List ℕ) (member : ℕ) → old ≡ front ++ member ∷ [] → AreAscending old → IsToggled old member front
+pub toggled_away : (old front : List ℕ) (member : ℕ) → old ≡ front ++ member ∷ [] → AreAscending old → IsMemberToggled old member front
 toggled_away old front member e up =
-    subst (λ (ns : List ℕ). IsToggled ns member front) (sym e) (toggled_last front member (subst AreAscending e up))
+    subst (λ (ns : List ℕ). IsMemberToggled ns member front) (sym e) (toggled_last front member (subst AreAscending e up))
 
 -- by the clauses of `pop`
 pub toggled_pop : (old front : List ℕ) (member n : ℕ) (r : Option ℕ) → old ≡ front ++ option_to_list r → n ≡ length old → (0 < n → r ≡ Some (get_or old (n - 1) 0)) → slice_get old (length old - 1) ≡ Some member → AreAscending old
-    → IsToggled old member front
+    → IsMemberToggled old member front
 toggled_pop old front member n r split long last at up =
     let within : length old - 1 < length old = slice_get_within old (length old - 1) member at in
     let same : get_or old (n - 1) 0 ≡ member = ap (λ (m : ℕ). get_or old (m - 1) 0) long ∙ get_or_from_slice_get old (length old - 1) member 0 at in
@@ -67,10 +67,10 @@ absent_from old member not_last up at_most (k, within, at) =
           not_last (ap (slice_get old) (sym here) ∙ (slice_get-get_or old k member within ∙ ap (λ (n : ℕ). Some n) at))
     ]
 
-pub toggled_in : (old new : List ℕ) (member : ℕ) → new ≡ old ++ member ∷ [] → ¬ (slice_get old (length old - 1) ≡ Some member) → AreAscending old → All (λ m. m ≤ member) old → IsToggled old member new
+pub toggled_in : (old new : List ℕ) (member : ℕ) → new ≡ old ++ member ∷ [] → ¬ (slice_get old (length old - 1) ≡ Some member) → AreAscending old → All (λ m. m ≤ member) old → IsMemberToggled old member new
 toggled_in old new member e not_last up at_most =
     let absent : ¬ Contains old member = absent_from old member not_last up at_most in
-    subst (λ (ns : List ℕ). IsToggled old member ns) (sym e)
+    subst (λ (ns : List ℕ). IsMemberToggled old member ns) (sym e)
     (record {
       ascending = all_pairs_push (λ (i : ℕ) (j : ℕ). i < j) old member up
           (λ k d h.

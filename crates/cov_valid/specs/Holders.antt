@@ -10,7 +10,7 @@ pub record AreHolders (uses : List EdgeUse) (p : Point) (holders : List ℕ) : T
   pub exact : (member : ℕ) → Contains holders member ↔ (member_holds uses member p ≡ true)
 
 -- the ascending list up to a member has this one where the other had not, and not where it had; all others stay
-pub record IsToggled (old : List ℕ) (member : ℕ) (new : List ℕ) : Type 0 where
+pub record IsMemberToggled (old : List ℕ) (member : ℕ) (new : List ℕ) : Type 0 where
   pub ascending : AllPairs (λ i j. i < j) new
   pub at_most : All (λ m. m ≤ member) new
   pub turned : Contains new member ↔ ¬ Contains old member

@@ -16,7 +16,7 @@ pub record IsLevelled (outline : Outline) (levels : List Level) : Type 0 where
   pub levels_are : All (IsLevel outline.uses.items) levels
 
 -- the part of the run that begins at a place: where it ends, and whether it holds the midpoint of the segment
-pub record IsPart (outline : Outline) (run : RingRun) (from : ℕ) (s : Seg) (part : Part) : Type 0 where
+pub record IsRunPart (outline : Outline) (run : RingRun) (from : ℕ) (s : Seg) (part : Part) : Type 0 where
   pub begins : from ≤ part.to
   pub ends : part.to ≤ run.to
   pub held : part.holds ≡ part_holds outline.uses.items from part.to (midpoint s)

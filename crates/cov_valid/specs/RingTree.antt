@@ -13,6 +13,6 @@ abbrev pub AreMoved : List Rect → List ℕ → List Rect → Type 0
 AreMoved boxes order moved = (d : Rect) → moved ≡ map (λ n. slice_index_or boxes n d) order
 
 -- all boxes, in this order
-pub record AreAlong (boxes : List Rect) (order : List ℕ) (moved : List Rect) : Type 0 where
+pub record AreMovedBoxes (boxes : List Rect) (order : List ℕ) (moved : List Rect) : Type 0 where
   pub numbers : AreFirstNumbers (length boxes) order
   pub moved_boxes : AreMoved boxes order moved

@@ -2,7 +2,7 @@ ghost use Rattle.std.specs.Prelude.{◌≡◌, ◌<◌, ◌≤◌, ◌-◌, ◌�
 ghost use Rattle.box_tree.specs.Places.{places};
 ghost use Rattle.box_tree.specs.Rect.{box_of_segment, is_touching};
 ghost use Rattle.cov_types.specs.Range.{IsSegInRange};
-ghost use Rattle.cov_valid.specs.Holders.{AreHolders, IsToggled};
+ghost use Rattle.cov_valid.specs.Holders.{AreHolders, IsMemberToggled};
 ghost use Rattle.cov_valid.specs.RunIndex.{IsIndexed, IsInOrder};
 ghost use Rattle.plane.specs.Segment.{midpoint};
 
@@ -74,7 +74,7 @@ fn members_into(
 fn toggle(members: &mut Vec<u32>, member: u32) -> Result<(), NoMemory>
     requires ascending { AllPairs (λ i j. i < j) members.old.items }
     requires at_most { All (λ m. m ≤ member) members.old.items }
-    ensures { OnOk result (IsToggled members.old.items member members.new.items) }
+    ensures { OnOk result (IsMemberToggled members.old.items member members.new.items) }
 {
     if is_last(members, member) {
         let _ = members.pop();

@@ -22,13 +22,13 @@ pub struct RingTree {
 impl Model for RingTree {
     ghost use Rattle.std.specs.Prelude.{List};
     ghost use Rattle.box_tree.specs.declared.rect.Rect.{Rect};
-    ghost use Rattle.cov_valid.specs.RingTree.{AreAlong};
+    ghost use Rattle.cov_valid.specs.RingTree.{AreMovedBoxes};
 
     ghost Value = { List Rect };
 
     ghost view = { λ t. t.boxes.items };
 
-    ghost invariant = { λ t. AreAlong t.boxes.items t.order.items t.tree };
+    ghost invariant = { λ t. AreMovedBoxes t.boxes.items t.order.items t.tree };
 }
 
 impl RingTree {

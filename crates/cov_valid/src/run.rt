@@ -2,7 +2,7 @@ ghost use Rattle.std.specs.Prelude.{◌≡◌, ◌≤◌, ◌<◌, ◌+◌, ◌*
 ghost use Rattle.cov_types.specs.Range.{IsSegInRange};
 ghost use Rattle.cov_types.specs.Rings.{IsRing};
 ghost use Rattle.cov_types.specs.declared.coord.Coord.{Coord};
-ghost use Rattle.cov_valid.specs.Parts.{IsLevelled, IsPart};
+ghost use Rattle.cov_valid.specs.Parts.{IsLevelled, IsRunPart};
 ghost use Rattle.parity_laws.specs.Paths.{differ, is_started};
 ghost use Rattle.parity_laws.specs.Runs.{place_in, run_holds};
 ghost use Rattle.plane.specs.Ray.{is_over};
@@ -45,7 +45,7 @@ fn part_from(outline: &Outline, levels: &[Level], run: RingRun, from: usize, s: 
     requires in_range { IsSegInRange s }
     requires begins { run.from ≤ from }
     requires some { from < run.to }
-    ensures part { IsPart outline.now run from s result }
+    ensures part { IsRunPart outline.now run from s result }
     ensures some { from < result.to }
 {
     let part = widest_block(outline, levels, run, from, s);
@@ -69,7 +69,7 @@ fn widest_block(outline: &Outline, levels: &[Level], run: RingRun, from: usize, 
     requires in_range { IsSegInRange s }
     requires begins { run.from ≤ from }
     requires some { from < run.to }
-    ensures { IsPart outline.now run from s result }
+    ensures { IsRunPart outline.now run from s result }
 {
     let middle = twice_middle(s);
     let mut part = Part {

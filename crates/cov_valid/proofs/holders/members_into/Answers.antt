@@ -6,7 +6,7 @@ use Rattle.cov_types.specs.declared.ring_run.RingRun.{RingRun}
 use Rattle.cov_valid.proofs.Runs.{AreHeldAt, run_at, no_run, held_none, held_kept, held_toggled, holders_all, found_within, members_below}
 use Rattle.cov_valid.proofs.holders.members_into.Goals as goal
 use Rattle.cov_valid.proofs.holders.members_into.Goals.{then-run_holds+in_ok-toggle, else-run_holds}
-use Rattle.cov_valid.specs.Holders.{IsToggled}
+use Rattle.cov_valid.specs.Holders.{IsMemberToggled}
 use Rattle.parity_laws.specs.Runs.{run_holds}
 use Rattle.plane.specs.Segment.{midpoint}
 
@@ -58,7 +58,7 @@ loop-k-preserved c =
       | then-run_holds+in_ok-toggle w ↦
           subst (AreHeldAt uses p runs (take i found ++ k ∷ [])) (sym (ap (λ (v : Vec ℕ Global). v.items) w.members-is))
           (held_toggled uses p runs (take i found) c.loop-k.members.items w.toggle.new.members.items k (told ∙ w.if-run_holds.true)
-          (subst (λ (r : RingRun). IsToggled c.loop-k.members.items r.member w.toggle.new.members.items) (sym run_is) w.in_ok-toggle.ensures)
+          (subst (λ (r : RingRun). IsMemberToggled c.loop-k.members.items r.member w.toggle.new.members.items) (sym run_is) w.in_ok-toggle.ensures)
           c.loop-k.invariant)
       | else-run_holds w ↦
           subst (AreHeldAt uses p runs (take i found ++ k ∷ [])) (sym (ap (λ (v : Vec ℕ Global). v.items) w.members-is))

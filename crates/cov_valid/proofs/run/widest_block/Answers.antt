@@ -5,7 +5,7 @@ use Rattle.cov_valid.proofs.Stabs.{AreIn, block_within, in_level, beside_holds, 
 use Rattle.cov_valid.proofs.run.widest_block.Goals as goal
 use Rattle.cov_valid.proofs.run.widest_block.Goals.{in-Beside, in-Higher}
 use Rattle.cov_valid.specs.Levels.{IsLevel, IsPlaced, twice_middle}
-use Rattle.cov_valid.specs.Parts.{IsPart}
+use Rattle.cov_valid.specs.Parts.{IsRunPart}
 
 pub index-requires : goal.index-requires
 index-requires c =
@@ -34,11 +34,11 @@ loop-level-preserved c =
     elim c.match-place_of.branch [
       | in-Beside w ↦
           let beside : is_above_point (twice_middle s) b ≡ false = subst (IsPlaced b (twice_middle s)) w.in-Beside.is placed in
-          subst (IsPart outline c.args.run from s) (sym w.part-is)
+          subst (IsRunPart outline c.args.run from s) (sym w.part-is)
           (record { begins = omega (arith, end.begins); ends = end.within; held = beside_holds uses from to b s c.requires.levelled.in_range c.requires.in_range (omega (arith, end.within, ring.uses_end)) inside beside })
       | in-Higher w ↦
           let above : (twice_middle s).y <ℤ (pos 2 *ℤ b.lo.y) = subst (IsPlaced b (twice_middle s)) w.in-Higher.is placed in
-          subst (IsPart outline c.args.run from s) (sym w.part-is)
+          subst (IsRunPart outline c.args.run from s) (sym w.part-is)
           (record {
             begins = omega (arith, end.begins);
             ends = end.within;

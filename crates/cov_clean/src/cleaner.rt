@@ -21,8 +21,8 @@ use std::alloc::Global;
 /// The coverage, cleaned: it is snapped, each region goes to the one member that holds it or, where members overlap, to the one that the
 /// rule picks, and each member becomes the polygons of the regions that it has. The gap width, in grid units, is 0: no gap is filled.
 ///
-/// The rule is asked once for each region that several members hold, in ascending order. Without memory it was asked for the first of
-/// these regions, as many as its state tells.
+/// The rule is asked once for each region that several members hold, in ascending order. After running out of memory it has the state
+/// that it has after the first of these regions, be it none of them or all.
 ///
 /// Takes time in proportion to the edges and their logarithm, beside the noding, and for each region that several members hold to its
 /// sides times these members; and memory in proportion to the edges, the members and the lengths of the labels.

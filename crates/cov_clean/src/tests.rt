@@ -8,10 +8,13 @@ use std::process::Abort;
 use std::test::Fail;
 
 /// A ring by its points, without the closing repeat.
-type Points<'a> = &'a [(i32, i32)];
+type Points = &'static [(i32, i32)];
 
 /// A polygon by its rings.
-type Rings<'a> = &'a [Points<'a>];
+type Rings = &'static [Points];
+
+/// Members by their polygons.
+type Members = &'static [&'static [Rings]];
 
 /// Takes the candidates in turn, by the count of its calls.
 #[derive(Clone, Copy)]
@@ -51,7 +54,7 @@ fn poly(alloc: Global, rings: Rings) -> Result<Poly, NoMemory> {
     Ok(Poly { rings: list })
 }
 
-fn member(alloc: Global, polys: &[Rings]) -> Result<Member, NoMemory> {
+fn member(alloc: Global, polys: &'static [Rings]) -> Result<Member, NoMemory> {
     let mut list = Vec::new(alloc);
     for rings in polys {
         list.push(poly(alloc, *rings)?)?;
@@ -59,7 +62,7 @@ fn member(alloc: Global, polys: &[Rings]) -> Result<Member, NoMemory> {
     Ok(Member { polys: list })
 }
 
-fn coverage(alloc: Global, members: &[&[Rings]]) -> Result<Coverage, NoMemory> {
+fn coverage(alloc: Global, members: Members) -> Result<Coverage, NoMemory> {
     let mut list = Vec::new(alloc);
     for polys in members {
         list.push(member(alloc, *polys)?)?;
@@ -72,8 +75,8 @@ fn expect_cleaned<R: MergeRule>(
     alloc: Global,
     rt: &impl Abort,
     rule: &mut R,
-    members: &[&[Rings]],
-    want: &[&[Rings]],
+    members: Members,
+    want: Members,
 ) -> Result<(), Fail> {
     let given = coverage(alloc, members)?;
     assert!(rt; in_range(&given));
@@ -85,67 +88,82 @@ fn expect_cleaned<R: MergeRule>(
     Ok(())
 }
 
+/// Two squares, the second larger, that overlap in a square of size 5.
+const UNEQUAL: Members = &[
+    &[&[&[(0, 0), (10, 0), (10, 10), (0, 10)]]],
+    &[&[&[(5, 5), (25, 5), (25, 25), (5, 25)]]],
+];
+
+/// The first has the corners of the overlap on its sides, and the second goes without it.
+const SMALL_WHOLE: Members = &[
+    &[&[&[(0, 0), (10, 0), (10, 5), (10, 10), (5, 10), (0, 10)]]],
+    &[&[&[(5, 10), (10, 10), (10, 5), (25, 5), (25, 25), (5, 25)]]],
+];
+
+/// The other way round.
+const LARGE_WHOLE: Members = &[
+    &[&[&[(0, 0), (10, 0), (10, 5), (5, 5), (5, 10), (0, 10)]]],
+    &[&[&[(5, 5), (10, 5), (25, 5), (25, 25), (5, 25), (5, 10)]]],
+];
+
 #[test]
 fn a_shared_region_goes_to_the_member_that_the_rule_picks(rt: HostRuntime) -> Result<(), Fail> {
-    let small: Points = &[(0, 0), (10, 0), (10, 10), (0, 10)];
-    let large: Points = &[(5, 5), (25, 5), (25, 25), (5, 25)];
-    let given: [&[Rings]; 2] = [&[&[small]], &[&[large]]];
-
-    // The small square with the corners of the overlap on its sides, and the large one without the overlap.
-    let whole_small: Points = &[(0, 0), (10, 0), (10, 5), (10, 10), (5, 10), (0, 10)];
-    let cut_large: Points = &[(5, 10), (10, 10), (10, 5), (25, 5), (25, 25), (5, 25)];
-    let want: [&[Rings]; 2] = [&[&[whole_small]], &[&[cut_large]]];
-    expect_cleaned(rt.alloc(), &rt, &mut LeastIndex, &given, &want)?;
-    expect_cleaned(rt.alloc(), &rt, &mut LeastArea, &given, &want)?;
-
-    // And the other way round.
-    let cut_small: Points = &[(0, 0), (10, 0), (10, 5), (5, 5), (5, 10), (0, 10)];
-    let whole_large: Points = &[(5, 5), (10, 5), (25, 5), (25, 25), (5, 25), (5, 10)];
-    let want: [&[Rings]; 2] = [&[&[cut_small]], &[&[whole_large]]];
-    expect_cleaned(rt.alloc(), &rt, &mut GreatestArea, &given, &want)
+    let alloc = rt.alloc();
+    expect_cleaned(alloc, &rt, &mut LeastIndex, UNEQUAL, SMALL_WHOLE)?;
+    expect_cleaned(alloc, &rt, &mut LeastArea, UNEQUAL, SMALL_WHOLE)?;
+    expect_cleaned(alloc, &rt, &mut GreatestArea, UNEQUAL, LARGE_WHOLE)
 }
+
+/// The first and the second overlap, and so do the second and the third.
+const ROW: Members = &[
+    &[&[&[(0, 0), (10, 0), (10, 10), (0, 10)]]],
+    &[&[&[(5, 0), (15, 0), (15, 10), (5, 10)]]],
+    &[&[&[(12, 0), (20, 0), (20, 10), (12, 10)]]],
+];
+
+/// The first overlap went to the first candidate, and the second to the second.
+const ROW_IN_TURN: Members = &[
+    &[&[&[(0, 0), (5, 0), (10, 0), (10, 10), (5, 10), (0, 10)]]],
+    &[&[&[(10, 0), (12, 0), (12, 10), (10, 10)]]],
+    &[&[&[(12, 0), (15, 0), (20, 0), (20, 10), (15, 10), (12, 10)]]],
+];
 
 #[test]
 fn a_rule_with_a_state_is_asked_for_one_shared_region_after_the_other(
     rt: HostRuntime,
 ) -> Result<(), Fail> {
-    let first: Points = &[(0, 0), (10, 0), (10, 10), (0, 10)];
-    let second: Points = &[(5, 0), (15, 0), (15, 10), (5, 10)];
-    let third: Points = &[(12, 0), (20, 0), (20, 10), (12, 10)];
-    let given: [&[Rings]; 3] = [&[&[first]], &[&[second]], &[&[third]]];
-
-    // The first overlap goes to the first candidate, and the second to the second.
-    let west: Points = &[(0, 0), (5, 0), (10, 0), (10, 10), (5, 10), (0, 10)];
-    let middle: Points = &[(10, 0), (12, 0), (12, 10), (10, 10)];
-    let east: Points = &[(12, 0), (15, 0), (20, 0), (20, 10), (15, 10), (12, 10)];
-    let want: [&[Rings]; 3] = [&[&[west]], &[&[middle]], &[&[east]]];
     let mut rule = InTurn { calls: 0 };
-    expect_cleaned(rt.alloc(), &rt, &mut rule, &given, &want)?;
+    expect_cleaned(rt.alloc(), &rt, &mut rule, ROW, ROW_IN_TURN)?;
     assert_eq!(rt; rule.calls, 2);
     Ok(())
 }
 
+const OUTER: Points = &[(0, 0), (20, 0), (20, 20), (0, 20)];
+
+const INNER: Points = &[(5, 5), (15, 5), (15, 15), (5, 15)];
+
+const HOLE: Points = &[(5, 5), (5, 15), (15, 15), (15, 5)];
+
 #[test]
 fn a_member_within_another_is_cut_out_or_gone(rt: HostRuntime) -> Result<(), Fail> {
-    let outer: Points = &[(0, 0), (20, 0), (20, 20), (0, 20)];
-    let inner: Points = &[(5, 5), (15, 5), (15, 15), (5, 15)];
-    let hole: Points = &[(5, 5), (5, 15), (15, 15), (15, 5)];
-    let given: [&[Rings]; 2] = [&[&[outer]], &[&[inner]]];
-    let cut_out: [&[Rings]; 2] = [&[&[outer, hole]], &[&[inner]]];
-    expect_cleaned(rt.alloc(), &rt, &mut LeastArea, &given, &cut_out)?;
-    let gone: [&[Rings]; 2] = [&[&[outer]], &[]];
-    expect_cleaned(rt.alloc(), &rt, &mut GreatestArea, &given, &gone)
+    const GIVEN: Members = &[&[&[OUTER]], &[&[INNER]]];
+    const CUT_OUT: Members = &[&[&[OUTER, HOLE]], &[&[INNER]]];
+    const GONE: Members = &[&[&[OUTER]], &[]];
+    let alloc = rt.alloc();
+    expect_cleaned(alloc, &rt, &mut LeastArea, GIVEN, CUT_OUT)?;
+    expect_cleaned(alloc, &rt, &mut GreatestArea, GIVEN, GONE)
 }
 
-#[test]
-fn the_border_of_a_candidate_is_that_with_what_it_has_alone(rt: HostRuntime) -> Result<(), Fail> {
-    let first: Points = &[(0, 0), (30, 0), (30, 10), (0, 10)];
-    let second: Points = &[(10, 0), (40, 0), (40, 10), (10, 10)];
-    let third: Points = &[(20, 0), (50, 0), (50, 10), (20, 10)];
-    let given: [&[Rings]; 3] = [&[&[first]], &[&[second]], &[&[third]]];
+/// Three rectangles, each moved by 10 from the one before.
+const MOVED: Members = &[
+    &[&[&[(0, 0), (30, 0), (30, 10), (0, 10)]]],
+    &[&[&[(10, 0), (40, 0), (40, 10), (10, 10)]]],
+    &[&[&[(20, 0), (50, 0), (50, 10), (20, 10)]]],
+];
 
-    // From 10 to 20 only the first has a border, from 20 to 30 none of the three, and from 30 to 40 only the third.
-    let west: Points = &[
+/// From 10 to 20 only the first has a border with what it has alone, from 20 to 30 none of the three, and from 30 to 40 only the third.
+const MOVED_BY_BORDER: Members = &[
+    &[&[&[
         (0, 0),
         (10, 0),
         (20, 0),
@@ -154,10 +172,14 @@ fn the_border_of_a_candidate_is_that_with_what_it_has_alone(rt: HostRuntime) -> 
         (20, 10),
         (10, 10),
         (0, 10),
-    ];
-    let east: Points = &[(30, 0), (40, 0), (50, 0), (50, 10), (40, 10), (30, 10)];
-    let want: [&[Rings]; 3] = [&[&[west]], &[], &[&[east]]];
-    expect_cleaned(rt.alloc(), &rt, &mut LongestBorder, &given, &want)
+    ]]],
+    &[],
+    &[&[&[(30, 0), (40, 0), (50, 0), (50, 10), (40, 10), (30, 10)]]],
+];
+
+#[test]
+fn the_border_of_a_candidate_is_that_with_what_it_has_alone(rt: HostRuntime) -> Result<(), Fail> {
+    expect_cleaned(rt.alloc(), &rt, &mut LongestBorder, MOVED, MOVED_BY_BORDER)
 }
 
 #[test]

@@ -1,4 +1,4 @@
-use Rattle.std.proofs.Common.{◌≡◌, refl, sym, ◌∙◌, ap, subst, ℕ, ◌+◌, List, length, Option, None, Vec, Global, arith}
+use Rattle.std.proofs.Common.{◌≡◌, refl, sym, ◌∙◌, ap, subst, ℕ, ◌+◌, List, [], ◌∷◌, ◌++◌, length, Option, None, Vec, Global, arith}
 use Rattle.cov_types.specs.declared.seg.Seg.{Seg}
 use Rattle.plane.specs.Region.{AreRegions}
 use Rattle.arrangement.specs.Overlay.{Overlay, IsRegion, region_at}
@@ -58,8 +58,9 @@ loop-side-preserved g c =
             let edges = ap length is.edges in
             let there = state_there o rule start side (state c.loop-side.rule) (omega (arith, edges, c.requires.sides, c.loop-side-test.true)) (c.loop-side.invariant.state o is) in
             let owner = side_own rule start o side (state c.loop-side.rule) w.in_ok-owner_of_region.field-0 own there (w.in_ok-owner_of_region.ensures.owner o is) in
+            let pushed : w.push.new.self.items ≡ c.loop-side.owners.items ++ w.in_ok-owner_of_region.field-0 ∷ [] = w.in_ok-push.ensures.items in
             made_more (side_owner rule start o) side c.loop-side.owners.items c.if-region_of-side.owners.items w.in_ok-owner_of_region.field-0 (c.loop-side.invariant.owners o is)
-            (ap (λ (v : Vec (Option ℕ) Global). v.items) w.owners-is ∙ w.in_ok-push.ensures.items) owner
+            (subst (λ (v : Vec (Option ℕ) Global). v.items ≡ c.loop-side.owners.items ++ w.in_ok-owner_of_region.field-0 ∷ []) (sym w.owners-is) pushed) owner
             );
         state = λ o is. (
             let own : region_at o side ≡ side = sym (region o is) ∙ w.if-region_of-side.true in
@@ -69,8 +70,9 @@ loop-side-preserved g c =
       | else-region_of-side+in_ok-push-2 w ↦ record {
         owners = λ o is. (
             let other : ¬ (region_at o side ≡ side) = λ own. w.if-region_of-side.false (region o is ∙ own) in
+            let pushed : w.push-else-region_of-side.new.self.items ≡ c.loop-side.owners.items ++ None ∷ [] = w.in_ok-push-2.ensures.items in
             made_more (side_owner rule start o) side c.loop-side.owners.items c.if-region_of-side.owners.items None (c.loop-side.invariant.owners o is)
-            (ap (λ (v : Vec (Option ℕ) Global). v.items) w.owners-is ∙ w.in_ok-push-2.ensures.items) (side_other rule start o side other)
+            (subst (λ (v : Vec (Option ℕ) Global). v.items ≡ c.loop-side.owners.items ++ None ∷ []) (sym w.owners-is) pushed) (side_other rule start o side other)
             );
         state = λ o is. (
             let other : ¬ (region_at o side ≡ side) = λ own. w.if-region_of-side.false (region o is ∙ own) in

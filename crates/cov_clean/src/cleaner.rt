@@ -2,6 +2,7 @@ ghost use Rattle.std.specs.Prelude.{◌≡◌, length, IfOk, IfErr};
 ghost use Rattle.cov_types.specs.Coverage.{AllInRange, IsFormed};
 ghost use Rattle.cov_types.specs.Uses.{uses_of};
 ghost use Rattle.arrangement.specs.Overlay.{Overlay, IsSnappedOverlay};
+ghost use Rattle.plane.specs.Validity.{IsValid};
 ghost use Rattle.region_owners.specs.Owner.{last_state};
 ghost use Rattle.cov_clean.specs.Asked.{HasAskedFirst};
 ghost use Rattle.sound_polygons.specs.Cleaned.{IsCleaned};
@@ -35,6 +36,7 @@ pub fn clean<R: MergeRule>(
     requires in_range { AllInRange c.now }
     requires gap { gap ≡ 0 }
     ensures cleaned { IfOk result (λ out. IsCleaned c.now R.rule (R.state rule.old) gap out) }
+    ensures valid { IfOk result (λ out. IsValid (uses_of out)) }
     ensures formed { IfOk result IsFormed }
     ensures count { IfOk result (λ out. length out ≡ length c.now) }
 

@@ -2,7 +2,7 @@
 //!
 //! Its promise, that of [`clean`]: the coverage is snapped, each region goes to the one member that holds it or, where members overlap, to
 //! the one that the rule picks, and each member becomes the polygons of the regions that it owns (`IsCleaned` of `sound_polygons`, which
-//! one coverage is at most). The rule is asked once for each shared region, in ascending order, and for no other; its state in the end is
+//! one coverage is at most). What it answers is valid. The rule is asked once for each shared region, in ascending order, and for no other; its state in the end is
 //! that of the definition, also after running out of memory: then of the first shared regions. The gap width is 0: no gap is filled.
 //!
 //! The files of `specs/`: `SnappedEdges`, the live edges of the snapped members; `Asked`, the owner that a rule gives a region and the

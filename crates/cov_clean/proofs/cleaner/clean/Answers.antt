@@ -10,6 +10,7 @@ use Rattle.arrangement.specs.declared.odd_use.OddUse.{OddUse}
 use Rattle.owner_label.specs.Labelled.{Labelled}
 use Rattle.cov_build.specs.Owners.{owner_in}
 use Rattle.sound_polygons.specs.Cleaned.{IsBuilt}
+use Rattle.cleaned_laws.proofs.Cleaned.{cleaned_valid}
 use Rattle.cov_clean.proofs.Asking.{asked_all}
 use Rattle.cov_clean.proofs.Candidates.{areas_long, areas_all}
 use Rattle.cov_clean.proofs.Cleaning.{sides_count, sides_below, sides_outer, cleaned, built_count}
@@ -67,14 +68,22 @@ built_is : (arena edges : List Seg) (slice owners : List (Option ℕ)) (n member
 built_is arena edges slice owners n members out between same many built o is regions =
     subst (λ (k : ℕ). IsBuilt o (owner_in owners) k out) many (subst (λ (os : List (Option ℕ)). IsBuilt o (owner_in os) n out) same (built o (is ∙ sym between) regions))
 
-pub returns-clause-cleaned : goal.returns-clause-cleaned
-returns-clause-cleaned g c =
+-- the answer is the cleaned coverage
+is_cleaned : goal.returns-clause-cleaned
+is_cleaned g c =
     let edges = c.in_ok-live.live.edges.items in
     let between : c.in_ok-arena.arena ≡ edges = search rules in
     let many : c.len-members.result ≡ length c.args.c.now = search rules in
     IfOk-weaker c.polygons.result _ _ (λ (out : Members) built. cleaned g.R.MergeRule.rule (g.R.MergeRule.state c.args.rule.now) c.args.c.now c.requires.in_range edges c.in_ok-live.live.odd.items c.in_ok-live.ensures
     c.in_ok-labels.labels c.in_ok-labels.ensures c.len.result (c.len.ensures.count ∙ ap (λ (es : List Seg). 2 * length es) between) c.in_ok-owners.owners.items c.in_ok-owners.ensures.owners
     c.args.gap c.requires.gap out (built_is c.in_ok-arena.arena edges c.deref-3.result.now c.in_ok-owners.owners.items c.len-members.result (length c.args.c.now) out between c.deref-3.ensures.value many built)) c.polygons.ensures.polygons
+
+pub returns-clause-cleaned : goal.returns-clause-cleaned
+returns-clause-cleaned g c = is_cleaned g c
+
+pub returns-clause-valid : goal.returns-clause-valid
+returns-clause-valid g c =
+    IfOk-weaker c.polygons.result _ _ (λ (out : Members) h. cleaned_valid c.args.c.now c.requires.in_range g.R.MergeRule.rule (g.R.MergeRule.state c.args.rule.now) c.args.gap out h) (is_cleaned g c)
 
 pub returns-clause-count : goal.returns-clause-count
 returns-clause-count g c =

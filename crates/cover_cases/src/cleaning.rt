@@ -27,12 +27,7 @@ fn a_region_of_several_members_goes_to_the_one_that_the_rule_names(
     for (line, case) in [
         (
             "clean in out --rule least-index",
-            (
-                "least index",
-                OVERLAP,
-                Outcome::Done,
-                OVERLAP_BY_THE_FIRST,
-            ),
+            ("least index", OVERLAP, Outcome::Done, OVERLAP_BY_THE_FIRST),
         ),
         (
             "clean in out --rule longest-border",
@@ -191,5 +186,10 @@ fn of_a_hundred_copies_one_is_left(rt: HostRuntime) -> Result<(), test::Fail> {
         Outcome::Done,
         output.as_str(),
     );
-    expect_answers(&rt, rt.alloc(), "clean in out --rule longest-border", &[case])
+    expect_answers(
+        &rt,
+        rt.alloc(),
+        "clean in out --rule longest-border",
+        &[case],
+    )
 }

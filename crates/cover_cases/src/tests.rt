@@ -522,7 +522,11 @@ fn each_outcome_has_its_status_and_its_message(rt: HostRuntime) -> Result<(), te
             1,
             "marked 18446744073709551615",
         ),
-        (Outcome::Usage, 2, "usage: cover validate|clean|node|regions"),
+        (
+            Outcome::Usage,
+            2,
+            "usage: cover validate|clean|node|regions",
+        ),
         (NO_TEXT, 4, "text: syntax at 0"),
         (Outcome::TooLong, 6, "input is longer than 67108864 bytes"),
         (Outcome::ReadFault, 7, "cannot read"),

@@ -9,10 +9,23 @@ use std::slice;
 /// An operation, with the names of the files that it works on, and the rule of clean.
 #[derive(Clone, Copy)]
 pub enum Operation<'a> {
-    Validate { from: &'a str, to: &'a str },
-    Clean { rule: RuleName, from: &'a str, to: &'a str },
-    Node { from: &'a str, to: &'a str },
-    Regions { from: &'a str, to: &'a str },
+    Validate {
+        from: &'a str,
+        to: &'a str,
+    },
+    Clean {
+        rule: RuleName,
+        from: &'a str,
+        to: &'a str,
+    },
+    Node {
+        from: &'a str,
+        to: &'a str,
+    },
+    Regions {
+        from: &'a str,
+        to: &'a str,
+    },
 }
 
 impl<'a> Operation<'a> {
@@ -22,7 +35,11 @@ impl<'a> Operation<'a> {
     {
         match self {
             Operation::Validate { from, to: _ } => slice::from_ref(from),
-            Operation::Clean { rule: _, from, to: _ } => slice::from_ref(from),
+            Operation::Clean {
+                rule: _,
+                from,
+                to: _,
+            } => slice::from_ref(from),
             Operation::Node { from, to: _ } => slice::from_ref(from),
             Operation::Regions { from, to: _ } => slice::from_ref(from),
         }
@@ -34,7 +51,11 @@ impl<'a> Operation<'a> {
     {
         match self {
             Operation::Validate { from: _, to } => to,
-            Operation::Clean { rule: _, from: _, to } => to,
+            Operation::Clean {
+                rule: _,
+                from: _,
+                to,
+            } => to,
             Operation::Node { from: _, to } => to,
             Operation::Regions { from: _, to } => to,
         }

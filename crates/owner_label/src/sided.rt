@@ -30,10 +30,7 @@ impl<'a> Model for SidedEdges<'a> {
 
 impl<'a> SidedEdges<'a> {
     /// The live edges, with the regions between them.
-    pub fn build(
-        r: &'a Regions,
-        l: &'a LiveEdges,
-    ) -> SidedEdges<'a>
+    pub fn build(r: &'a Regions, l: &'a LiveEdges) -> SidedEdges<'a>
         requires regions { r.now ≡ l.now.edges.items }
         requires even { HasEvenEnds (odd_uses l.now.edges.items l.now.odd.items) }
         ensures edges { result.edges ≡ l.now.edges.items }

@@ -9,7 +9,7 @@ use Rattle.std.proofs.lemmas.List.{length-set, get_or-set_same, get_or-set_other
 use Rattle.std.proofs.lemmas.List.Concat.{flat_map-append}
 use Rattle.std.proofs.lemmas.Option.{slice_get-get_or, get_or_from_slice_get, slice_get_within, same_Some, none-some}
 use Rattle.cov_types.specs.declared.seg.Seg.{Seg}
-use Rattle.cov_build.specs.Boundaries.{boundary_edge, boundary_of, AreBoundaries, AreAdded}
+use Rattle.cov_build.specs.Boundaries.{boundary_edge, boundary_list, AreBoundaries, AreAdded}
 use Rattle.cov_build.specs.Parted.{is_part, part_at}
 use Rattle.cov_build.specs.declared.boundary.BoundaryEdge.{BoundaryEdge}
 use Rattle.cov_build.specs.declared.part.Part.{Part}
@@ -125,7 +125,7 @@ added-neither a b edge lists same = record {
 -- ---- an edge more of the list
 
 boundary-push : (parts : List (Option Part)) (p : ℕ) (edges : List Seg) (e : Seg)
-    → boundary_of parts p (edges ++ e ∷ []) ≡ boundary_of parts p edges ++ boundary_edge (is_part (part_at parts (2 * length edges)) p) (is_part (part_at parts (2 * length edges + 1)) p) e
+    → boundary_list parts p (edges ++ e ∷ []) ≡ boundary_list parts p edges ++ boundary_edge (is_part (part_at parts (2 * length edges)) p) (is_part (part_at parts (2 * length edges + 1)) p) e
 boundary-push parts p edges e =
     let f : ℕ × Seg → List BoundaryEdge = λ q. boundary_edge (is_part (part_at parts (2 * q.0)) p) (is_part (part_at parts (2 * q.0 + 1)) p) q.1 in
     ap (flat_map f) (enumerate-push 0 edges e) ∙ flat_map-append f (enumerate_from 0 edges) ((0 + length edges, e) ∷ [])
@@ -143,8 +143,8 @@ boundaries-more parts edges k e above below before after within here is_above is
       each = λ p w at_w. (
           let (v, at_v) = some_at before p (let less = slice_get_within after p w at_w in omega (arith, less, added.count)) in
           added.each p v w at_v at_w ∙ ap (λ xs. xs ++ boundary_edge (is_part above p) (is_part below p) e) (are.each p v at_v)
-          ∙ ap (λ q. boundary_of parts p (take k edges) ++ boundary_edge (is_part q p) (is_part below p) e) (is_above ∙ ap (λ n. part_at parts (2 * n)) (sym long))
-          ∙ ap (λ q. boundary_of parts p (take k edges) ++ boundary_edge (is_part (part_at parts (2 * length (take k edges))) p) (is_part q p) e) (is_below ∙ ap (λ n. part_at parts (2 * n + 1)) (sym long))
+          ∙ ap (λ q. boundary_list parts p (take k edges) ++ boundary_edge (is_part q p) (is_part below p) e) (is_above ∙ ap (λ n. part_at parts (2 * n)) (sym long))
+          ∙ ap (λ q. boundary_list parts p (take k edges) ++ boundary_edge (is_part (part_at parts (2 * length (take k edges))) p) (is_part q p) e) (is_below ∙ ap (λ n. part_at parts (2 * n + 1)) (sym long))
           ∙ sym (boundary-push parts p (take k edges) e)
           );
     })

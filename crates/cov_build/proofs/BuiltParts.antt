@@ -1,13 +1,11 @@
--- For each part of the regions of a member a polygon that goes round it.
+-- For each part of the regions of a member a polygon that is sound for it.
 use mathlib.Core.List.{List, [], ◌∷◌}
-use Rattle.std.proofs.Common.{◌≡◌, refl, sym, ◌∙◌, ap, subst, ℕ, ◌*◌, ◌<◌, Bool, true, false, true≢false, length, flat_map, Contains, Option, Some, None, arith}
+use Rattle.std.proofs.Common.{◌≡◌, refl, sym, ◌∙◌, ap, subst, ℕ, ◌*◌, ◌<◌, Bool, true, false, true≢false, length, Contains, Option, Some, None, arith}
 use Rattle.std.specs.Global.{Vec}
-use Rattle.std.specs.List.Sorted.{IsPermutation}
 use Rattle.std.proofs.lemmas.Bool.{eq-eqb}
 use Rattle.std.proofs.lemmas.Option.{none-some, same_Some}
 use Rattle.cov_types.specs.declared.coord.Coord.{Coord}
 use Rattle.cov_types.specs.declared.seg.Seg.{Seg}
-use Rattle.cov_types.specs.Uses.{sides}
 use Rattle.half_edge.proofs.Counts.{some_half_edge, number_within}
 use Rattle.plane.specs.Point.{Point}
 use Rattle.plane.specs.Region.{far_point, IsRegionOf, IsOuter, IsOuterRegion, AreRegions}
@@ -18,20 +16,20 @@ use Rattle.sector_laws.proofs.Numbers.{half_edge_side, half_edge_among}
 use Rattle.region_laws.proofs.Links.{link_out}
 use Rattle.region_laws.proofs.Numbered.{index, index_is}
 use Rattle.region_laws.proofs.Outwards.{some_out, leaves_at}
-use Rattle.sound_polygons.specs.Cleaned.{IsOwned}
+use Rattle.sound_polygons.specs.Cleaned.{IsOwned, IsSoundFor}
 use Rattle.sound_polygons.specs.Parts.{InOnePart}
-use Rattle.cov_build.specs.Boundaries.{AreBoundaries, boundary_of, boundary_edges}
+use Rattle.cov_build.specs.Boundaries.{AreBoundaries, boundary_list, boundary_edges}
 use Rattle.cov_build.specs.Members.{IsMemberPart, IsPartPolygon, ArePartPolygons}
 use Rattle.cov_build.specs.Parted.{ArePartsOf, IsPartAt, part_at, is_part}
 use Rattle.cov_build.specs.Rings.{IsBoundaryPolygon}
-use Rattle.cov_build.specs.RoundParts.{owner_in, IsRoundFor}
+use Rattle.cov_build.specs.Owners.{owner_in}
 use Rattle.cov_build.specs.declared.boundary.BoundaryEdge.{BoundaryEdge}
 use Rattle.cov_build.specs.declared.part.Part.{Part}
 use Rattle.cov_build.proofs.BoundaryLists.{some_at, is_part_some}
 use Rattle.cov_build.proofs.PartLists.{within_part}
 use Rattle.cov_build.proofs.PartSides.{passes, passes_joined, number_of, same_part, bounds_thinned, bounds_part}
-use Rattle.cov_build.proofs.RegionParts.{IsOwn, region_own, own_of, reached_own, part_long, part_own, least_own, ends_owned, inside_of, part_inside, boundary_is}
-use Rattle.cov_build.proofs.RoundFacts.{formed}
+use Rattle.cov_build.proofs.RegionParts.{IsOwn, region_own, own_of, reached_own, part_long, part_own, least_own, ends_owned, inside_of, part_inside}
+use Rattle.cov_build.proofs.SoundParts.{sound_for_part}
 use Rattle.cov_build.proofs.Thinned.{IsThinned, none_thinned}
 
 outer_is : (edges : List Seg) (p : Point) (r : ℕ) → IsRegionOf edges p r → IsOuter edges p → IsOuterRegion edges r
@@ -54,7 +52,7 @@ module _ (o : Overlay) (planar : IsPlanar o.edges) (distinct : AreDistinct o.edg
     off_part r None none is = refl
     off_part r (Some part) none is = absurd (none-some is.owner (sym none ∙ is.owned))
 
-    not_all : (r : ℕ) → IsOwnRegion r → part_at parts r ≡ Some (record { least = p }) → boundary_of parts p o.edges ≡ [] → ⊥
+    not_all : (r : ℕ) → IsOwnRegion r → part_at parts r ≡ Some (record { least = p }) → boundary_list parts p o.edges ≡ [] → ⊥
     not_all r own at none =
         let (h, at_h) = some_half_edge o.edges r own.within in
         let in_h = half_edge_among o.edges r h at_h in
@@ -70,34 +68,36 @@ module _ (o : Overlay) (planar : IsPlanar o.edges) (distinct : AreDistinct o.edg
         let thin : IsThinned in_part o.edges [] = subst (IsThinned in_part o.edges) (ap boundary_edges none) (bounds_thinned o planar distinct regions (owner_in owned) parts are p) in
         true≢false (sym within ∙ none_thinned o.edges planar distinct in_part (passes_joined o planar distinct regions (owner_in owned) parts are p) thin h g in_h in_g ∙ off)
 
-    pub some_boundary : (r : ℕ) → IsOwnRegion r → part_at parts r ≡ Some (record { least = p }) → 0 < length (boundary_of parts p o.edges)
-    some_boundary r own at = by (boundary_of parts p o.edges) (not_all r own at)
+    pub some_boundary : (r : ℕ) → IsOwnRegion r → part_at parts r ≡ Some (record { least = p }) → 0 < length (boundary_list parts p o.edges)
+    some_boundary r own at = by (boundary_list parts p o.edges) (not_all r own at)
       where
         by : (bs : List BoundaryEdge) → (bs ≡ [] → ⊥) → 0 < length bs
         by [] none = absurd (none refl)
         by (b ∷ bs) none = omega arith
 
-  -- ---- the polygon of a part goes round it
+  -- ---- the polygon of a part is sound for it
 
-  round_for : (i p r : ℕ) (rings : List (List Coord)) → IsOwnRegion r → part_at parts r ≡ Some (record { least = p }) → owner_in owned r ≡ Some i → 0 < length (boundary_of parts p o.edges)
-      → IsBoundaryPolygon (boundary_of parts p o.edges) rings → IsRoundFor o (owner_in owned) i r rings
-  round_for i p r rings own at owns some polygon = record {
-    inside = inside_of o planar distinct regions (owner_in owned) parts are p;
-    part = part_inside o planar distinct regions (owner_in owned) parts are i r own (record { least = p }) at owns;
-    round = subst (IsPermutation (flat_map sides rings)) (boundary_is o planar distinct regions (owner_in owned) parts are p) polygon.bounds.sides;
-    formed = formed o planar distinct regions (owner_in owned) parts are p rings polygon.bounds some;
-  }
+  module _ (outer : (n : ℕ) → IsOuterRegion o.edges n → owner_in owned n ≡ None) where
+    sound_for : (i p r : ℕ) (rings : List (List Coord)) → IsOwnRegion r → part_at parts r ≡ Some (record { least = p }) → owner_in owned r ≡ Some i → 0 < length (boundary_list parts p o.edges)
+        → IsBoundaryPolygon (boundary_list parts p o.edges) rings → IsSoundFor o (owner_in owned) i r rings
+    sound_for i p r rings own at owns some polygon =
+        let part = part_inside o planar distinct regions (owner_in owned) parts are i r own (record { least = p }) at owns in
+        record {
+          inside = inside_of o planar distinct regions (owner_in owned) parts are p;
+          part = part;
+          sound = sound_for_part o planar distinct regions (owner_in owned) parts are p some rings polygon i r part (λ g is owned_g. none-some i (sym (outer g is) ∙ owned_g));
+        }
 
   module _ (lists : List (Vec BoundaryEdge)) (bound : AreBoundaries parts o.edges lists) where
-    pub boundary_at : (i p : ℕ) (boundary : List BoundaryEdge) → IsMemberPart lists owned i p boundary → boundary ≡ boundary_of parts p o.edges
+    pub boundary_at : (i p : ℕ) (boundary : List BoundaryEdge) → IsMemberPart lists owned i p boundary → boundary ≡ boundary_list parts p o.edges
     boundary_at i p boundary of = sym of.is ∙ bound.each p of.vec of.at
 
-    pub each_round : (first i : ℕ) (rings : List (List Coord)) → IsPartPolygon lists owned first i rings → (r : ℕ) × (IsOwned o (owner_in owned) i r × IsRoundFor o (owner_in owned) i r rings)
-    each_round first i rings is =
+    pub each_sound : (outer : (n : ℕ) → IsOuterRegion o.edges n → owner_in owned n ≡ None) (first i : ℕ) (rings : List (List Coord)) → IsPartPolygon lists owned first i rings → (r : ℕ) × (IsOwned o (owner_in owned) i r × IsSoundFor o (owner_in owned) i r rings)
+    each_sound outer first i rings is =
         let p = is.place in
         let same = boundary_at i p is.boundary is.member_part in
-        let some : 0 < length (boundary_of parts p o.edges) = subst (λ (bs : List BoundaryEdge). 0 < length bs) same is.member_part.some in
-        let (b, at_b) = some_at (boundary_of parts p o.edges) 0 some in
+        let some : 0 < length (boundary_list parts p o.edges) = subst (λ (bs : List BoundaryEdge). 0 < length bs) same is.member_part.some in
+        let (b, at_b) = some_at (boundary_list parts p o.edges) 0 some in
         let n = index o.edges (record { edge = b.edge; forwards = b.above }) in
         let at_n = is_part_some (part_at parts n) p (within_part o planar distinct regions (owner_in owned) parts are lists bound p b (bounds_part o planar distinct regions (owner_in owned) parts are p 0 b at_b)) in
         let below : n < 2 * length o.edges = (let long = part_long parts n (record { least = p }) at_n in omega (arith, long, are.count)) in
@@ -109,17 +109,17 @@ module _ (o : Overlay) (planar : IsPlanar o.edges) (distinct : AreDistinct o.edg
           r,
           (
             record { region = Rattle.cov_build.proofs.RegionParts.region_of o planar distinct regions (owner_in owned) parts are r own; owned = owns },
-            round_for i p r rings own at_r owns some (subst (λ bs. IsBoundaryPolygon bs rings) same is.polygon),
+            sound_for outer i p r rings own at_r owns some (subst (λ bs. IsBoundaryPolygon bs rings) same is.polygon),
           ),
         )
 
-    pub every_round : (outer : (n : ℕ) → IsOuterRegion o.edges n → owner_in owned n ≡ None) (i : ℕ) (polys : List (List (List Coord))) → ArePartPolygons lists owned (length lists) i polys
-        → (r : ℕ) → IsOwned o (owner_in owned) i r → (rings : List (List Coord)) × (Contains polys rings × IsRoundFor o (owner_in owned) i r rings)
-    every_round outer i polys of r is =
+    pub every_sound : (outer : (n : ℕ) → IsOuterRegion o.edges n → owner_in owned n ≡ None) (i : ℕ) (polys : List (List (List Coord))) → ArePartPolygons lists owned (length lists) i polys
+        → (r : ℕ) → IsOwned o (owner_in owned) i r → (rings : List (List Coord)) × (Contains polys rings × IsSoundFor o (owner_in owned) i r rings)
+    every_sound outer i polys of r is =
         let own = own_of o planar distinct regions (owner_in owned) parts are r is.region in
         by own (part_at parts r) refl (part_own o planar distinct regions (owner_in owned) parts are r own)
       where
-        by : IsOwnRegion r → (q : Option Part) → part_at parts r ≡ q → IsPartAt o (owner_in owned) r q → (rings : List (List Coord)) × (Contains polys rings × IsRoundFor o (owner_in owned) i r rings)
+        by : IsOwnRegion r → (q : Option Part) → part_at parts r ≡ q → IsPartAt o (owner_in owned) r q → (rings : List (List Coord)) × (Contains polys rings × IsSoundFor o (owner_in owned) i r rings)
         by own None at none = absurd (none-some i (sym none ∙ is.owned))
         by own (Some part) at least =
             let p = part.least in
@@ -131,4 +131,4 @@ module _ (o : Overlay) (planar : IsPlanar o.edges) (distinct : AreDistinct o.edg
             let some = some_boundary outer p r own at in
             let same = bound.each p v at_v in
             let found = of.every p v.items below (record { vec = v; at = at_v; is = refl; some = subst (λ (bs : List BoundaryEdge). 0 < length bs) (sym same) some; owned = ends_owned o (owner_in owned) i r p to_p }) in
-            (found.0, (found.1.0, round_for i p r found.0 own at is.owned some (subst (λ bs. IsBoundaryPolygon bs found.0) same found.1.1)))
+            (found.0, (found.1.0, sound_for outer i p r found.0 own at is.owned some (subst (λ bs. IsBoundaryPolygon bs found.0) same found.1.1)))

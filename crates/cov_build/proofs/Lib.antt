@@ -4,6 +4,7 @@ pub mod Walking
 pub mod RingSides
 pub mod Thinned
 pub mod PartSides
+pub mod ClosedRings
 pub mod LeastEnds
 pub mod Passed
 pub mod Orders
@@ -13,5 +14,6 @@ pub mod PartLists
 pub mod RegionParts
 pub mod RoundFacts
 pub mod BuiltParts
+pub mod SoundParts
 pub mod Once
-pub mod BuiltRound
+pub mod BuiltPolygons

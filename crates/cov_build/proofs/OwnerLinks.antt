@@ -9,7 +9,7 @@ use Rattle.components.specs.declared.link.Link.{Link}
 use Rattle.components.specs.Connected.{IsTied, LeadsAlong, AreComponents}
 use Rattle.arrangement.specs.Overlay.{Overlay, region_at, region_above, region_below, AreBeside}
 use Rattle.sound_polygons.specs.Parts.{LeadsWithin}
-use Rattle.cov_build.specs.RoundParts.{owner_in}
+use Rattle.cov_build.specs.Owners.{owner_in}
 use Rattle.cov_build.specs.Parted.{IsOwnerLink, AreOwnerLinks, IsLeastInPart, IsPartAt, ArePartsOf, part_at}
 use Rattle.cov_build.specs.declared.part.Part.{Part}
 

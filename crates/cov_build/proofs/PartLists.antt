@@ -8,7 +8,7 @@ use Rattle.plane.specs.Region.{AreRegions}
 use Rattle.arrangement.specs.Overlay.{Overlay}
 use Rattle.sector_laws.specs.Sector.{IsPlanar, AreDistinct}
 use Rattle.region_laws.proofs.Numbered.{index}
-use Rattle.cov_build.specs.Boundaries.{AreBoundaries, boundary_of}
+use Rattle.cov_build.specs.Boundaries.{AreBoundaries, boundary_list}
 use Rattle.cov_build.specs.Members.{AreListsApart}
 use Rattle.cov_build.specs.Parted.{ArePartsOf, part_at, is_part}
 use Rattle.cov_build.specs.Rings.{IsBoundary}
@@ -29,7 +29,7 @@ module _ (o : Overlay) (planar : IsPlanar o.edges) (distinct : AreDistinct o.edg
   pub part_of : (p : ℕ) (v : Vec BoundaryEdge) → slice_get lists p ≡ Some v → (b : BoundaryEdge) → Contains v.items b → HasPart o planar distinct regions owners parts are p b
   part_of p v at b c =
       let there = subst (λ es. Contains es b) (bound.each p v at) c in
-      bounds_part o planar distinct regions owners parts are p there.0 b (at_of (boundary_of parts p o.edges) b there)
+      bounds_part o planar distinct regions owners parts are p there.0 b (at_of (boundary_list parts p o.edges) b there)
 
   pub lists_bound : All (λ (v : Vec BoundaryEdge). 0 < v.len → IsBoundary v.items) lists
   lists_bound = λ k d within some. (

@@ -15,7 +15,7 @@ use Rattle.sector_laws.proofs.Numbers.{half_edge_side, half_edge_among, one_half
 use Rattle.sector_laws.proofs.Sectors.{next_joined}
 use Rattle.region_laws.proofs.Numbered.{index, index_is}
 use Rattle.sound_polygons.specs.Parts.{InOnePart}
-use Rattle.cov_build.specs.Boundaries.{boundary_edge, boundary_of, boundary_edges}
+use Rattle.cov_build.specs.Boundaries.{boundary_edge, boundary_list, boundary_edges}
 use Rattle.cov_build.specs.Parted.{IsPartAt, ArePartsOf, part_at, is_part}
 use Rattle.cov_build.specs.Rings.{outside_of, IsOutside, IsBoundary}
 use Rattle.cov_build.specs.declared.boundary.BoundaryEdge.{BoundaryEdge}
@@ -99,7 +99,7 @@ module _ (o : Overlay) (planar : IsPlanar o.edges) (distinct : AreDistinct o.edg
       by false true above below rest = inr (boundary_edges (flat_map listed (enumerate_from (k + 1) es)), (refl, rest))
 
   abbrev pub bounds : List BoundaryEdge
-  bounds = boundary_of parts p o.edges
+  bounds = boundary_list parts p o.edges
 
   pub bounds_thinned : IsThinned passes o.edges (boundary_edges bounds)
   bounds_thinned = thinned 0 o.edges whole

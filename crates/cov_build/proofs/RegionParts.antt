@@ -1,18 +1,14 @@
--- The part of an owned region, as a test on regions, and its boundary.
-use mathlib.Core.List.{List, [], ◌∷◌, ◌++◌}
-use Rattle.std.proofs.Common.{◌≡◌, refl, sym, ◌∙◌, ap, subst, ℕ, zero, suc, ◌+◌, ◌*◌, ◌<◌, ◌≤◌, ◌==◌, ◌&&◌, Bool, true, false, length, map, flat_map, Option, Some, None, inl, inr, arith}
-use Rattle.std.specs.List.{enumerate_from}
+-- The part of an owned region, as a test on regions.
+use mathlib.Core.List.{List, [], ◌∷◌}
+use Rattle.std.proofs.Common.{◌≡◌, refl, sym, ◌∙◌, ap, subst, ℕ, zero, suc, ◌+◌, ◌*◌, ◌<◌, ◌≤◌, ◌==◌, ◌&&◌, Bool, true, false, length, Option, Some, None, inl, inr, arith}
 use Rattle.std.proofs.lemmas.Bool.{eqb-true, eq-eqb, and_parts}
-use Rattle.std.proofs.lemmas.List.{map-append}
 use Rattle.std.proofs.lemmas.Option.{none-some, same_Some}
-use Rattle.cov_types.specs.declared.seg.Seg.{Seg}
 use Rattle.plane.specs.Region.{IsRegionOf, AreRegions}
 use Rattle.crossing_laws.proofs.Located.{region-joined, one_region, side_at, side_within}
-use Rattle.arrangement.specs.Overlay.{Overlay, region_at, region_above, region_below, IsRegion}
+use Rattle.arrangement.specs.Overlay.{Overlay, region_at, IsRegion}
 use Rattle.sector_laws.specs.Sector.{IsPlanar, AreDistinct}
-use Rattle.sound_polygons.specs.Parts.{InOnePart, LeadsWithin, IsPartOf, boundary_way, boundary}
+use Rattle.sound_polygons.specs.Parts.{InOnePart, LeadsWithin, IsPartOf}
 use Rattle.sound_polygons.proofs.SameParts.{part_equivalence}
-use Rattle.cov_build.specs.Boundaries.{boundary_edge, boundary_of, way_round}
 use Rattle.cov_build.specs.Parted.{IsLeastInPart, IsPartAt, ArePartsOf, part_at, is_part}
 use Rattle.cov_build.specs.declared.part.Part.{Part}
 use Rattle.cov_build.proofs.BoundaryLists.{is_part_some}
@@ -118,26 +114,3 @@ module _ (o : Overlay) (planar : IsPlanar o.edges) (distinct : AreDistinct o.edg
           let first = least q.least (subst (λ k. InOnePart o owners k r q.least) (sym same) to_q) in
           let second = is.least part.least (subst (λ k. InOnePart o owners k g part.least) (sym owner) (laws.on g r part.least (laws.back r g in_part) to_p)) in
           eq-eqb q.least part.least (omega (arith, first, second))
-
-  -- ---- its boundary
-
-  ways_of : (a b : Bool) (e : Seg) → map way_round (boundary_edge a b e) ≡ boundary_way a b e
-  ways_of true true e = refl
-  ways_of true false e = refl
-  ways_of false true e = refl
-  ways_of false false e = refl
-
-  pub boundary_is : (p : ℕ) → map way_round (boundary_of parts p o.edges) ≡ boundary o (inside_of p)
-  boundary_is p = by 0 o.edges (omega arith)
-    where
-      by : (k : ℕ) (es : List Seg) → k + length es ≤ length o.edges
-          → map way_round (flat_map (λ (q : ℕ × Seg). boundary_edge (is_part (part_at parts (2 * q.0)) p) (is_part (part_at parts (2 * q.0 + 1)) p) q.1) (enumerate_from k es))
-          ≡ flat_map (λ (q : ℕ × Seg). boundary_way (inside_of p (region_above o q.0)) (inside_of p (region_below o q.0)) q.1) (enumerate_from k es)
-      by k [] short = refl
-      by k (e ∷ es) short =
-          let above = inside_at p (2 * k) (omega (arith, short)) in
-          let below = inside_at p (2 * k + 1) (omega (arith, short)) in
-          let rest = by (k + 1) es (omega (arith, short)) in
-          map-append way_round (boundary_edge (is_part (part_at parts (2 * k)) p) (is_part (part_at parts (2 * k + 1)) p) e)
-          (flat_map (λ (q : ℕ × Seg). boundary_edge (is_part (part_at parts (2 * q.0)) p) (is_part (part_at parts (2 * q.0 + 1)) p) q.1) (enumerate_from (k + 1) es))
-          ∙ (λ t. (ways_of (is_part (part_at parts (2 * k)) p) (is_part (part_at parts (2 * k + 1)) p) e ∙ (λ i. boundary_way (sym above i) (sym below i) e)) t ++ rest t)

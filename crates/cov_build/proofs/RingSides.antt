@@ -11,8 +11,8 @@ use Rattle.cov_types.specs.Coord.{is_before}
 use Rattle.cov_types.specs.Uses.{sides}
 use Rattle.half_edge.proofs.Counts.{next_begins}
 use Rattle.sector_laws.specs.Sector.{HalfEdge, origin, target, twin, half_edges, IsNextNumber}
-use Rattle.cov_build.specs.Rings.{IsLeastEnd, IsRingOf}
-use Rattle.cov_build.specs.Walks.{first_or, Leads, IsRound, back_along, ways_back, target_of}
+use Rattle.cov_build.specs.Rings.{IsLeastEnd, IsRingBack}
+use Rattle.cov_build.specs.Walks.{first_or, LeadsByNext, IsRound, back_along, ways_back, target_of}
 
 -- ---- walks that begin elsewhere
 
@@ -20,21 +20,21 @@ first-append : (a b : List ℕ) (m : ℕ) → first_or m (a ++ b) ≡ first_or (
 first-append [] b m = refl
 first-append (n ∷ a) b m = refl
 
-leads_both : (edges : List Seg) (a b : List ℕ) (m : ℕ) → Leads edges (a ++ b) m → Leads edges a (first_or m b) × Leads edges b m
+pub leads_both : (edges : List Seg) (a b : List ℕ) (m : ℕ) → LeadsByNext edges (a ++ b) m → LeadsByNext edges a (first_or m b) × LeadsByNext edges b m
 leads_both edges [] b m leads = (tt, leads)
 leads_both edges (n ∷ a) b m leads = (let rest = leads_both edges a b m leads.1 in ((subst (IsNextNumber edges n) (first-append a b m) leads.0, rest.0), rest.1))
 
-leads-append : (edges : List Seg) (a b : List ℕ) (m : ℕ) → Leads edges a (first_or m b) → Leads edges b m → Leads edges (a ++ b) m
+leads-append : (edges : List Seg) (a b : List ℕ) (m : ℕ) → LeadsByNext edges a (first_or m b) → LeadsByNext edges b m → LeadsByNext edges (a ++ b) m
 leads-append edges [] b m first second = second
 leads-append edges (n ∷ a) b m first second = (subst (IsNextNumber edges n) (sym (first-append a b m)) first.0, leads-append edges a b m first.1 second)
 
-pub exchanged : (edges : List Seg) (a b : List ℕ) → Leads edges (a ++ b) (first_or 0 (a ++ b)) → Leads edges (b ++ a) (first_or 0 (b ++ a))
-exchanged edges [] b leads = subst (λ w. Leads edges w (first_or 0 w)) (sym (let P = λ (xs : List ℕ). xs in nil_end b)) leads
+pub exchanged : (edges : List Seg) (a b : List ℕ) → LeadsByNext edges (a ++ b) (first_or 0 (a ++ b)) → LeadsByNext edges (b ++ a) (first_or 0 (b ++ a))
+exchanged edges [] b leads = subst (λ w. LeadsByNext edges w (first_or 0 w)) (sym (let P = λ (xs : List ℕ). xs in nil_end b)) leads
   where
     nil_end : (xs : List ℕ) → xs ++ [] ≡ xs
     nil_end [] = refl
     nil_end (x ∷ xs) = ap (λ ys. x ∷ ys) (nil_end xs)
-exchanged edges (n ∷ a) [] leads = subst (λ w. Leads edges w n) (nil_end (n ∷ a)) leads
+exchanged edges (n ∷ a) [] leads = subst (λ w. LeadsByNext edges w n) (nil_end (n ∷ a)) leads
   where
     nil_end : (xs : List ℕ) → xs ++ [] ≡ xs
     nil_end [] = refl
@@ -86,7 +86,7 @@ unfolding origin_of
 joins edges n m next =
     ap (λ o. (back_along o).1) next.to_is ∙ next_begins edges n m next next.from next.to next.from_is next.to_is ∙ ap (λ o. (back_along o).0) (sym next.from_is)
 
-back_chains : (edges : List Seg) (way : List ℕ) (m : ℕ) → Leads edges way m → Chains (ways_back edges (reverse way)) (origin_of edges (first_or m way))
+back_chains : (edges : List Seg) (way : List ℕ) (m : ℕ) → LeadsByNext edges way m → Chains (ways_back edges (reverse way)) (origin_of edges (first_or m way))
 unfolding origin_of
 back_chains edges [] m leads = tt
 back_chains edges (n ∷ way) m leads =
@@ -99,7 +99,7 @@ unfolding start_of
 start-append [] v c = refl
 start-append (w ∷ ws) v c = refl
 
-back_starts : (edges : List Seg) (way : List ℕ) (m : ℕ) → Leads edges way m → start_of (origin_of edges m) (ways_back edges (reverse way)) ≡ origin_of edges m
+back_starts : (edges : List Seg) (way : List ℕ) (m : ℕ) → LeadsByNext edges way m → start_of (origin_of edges m) (ways_back edges (reverse way)) ≡ origin_of edges m
 unfolding start_of
 back_starts edges [] m leads = refl
 back_starts edges (n ∷ []) m leads = sym (joins edges n m leads.0)
@@ -121,12 +121,12 @@ targets_are edges [] = refl
 targets_are edges (n ∷ ns) = ap (λ ps. target_of edges n ∷ ps) (targets_are edges ns)
 
 -- the ring back along a closed walk
-pub back_sides : (edges : List Seg) (way : List ℕ) → Leads edges way (first_or 0 way) → sides (map (target_of edges) (reverse way)) ≡ ways_back edges (reverse way)
+pub back_sides : (edges : List Seg) (way : List ℕ) → LeadsByNext edges way (first_or 0 way) → sides (map (target_of edges) (reverse way)) ≡ ways_back edges (reverse way)
 back_sides edges way leads =
     ap sides (sym (targets_are edges (reverse way)))
     ∙ closed_sides (ways_back edges (reverse way)) (origin_of edges (first_or 0 way)) (chains_end way leads) (back_starts edges way (first_or 0 way) leads)
   where
-    chains_end : (w : List ℕ) → Leads edges w (first_or 0 w) → Chains (ways_back edges (reverse w)) (origin_of edges (first_or 0 w))
+    chains_end : (w : List ℕ) → LeadsByNext edges w (first_or 0 w) → Chains (ways_back edges (reverse w)) (origin_of edges (first_or 0 w))
     chains_end [] l = tt
     chains_end (n ∷ w) l = back_chains edges (n ∷ w) n l
 
@@ -145,17 +145,29 @@ contains_map edges [] p c = absurd (omega (arith, c.1))
 contains_map edges (n ∷ ns) p (zero, below, is) = (n, ((0, omega arith, refl), is))
 contains_map edges (n ∷ ns) p (suc k, below, is) = (let rest = contains_map edges ns p (k, omega arith, is) in (rest.0, ((suc rest.1.0.0, (let less = rest.1.0.1 in omega (arith, less)), rest.1.0.2), rest.1.1)))
 
+-- the walk from the half-edge after the one at the place on
+abbrev pub turned_walk : List ℕ → ℕ → List ℕ
+turned_walk way last = drop (last + 1) way ++ take (last + 1) way
+
+pub turned_leads : (edges : List Seg) (way : List ℕ) (last : ℕ) → IsRound edges way → LeadsByNext edges (turned_walk way last) (first_or 0 (turned_walk way last))
+turned_leads edges way last round = exchanged edges (take (last + 1) way) (drop (last + 1) way) (subst (λ w. LeadsByNext edges w (first_or 0 w)) (sym (take-append-drop (last + 1) way)) round.leads)
+
+pub turned_ends : (way : List ℕ) (last : ℕ) → last < length way → turned_walk way last ≡ (drop (last + 1) way ++ take last way) ++ get_or way last 0 ∷ []
+turned_ends way last within =
+    let ends : take (last + 1) way ≡ take last way ++ get_or way last 0 ∷ [] = ap (λ n. take n way) (let one : last + 1 ≡ suc last = omega arith in one) ∙ take-suc way last 0 within in
+    ap (λ xs. drop (last + 1) way ++ xs) ends ∙ sym (append_assoc (drop (last + 1) way) (take last way) (get_or way last 0 ∷ []))
+
+pub turned_front : (way : List ℕ) (last : ℕ) → last < length way → reverse (turned_walk way last) ≡ get_or way last 0 ∷ reverse (drop (last + 1) way ++ take last way)
+turned_front way last within = ap reverse (turned_ends way last within) ∙ first_reverse (take last way) (get_or way last 0) (drop (last + 1) way)
+
 pub ring_is : (edges : List Seg) (way : List ℕ) (last : ℕ) → IsRound edges way → last < length way → IsLeastEnd edges way last
-    → (points : List Coord) → points ≡ map (target_of edges) (reverse (drop (last + 1) way ++ take (last + 1) way)) → IsRingOf edges way points
+    → (points : List Coord) → points ≡ map (target_of edges) (reverse (turned_walk way last)) → IsRingBack edges way points
 ring_is edges way last round within least points is =
-    let turned : List ℕ = drop (last + 1) way ++ take (last + 1) way in
-    let leads : Leads edges turned (first_or 0 turned) = exchanged edges (take (last + 1) way) (drop (last + 1) way)
-    (subst (λ w. Leads edges w (first_or 0 w)) (sym (take-append-drop (last + 1) way)) round.leads) in
+    let turned : List ℕ = turned_walk way last in
+    let leads : LeadsByNext edges turned (first_or 0 turned) = turned_leads edges way last round in
     let same : IsPermutation (reverse turned) way = IsPermutation-trans (reverse turned) turned way (IsPermutation-sym turned (reverse turned) (IsPermutation-reverse turned))
     (subst (IsPermutation turned) (take-append-drop (last + 1) way) (IsPermutation-append_comm (drop (last + 1) way) (take (last + 1) way))) in
-    let ends : take (last + 1) way ≡ take last way ++ get_or way last 0 ∷ [] = ap (λ n. take n way) (let one : last + 1 ≡ suc last = omega arith in one) ∙ take-suc way last 0 within in
-    let front : reverse turned ≡ get_or way last 0 ∷ reverse (drop (last + 1) way ++ take last way) = ap (λ xs. reverse (drop (last + 1) way ++ xs)) ends
-    ∙ ap reverse (sym (append_assoc (drop (last + 1) way) (take last way) (get_or way last 0 ∷ []))) ∙ first_reverse (take last way) (get_or way last 0) (drop (last + 1) way) in
+    let front : reverse turned ≡ get_or way last 0 ∷ reverse (drop (last + 1) way ++ take last way) = turned_front way last within in
     let points_are : points ≡ target_of edges (get_or way last 0) ∷ map (target_of edges) (reverse (drop (last + 1) way ++ take last way)) = is ∙ ap (map (target_of edges)) front in
     record {
       sides = subst (λ ws. IsPermutation ws (ways_back edges way)) (sym (ap sides is ∙ back_sides edges turned leads)) (IsPermutation-map (λ n. back_along (slice_get (half_edges edges) n)) (reverse turned) way same);

@@ -17,7 +17,7 @@ use Rattle.arrangement.specs.Overlay.{Overlay}
 use Rattle.crossing_laws.proofs.Lists.{contains_here, contains_there, contains-map}
 use Rattle.region_laws.proofs.Balance.{first_or_later}
 use Rattle.sector_laws.specs.Sector.{IsPlanar, AreDistinct}
-use Rattle.cov_build.specs.Boundaries.{boundary_of, boundary_edges, way_round}
+use Rattle.cov_build.specs.Boundaries.{boundary_list, boundary_edges, way_round}
 use Rattle.cov_build.specs.Parted.{ArePartsOf}
 use Rattle.cov_build.specs.Rings.{AreBoundaryRings}
 use Rattle.cov_build.specs.declared.boundary.BoundaryEdge.{BoundaryEdge}
@@ -63,7 +63,7 @@ no_loop b p is = by b.above is
 
 module _ (o : Overlay) (planar : IsPlanar o.edges) (distinct : AreDistinct o.edges) (regions : AreRegions o.edges o.numbers) (owners : ℕ → Option ℕ) (parts : List (Option Part)) (are : ArePartsOf o owners parts) (p : ℕ) where
   abbrev bounds : List BoundaryEdge
-  bounds = boundary_of parts p o.edges
+  bounds = boundary_list parts p o.edges
 
   part_at_edge : (b : BoundaryEdge) → Contains bounds b → HasPart o planar distinct regions owners parts are p b
   part_at_edge b c = bounds_part o planar distinct regions owners parts are p c.0 b (at_of bounds b c)

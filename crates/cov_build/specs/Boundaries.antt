@@ -16,13 +16,13 @@ boundary_edge true true e = []
 boundary_edge false false e = []
 
 -- the boundary of the part p
-abbrev pub boundary_of : List (Option Part) → ℕ → List Seg → List BoundaryEdge
-boundary_of parts p edges = flat_map (λ q. boundary_edge (is_part (part_at parts (2 * q.0)) p) (is_part (part_at parts (2 * q.0 + 1)) p) q.1) (enumerate_from 0 edges)
+abbrev pub boundary_list : List (Option Part) → ℕ → List Seg → List BoundaryEdge
+boundary_list parts p edges = flat_map (λ q. boundary_edge (is_part (part_at parts (2 * q.0)) p) (is_part (part_at parts (2 * q.0 + 1)) p) q.1) (enumerate_from 0 edges)
 
 -- for each number of a part its boundary
 pub record AreBoundaries (parts : List (Option Part)) (edges : List Seg) (lists : List (Vec BoundaryEdge)) : Type 0 where
   pub count : length lists ≡ length parts
-  pub each : (p : ℕ) (v : Vec BoundaryEdge) → slice_get lists p ≡ Some v → v.items ≡ boundary_of parts p edges
+  pub each : (p : ℕ) (v : Vec BoundaryEdge) → slice_get lists p ≡ Some v → v.items ≡ boundary_list parts p edges
 
 -- each list is as it was, with what the function gives for its number at the end
 pub record AreAdded (more : ℕ → List BoundaryEdge) (before after : List (Vec BoundaryEdge)) : Type 0 where

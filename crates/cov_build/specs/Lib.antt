@@ -1,4 +1,4 @@
-pub mod RoundParts
+pub mod Owners
 pub mod Parted
 pub mod Boundaries
 pub mod Walks

@@ -10,7 +10,7 @@ use Rattle.cov_types.specs.Uses.{sides}
 use Rattle.sound_polygons.specs.Cleaned.{shell_of}
 use Rattle.cov_build.specs.declared.boundary.BoundaryEdge.{BoundaryEdge}
 use Rattle.cov_build.specs.Rings.{IsBoundaryPolygon}
-use Rattle.cov_build.specs.RoundParts.{owner_in}
+use Rattle.cov_build.specs.Owners.{owner_in}
 
 -- the boundary of the part p of the member, which has an edge
 pub record IsMemberPart (lists : List (Vec BoundaryEdge)) (owners : List (Option ℕ)) (i p : ℕ) (boundary : List BoundaryEdge) : Type 0 where

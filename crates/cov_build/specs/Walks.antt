@@ -1,4 +1,4 @@
--- Closed walks along next, the half-edges that they mark, and the way back along each.
+-- Closed walks along next, the half-edges that they visit, and the way back along each.
 use Rattle.std.specs.Prelude.{◌≡◌, ℕ, ◌+◌, ◌*◌, ◌<◌, ◌==◌, Bool, false, cond, List, [], ◌∷◌, length, map, count_by, pos, Option, Some, None, slice_get, slice_index_or, ⊤}
 use Rattle.cov_types.specs.declared.coord.Coord.{Coord}
 use Rattle.cov_types.specs.declared.seg.Seg.{Seg}
@@ -10,40 +10,40 @@ first_or m [] = m
 first_or m (n ∷ way) = n
 
 -- each half-edge follows the one before, and m the last
-abbrev pub Leads : List Seg → List ℕ → ℕ → Type 0
-Leads edges [] m = ⊤
-Leads edges (n ∷ way) m = IsNextNumber edges n (first_or m way) × Leads edges way m
+abbrev pub LeadsByNext : List Seg → List ℕ → ℕ → Type 0
+LeadsByNext edges [] m = ⊤
+LeadsByNext edges (n ∷ way) m = IsNextNumber edges n (first_or m way) × LeadsByNext edges way m
 
 -- a closed walk: the first follows the last
 pub record IsRound (edges : List Seg) (way : List ℕ) : Type 0 where
-  pub leads : Leads edges way (first_or 0 way)
+  pub leads : LeadsByNext edges way (first_or 0 way)
   pub some : 0 < length way
 
--- ---- marks
+-- ---- visits
 
--- whether the half-edge is marked
-abbrev pub is_marked : List Bool → ℕ → Bool
-is_marked seen n = slice_index_or seen n false
+-- whether the half-edge was visited
+abbrev pub is_visited : List Bool → ℕ → Bool
+is_visited seen n = slice_index_or seen n false
 
--- one for a half-edge that is marked
-abbrev pub mark_of : List Bool → ℕ → ℕ
-mark_of seen n = cond (is_marked seen n) 1 0
+-- one for a half-edge that was visited
+abbrev pub visit_of : List Bool → ℕ → ℕ
+visit_of seen n = cond (is_visited seen n) 1 0
 
 -- how often the number stands in the list
-abbrev pub times : ℕ → List ℕ → ℕ
-times n way = count_by (λ m. m == n) way
+abbrev pub occurrences : ℕ → List ℕ → ℕ
+occurrences n way = count_by (λ m. m == n) way
 
--- there is a mark for each half-edge, the same along next
-pub record AreMarks (edges : List Seg) (seen : List Bool) : Type 0 where
+-- there is a flag for each half-edge, the same along next
+pub record AreVisitFlags (edges : List Seg) (seen : List Bool) : Type 0 where
   pub count : length seen ≡ 2 * length edges
-  pub along : (n m : ℕ) → IsNextNumber edges n m → is_marked seen n ≡ is_marked seen m
+  pub along : (n m : ℕ) → IsNextNumber edges n m → is_visited seen n ≡ is_visited seen m
 
--- the way is a closed walk from the start on, of half-edges that were not marked, each of which has got its mark
-pub record IsWalked (edges : List Seg) (start : ℕ) (before : List Bool) (way : List ℕ) (after : List Bool) : Type 0 where
+-- the way is a closed walk from the start on, of half-edges that were not visited before, each of which is visited after it
+pub record IsWalkFrom (edges : List Seg) (start : ℕ) (before : List Bool) (way : List ℕ) (after : List Bool) : Type 0 where
   pub round : IsRound edges way
   pub first : first_or 0 way ≡ start
-  pub marks : AreMarks edges after
-  pub each : (n : ℕ) → times n way + mark_of before n ≡ mark_of after n
+  pub flags : AreVisitFlags edges after
+  pub each : (n : ℕ) → occurrences n way + visit_of before n ≡ visit_of after n
 
 -- ---- the way back
 

@@ -3,10 +3,10 @@ ghost use Rattle.std.specs.List.Sorted.{IsPermutation};
 ghost use Rattle.cov_types.specs.Coverage.{IsFormed};
 ghost use Rattle.plane.specs.Region.{IsOuterRegion, AreRegions};
 ghost use Rattle.arrangement.specs.Overlay.{Overlay};
-ghost use Rattle.sound_polygons.specs.Cleaned.{shell_of};
+ghost use Rattle.sound_polygons.specs.Cleaned.{IsBuilt, shell_of};
 ghost use Rattle.cov_build.specs.Members.{AreAllPartPolygons, AreListsApart, AreShellsSorted, AreSortedMembers};
 ghost use Rattle.cov_build.specs.Rings.{IsBoundary};
-ghost use Rattle.cov_build.specs.RoundParts.{owner_in, IsBuiltRound};
+ghost use Rattle.cov_build.specs.Owners.{owner_in};
 
 use crate::boundary::{BoundaryEdge, boundaries};
 use crate::part::parts_of_sides;
@@ -17,6 +17,7 @@ use half_edge::Arena;
 use std::alloc::Global;
 
 /// The polygons of so many owners of regions, in canonical order: one polygon for each edge-connected part of the regions of an owner.
+/// It is sound for the part: rings are simple, the shell is first and counter-clockwise, and holes are clockwise (OGC 06-103r4).
 /// There is one owner for each side, read at the numbers of regions; nobody owns the outer region.
 ///
 /// Takes time in proportion to the edges and their logarithm, and memory in proportion to the edges and the members.
@@ -31,7 +32,7 @@ pub fn polygons(
     requires count { length owners.now ≡ 2 * length a.now }
     requires below { All (λ o. IfSome o (λ i. i < members)) owners.now }
     requires outer { (n : ℕ) → IsOuterRegion a.now n → owner_in owners.now n ≡ None }
-    ensures polygons { IfOk result (λ c. (o : Overlay) → o.edges ≡ a.now → AreRegions o.edges o.numbers → IsBuiltRound o (owner_in owners.now) members c) }
+    ensures polygons { IfOk result (λ c. (o : Overlay) → o.edges ≡ a.now → AreRegions o.edges o.numbers → IsBuilt o (owner_in owners.now) members c) }
     ensures formed { IfOk result IsFormed }
 {
     let edges = a.edges();

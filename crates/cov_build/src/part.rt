@@ -1,8 +1,8 @@
 ghost use Rattle.std.specs.Prelude.{◌≡◌, ℕ, ◌*◌, ◌<◌, length, slice_index, option_map, IfOk, IsTrue};
-ghost use Rattle.components.specs.Connected.{AreWithin};
+ghost use Rattle.components.specs.Connected.{AreLinksWithin};
 ghost use Rattle.plane.specs.Region.{AreRegions};
 ghost use Rattle.arrangement.specs.Overlay.{Overlay};
-ghost use Rattle.cov_build.specs.RoundParts.{owner_in};
+ghost use Rattle.cov_build.specs.Owners.{owner_in};
 ghost use Rattle.cov_build.specs.Parted.{AreOwnerLinks, ArePartsOf, AreBelow};
 
 use components::{Link, components};
@@ -64,7 +64,7 @@ fn links_within_owners(
     requires edges { edges ≡ length r.now }
     requires owners { length owners.now ≡ 2 * edges }
     ensures links { IfOk result (λ v. (o : Overlay) → o.edges ≡ r.now → AreRegions o.edges o.numbers → AreOwnerLinks o (owner_in owners.now) edges v.items) }
-    ensures within { IfOk result (λ v. AreWithin (2 * edges) v.items) }
+    ensures within { IfOk result (λ v. AreLinksWithin (2 * edges) v.items) }
 {
     let mut links = Vec::new(alloc);
     for edge in 0..edges {

@@ -1,7 +1,7 @@
 ghost use Rattle.std.specs.Prelude.{◌≡◌, ℕ, ◌+◌, ◌-◌, ◌*◌, ◌<◌, ◌≤◌, ◌^◌, ◌++◌, List, length, IfOk, OnOk, vec_len};
 ghost use Rattle.cov_build.specs.Boundaries.{boundary_edges};
 ghost use Rattle.std.specs.List.Sorted.{IsPermutation};
-ghost use Rattle.cov_build.specs.Rings.{outside_of, IsBoundary, AreRingsOf, AreBoundaryRings, AreHolesSorted, IsBoundaryPolygon};
+ghost use Rattle.cov_build.specs.Rings.{outside_of, IsBoundary, AreRingsBack, AreClosedRings, AreBoundaryRings, AreHolesSorted, IsInFront, IsBoundaryPolygon};
 ghost use Rattle.cov_build.specs.Walks.{IsRound};
 
 use crate::boundary::BoundaryEdge;
@@ -45,6 +45,7 @@ fn walked_rings(alloc: Global, a: &Arena, boundary: &[BoundaryEdge]) -> Result<R
     requires boundary { IsBoundary boundary.now }
     requires arena { a.now ≡ boundary_edges boundary.now }
     ensures rings { IfOk result (λ r. AreBoundaryRings boundary.now r.list.items) }
+    ensures closed { IfOk result (λ r. AreClosedRings (boundary_edges boundary.now) r.shell r.list.items) }
     ensures shell { IfOk result (λ r. r.shell < vec_len r.list) }
 {
     let mut seen = vec![in alloc; false; a.len()]?;
@@ -74,12 +75,14 @@ fn outside(k: usize, above: bool) -> usize
 fn add_ring(alloc: Global, a: &Arena, way: Vec<usize>, rings: &mut RingList) -> Result<(), NoMemory>
     requires round { IsRound a.now way.items }
     requires shell { rings.old.shell ≤ vec_len rings.old.list }
-    ensures rings { OnOk result ((passed : List ℕ) → AreRingsOf a.now passed rings.old.list.items → AreRingsOf a.now (passed ++ way.items) rings.new.list.items) }
+    ensures rings { OnOk result ((passed : List ℕ) → AreRingsBack a.now passed rings.old.list.items → AreRingsBack a.now (passed ++ way.items) rings.new.list.items) }
+    ensures closed { OnOk result (AreClosedRings a.now rings.old.shell rings.old.list.items → AreClosedRings a.now rings.new.shell rings.new.list.items) }
     ensures shell { OnOk result (rings.new.shell < vec_len rings.new.list) }
 {
     let last = least_end(a, &way);
+    let place = rings.list.len();
     if a.opens_down(way[last]) {
-        rings.shell = rings.list.len();
+        rings.shell = place;
     }
     let ring = ring_of(alloc, a, way, last)?;
     rings.list.push(ring)?;
@@ -90,6 +93,7 @@ fn add_ring(alloc: Global, a: &Arena, way: Vec<usize>, rings: &mut RingList) -> 
 fn in_order(rings: RingList) -> Result<Poly, NoMemory>
     requires { rings.shell < vec_len rings.list }
     ensures same { IfOk result (λ poly. IsPermutation rings.list.items poly) }
+    ensures front { IfOk result (λ poly. IsInFront rings.shell rings.list.items poly) }
     ensures holes { IfOk result (λ poly. AreHolesSorted poly) }
 {
     let RingList { mut list, shell } = rings;

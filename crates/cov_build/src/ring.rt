@@ -1,7 +1,7 @@
-ghost use Rattle.std.specs.Prelude.{◌≡◌, ◌*◌, ◌<◌, false, length, IfOk, vec_len};
+ghost use Rattle.std.specs.Prelude.{◌≡◌, ◌*◌, ◌<◌, false, length, slice_index, IfOk, vec_len};
 ghost use Rattle.sector_laws.specs.Sector.{IsPlanar, AreDistinct};
-ghost use Rattle.cov_build.specs.Rings.{IsLeastEnd, IsRingOf};
-ghost use Rattle.cov_build.specs.Walks.{AreMarks, IsRound, IsWalked, is_marked, target_of};
+ghost use Rattle.cov_build.specs.Rings.{IsClosedFrom, IsLeastEnd, IsRingBack};
+ghost use Rattle.cov_build.specs.Walks.{AreVisitFlags, IsRound, IsWalkFrom, is_visited, target_of};
 
 use cov_types::{Coord, NoMemory, Ring};
 use half_edge::Arena;
@@ -15,12 +15,12 @@ pub fn walk(
     start: usize,
     seen: &mut [bool],
 ) -> Result<Vec<usize>, NoMemory>
-    requires marks { AreMarks a.now seen.old }
+    requires flags { AreVisitFlags a.now seen.old }
     requires within { start < 2 * length a.now }
-    requires free { is_marked seen.old start ≡ false }
+    requires free { is_visited seen.old start ≡ false }
     requires planar { IsPlanar a.now }
     requires distinct { AreDistinct a.now }
-    ensures { IfOk result (λ way. IsWalked a.now start seen.old way.items seen.new) }
+    ensures { IfOk result (λ way. IsWalkFrom a.now start seen.old way.items seen.new) }
 {
     let mut way = Vec::new(alloc);
     let mut h = start;
@@ -37,7 +37,8 @@ pub fn ring_of(alloc: Global, a: &Arena, mut way: Vec<usize>, last: usize) -> Re
     requires round { IsRound a.now way.items }
     requires last { last < vec_len way }
     requires least { IsLeastEnd a.now way.items last }
-    ensures { IfOk result (λ ring. IsRingOf a.now way.items ring) }
+    ensures back { IfOk result (λ ring. IsRingBack a.now way.items ring) }
+    ensures closed { IfOk result (λ ring. IsClosedFrom a.now (slice_index way.items last) ring) }
 {
     way.rotate_left(last + 1);
     way.reverse();

@@ -1,6 +1,6 @@
 ghost use Rattle.std.specs.Prelude.{◌≡◌, ℕ, ◌<◌, All, None, IfSome, IsTrue};
 ghost use Rattle.plane.specs.Region.{IsOuterRegion};
-ghost use Rattle.cov_build.specs.RoundParts.{owner_in};
+ghost use Rattle.cov_build.specs.Owners.{owner_in};
 
 use crate::polygons;
 use cov_types::{Coord, Coverage, Member, NoMemory, Poly, Ring, Seg, same_coverage};
@@ -112,7 +112,7 @@ fn expect_polygons(
     want: Coverage,
 ) -> Result<(), Fail> {
     let edges = edges_between(alloc, rt, ends)?;
-    assert!(rt; are_arranged(&edges));
+    assert!(rt; are_arranged(alloc, &edges)?);
     let arena = Arena::build(alloc, edges)?;
     let regions = Regions::build(alloc, &arena)?;
     let owners = owners_of(alloc, rt, arena.len(), owned)?;

@@ -5,6 +5,7 @@ pub mod Reading
 pub mod Listing
 pub mod Answering
 pub mod OneText
+pub mod Headline
 pub mod OneAnswer
 pub mod RegionRows
 pub mod Overlays

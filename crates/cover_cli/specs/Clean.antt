@@ -1,6 +1,6 @@
 -- What cleaning a coverage answers and writes.
 use Rattle.std.specs.Prelude.{◌≡◌, ℕ, List}
-use Rattle.cov_types.specs.Coverage.{Members}
+use Rattle.cov_types.specs.Coverage.{Members, IsFormed}
 use Rattle.cov_write.specs.Written.{coverage_text}
 use Rattle.merge_rule.specs.RuleState.{RuleState, no_state}
 use Rattle.region_owners.specs.Owner.{Rule, rule_by, least_index, greatest_area, least_area, longest_border}
@@ -22,4 +22,5 @@ pub record IsCleaning (name : RuleName) (members : Members) (outcome : Outcome) 
   pub done : outcome ≡ Done
   pub out : Members
   pub cleaned : IsCleaned members (rule_of name) no_state 0 out
+  pub formed : IsFormed out
   pub lines : text ≡ coverage_text out

@@ -13,3 +13,4 @@ pub mod Refusal
 pub mod Answers
 pub mod Written
 pub mod Laws
+pub mod Headline

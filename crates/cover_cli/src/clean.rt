@@ -1,5 +1,5 @@
 ghost use Rattle.std.specs.Prelude.{◌≡◌, ◌≤◌, length, IfOk, IfErr};
-ghost use Rattle.cov_types.specs.Coverage.{AllInRange};
+ghost use Rattle.cov_types.specs.Coverage.{AllInRange, IsFormed};
 ghost use Rattle.merge_rule.specs.RuleState.{no_state};
 ghost use Rattle.sound_polygons.specs.Cleaned.{IsCleaned};
 ghost use Rattle.cover_cli.specs.Clean.{rule_of, IsCleaning};
@@ -20,7 +20,8 @@ use std::alloc::Global;
 // The coverage, cleaned by the rule of the name.
 fn cleaned(alloc: Global, c: &Coverage, rule: RuleName) -> Result<Coverage, NoMemory>
     requires { AllInRange c.now }
-    ensures { IfOk result (λ out. IsCleaned c.now (rule_of rule) no_state 0 out) }
+    ensures cleaned { IfOk result (λ out. IsCleaned c.now (rule_of rule) no_state 0 out) }
+    ensures formed { IfOk result IsFormed }
 {
     match rule {
         RuleName::LeastIndex => clean(alloc, c, &mut LeastIndex, 0),

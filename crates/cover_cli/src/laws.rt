@@ -1,3 +1,4 @@
+ghost use Rattle.cover_cli.specs.Headline.{HeadlineLaw};
 ghost use Rattle.cover_cli.specs.Laws.{OneTextLaw, OneRefusalLaw, RefusedLaw, OneAnswerLaw, CompleteLaw, NoFaultLaw};
 
 /// What the files hold gives an operation one text to write, or one refusal, and not both. A call does nothing.
@@ -5,6 +6,12 @@ pub fn written_law()
     ensures text { OneTextLaw }
     ensures refusal { OneRefusalLaw }
     ensures either { RefusedLaw }
+{}
+
+/// The headline: for every file in the grammar and range `cover clean` writes a valid coverage, and each point lies in the
+/// member that the definitions say. A call does nothing.
+pub fn headline_law()
+    ensures { HeadlineLaw }
 {}
 
 /// What `cover` answers, and the bytes that it writes, are a function of the words and of what the inputs hold, faults

@@ -26,5 +26,5 @@ mod validate;
 mod words;
 
 pub use command::cover;
-pub use laws::{answer_law, written_law};
+pub use laws::{answer_law, headline_law, written_law};
 pub use outcome::{Outcome, message, status};

@@ -34,7 +34,7 @@ fn expect_regions(
     outer: Option<usize>,
 ) -> Result<(), Fail> {
     let edges = edges_between(alloc, rt, numbers)?;
-    assert!(rt; are_arranged(&edges));
+    assert!(rt; are_arranged(alloc, &edges)?);
     let arena = Arena::build(alloc, edges)?;
     let regions = Regions::build(alloc, &arena)?;
     assert_eq!(rt; arena.len(), want.len());
@@ -218,7 +218,7 @@ fn five_hundred_separate_squares_have_a_region_each(rt: HostRuntime) -> Result<(
         add_column(&rt, &mut edges, column)?;
     }
     assert_eq!(rt; edges.len(), 2000);
-    assert!(rt; are_arranged(&edges));
+    assert!(rt; are_arranged(alloc, &edges)?);
     let arena = Arena::build(alloc, edges)?;
     let regions = Regions::build(alloc, &arena)?;
     assert_eq!(rt; regions.count(), 501);
@@ -253,7 +253,7 @@ fn ten_thousand_squares_of_a_grid_have_a_region_each(rt: HostRuntime) -> Result<
         add_grid_column(&rt, &mut edges, x, 100)?;
     }
     assert_eq!(rt; edges.len(), 20_200);
-    assert!(rt; are_arranged(&edges));
+    assert!(rt; are_arranged(alloc, &edges)?);
     let arena = Arena::build(alloc, edges)?;
     let regions = Regions::build(alloc, &arena)?;
     assert_eq!(rt; regions.count(), 10_001);
@@ -264,7 +264,7 @@ fn ten_thousand_squares_of_a_grid_have_a_region_each(rt: HostRuntime) -> Result<
 /// A search finds the edge that a scan finds, below each end of the edges and below points among them.
 fn expect_same(alloc: Global, rt: &impl Abort, mut edges: Vec<Seg>) -> Result<(), Fail> {
     edges.sort_unstable();
-    assert!(rt; are_arranged(&edges));
+    assert!(rt; are_arranged(alloc, &edges)?);
     let mut points = Vec::new(alloc);
     let mut state = 1u32;
     for e in &edges {

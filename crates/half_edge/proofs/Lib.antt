@@ -3,6 +3,7 @@ pub mod Counts
 pub mod Tables
 pub mod Reading
 pub mod Meeting
+pub mod AlongCurve
 pub mod Places
 pub mod Ascending
 pub mod Opening

@@ -1,11 +1,9 @@
 -- Round a vertex each half-edge follows the twin of the one after it.
 use mathlib.Core.List.{List}
-use Rattle.std.proofs.Common.{◌≡◌, refl, sym, ◌∙◌, ap, subst, ℕ, ◌*◌, ◌<◌, ◌≤◌, Bool, true, false, cond, ◌&&◌, ◌||◌, length, get_or, All, Some, slice_get, inl, inr, ◌⊎◌, arith}
+use Rattle.std.proofs.Common.{◌≡◌, refl, sym, ◌∙◌, ap, subst, ℕ, ◌*◌, ◌<◌, ◌≤◌, Bool, true, false, cond, ◌&&◌, ◌||◌, length, All, Some, slice_get, inl, inr, ◌⊎◌, arith}
 use Rattle.std.proofs.lemmas.Bool.{cases_lt}
 use Rattle.std.proofs.lemmas.Option.{slice_get_within, slice_get-get_or, get_or_from_slice_get}
-use Rattle.std.specs.Ordering.{is_lt}
 use Rattle.cov_types.specs.declared.seg.Seg.{Seg}
-use Rattle.sector_laws.specs.Direction.{direction_cmp}
 use Rattle.sector_laws.proofs.AtVertex.{at_vertex}
 use Rattle.half_edge.proofs.Counts.{number_within}
 use Rattle.half_edge.proofs.Latest.{IsBefore}

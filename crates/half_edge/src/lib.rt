@@ -10,6 +10,7 @@ mod departure;
 mod directed;
 mod direction;
 mod next;
+mod noded;
 mod side;
 #[cfg(test)]
 mod tests;

@@ -1,6 +1,7 @@
 use crate::arranged::are_arranged;
 use crate::{Arena, Side};
 use cov_types::{Coord, NoMemory, Seg};
+use grid_pred::meets_badly;
 use std::alloc::Global;
 use std::process::Abort;
 use std::test::Fail;
@@ -37,7 +38,7 @@ const TWO_SQUARES: [(i32, i32, i32, i32); 10] = [
 fn two_squares_that_overlap_have_twenty_half_edges(rt: HostRuntime) -> Result<(), Fail> {
     let alloc = rt.alloc();
     let edges = edges_between(alloc, &rt, &TWO_SQUARES)?;
-    assert!(rt; are_arranged(&edges));
+    assert!(rt; are_arranged(alloc, &edges)?);
     let arena = Arena::build(alloc, edges)?;
     assert_eq!(rt; arena.len(), 20);
     assert_eq!(rt; arena.next(1), 2);
@@ -67,7 +68,7 @@ fn the_sides_of_edge_3_are_6_and_7(rt: HostRuntime) {
 fn a_dead_end_turns_back(rt: HostRuntime) -> Result<(), Fail> {
     let alloc = rt.alloc();
     let edges = edges_between(alloc, &rt, &[(0, 0, 3, 1), (3, 1, 5, 5)])?;
-    assert!(rt; are_arranged(&edges));
+    assert!(rt; are_arranged(alloc, &edges)?);
     let arena = Arena::build(alloc, edges)?;
     assert_eq!(rt; arena.len(), 4);
     assert_eq!(rt; arena.next(0), 2);
@@ -97,7 +98,7 @@ fn round_a_fan_of_eight_directions_each_half_edge_goes_on_clockwise(
 ) -> Result<(), Fail> {
     let alloc = rt.alloc();
     let edges = edges_between(alloc, &rt, &FAN)?;
-    assert!(rt; are_arranged(&edges));
+    assert!(rt; are_arranged(alloc, &edges)?);
     let arena = Arena::build(alloc, edges)?;
     assert_eq!(rt; arena.len(), 16);
     // From the south-west, counter-clockwise by number: 1 south-west, 7 south, 10 south-east, 12 east,
@@ -129,7 +130,7 @@ const TOUCHING_SQUARES: [(i32, i32, i32, i32); 8] = [
 fn two_squares_that_touch_have_one_boundary_on_the_outside(rt: HostRuntime) -> Result<(), Fail> {
     let alloc = rt.alloc();
     let edges = edges_between(alloc, &rt, &TOUCHING_SQUARES)?;
-    assert!(rt; are_arranged(&edges));
+    assert!(rt; are_arranged(alloc, &edges)?);
     let arena = Arena::build(alloc, edges)?;
     // Inside 2 6 5 1 and 10 14 13 9, outside 0 4 8 12 15 11 7 3.
     let next: [usize; 16] = [4, 2, 6, 0, 8, 1, 5, 3, 12, 10, 14, 7, 15, 9, 13, 11];
@@ -160,7 +161,7 @@ const RING_AND_ISLAND: [(i32, i32, i32, i32); 8] = [
 fn a_ring_round_an_island_has_a_boundary_on_each_side(rt: HostRuntime) -> Result<(), Fail> {
     let alloc = rt.alloc();
     let edges = edges_between(alloc, &rt, &RING_AND_ISLAND)?;
-    assert!(rt; are_arranged(&edges));
+    assert!(rt; are_arranged(alloc, &edges)?);
     let arena = Arena::build(alloc, edges)?;
     // The island 8 12 11 7 and round it 6 10 13 9, the ring 2 14 5 1 and round it 0 4 15 3.
     let next: [usize; 16] = [4, 2, 14, 0, 15, 1, 10, 8, 12, 6, 13, 7, 11, 9, 5, 3];
@@ -182,12 +183,68 @@ fn edges_that_cross_or_descend_or_lie_out_of_range_are_not_arranged(
     let descending = edges_between(alloc, &rt, &[(1, 0, 2, 0), (0, 0, 0, 1)])?;
     let repeated = edges_between(alloc, &rt, &[(0, 0, 0, 1), (0, 0, 0, 1)])?;
     let far = edges_between(alloc, &rt, &[(0, 0, 268_435_457, 1)])?;
-    assert!(rt; !are_arranged(&crossing));
-    assert!(rt; !are_arranged(&touching));
-    assert!(rt; !are_arranged(&descending));
-    assert!(rt; !are_arranged(&repeated));
-    assert!(rt; !are_arranged(&far));
+    assert!(rt; !are_arranged(alloc, &crossing)?);
+    assert!(rt; !are_arranged(alloc, &touching)?);
+    assert!(rt; !are_arranged(alloc, &descending)?);
+    assert!(rt; !are_arranged(alloc, &repeated)?);
+    assert!(rt; !are_arranged(alloc, &far)?);
     Ok(())
+}
+
+#[test]
+fn scattered_edges_are_told_as_all_pairs_tell(rt: HostRuntime) -> Result<(), Fail> {
+    let alloc = rt.alloc();
+    let mut some_are = false;
+    let mut some_are_not = false;
+    for count in 0..40 {
+        let edges = scattered(alloc, &rt, count)?;
+        let answer = are_arranged(alloc, &edges)?;
+        assert_eq!(rt; answer, are_arranged_by_pairs(&rt, &edges), "{count} edges");
+        some_are = some_are || answer;
+        some_are_not = some_are_not || !answer;
+    }
+    assert!(rt; some_are && some_are_not);
+    Ok(())
+}
+
+/// So many short edges at places that a linear congruential generator gives, ascending.
+fn scattered(alloc: Global, rt: &impl Abort, count: u32) -> Result<Vec<Seg>, NoMemory> {
+    let mut edges = Vec::new(alloc);
+    let mut state = count;
+    for _ in 0..count {
+        state = state.wrapping_mul(1_664_525).wrapping_add(1_013_904_223);
+        let x = (state >> 24) as i32 % 64;
+        let y = (state >> 18) as i32 % 64;
+        let lo = Coord { x, y };
+        let hi = Coord {
+            x: x + (state >> 12) as i32 % 8 + 1,
+            y: y + (state >> 8) as i32 % 8,
+        };
+        edges.push(Seg::between(lo, hi).expect(rt, "two points"))?;
+    }
+    edges.sort_unstable();
+    Ok(edges)
+}
+
+// The plain form: each edge is compared with all later ones.
+fn are_arranged_by_pairs(rt: &impl Abort, edges: &[Seg]) -> bool {
+    for (i, e) in edges.iter().enumerate() {
+        if !comes_well_before(rt, *e, &edges[i + 1..]) {
+            return false;
+        }
+    }
+    true
+}
+
+fn comes_well_before(rt: &impl Abort, e: Seg, later: &[Seg]) -> bool {
+    assert!(rt; e.lo.is_in_range() && e.hi.is_in_range());
+    for f in later {
+        assert!(rt; f.lo.is_in_range() && f.hi.is_in_range());
+        if *f <= e || meets_badly(e, *f) {
+            return false;
+        }
+    }
+    true
 }
 
 /// The edges of 50,000 unit squares side by side, with a gap of one between any two.
@@ -213,7 +270,7 @@ fn separate_squares(alloc: Global, rt: &impl Abort) -> Result<Vec<Seg>, NoMemory
 fn an_arena_of_two_hundred_thousand_edges_is_built(rt: HostRuntime) -> Result<(), Fail> {
     let alloc = rt.alloc();
     let edges = separate_squares(alloc, &rt)?;
-    assert!(rt; are_arranged(&edges));
+    assert!(rt; are_arranged(alloc, &edges)?);
     let arena = Arena::build(alloc, edges)?;
     assert_eq!(rt; arena.len(), 400_000);
     let next: [usize; 8] = [4, 2, 6, 0, 7, 1, 5, 3];
@@ -248,7 +305,7 @@ fn star(alloc: Global, rt: &impl Abort) -> Result<Vec<Seg>, NoMemory> {
 fn round_a_star_each_edge_goes_on_to_the_one_below_it(rt: HostRuntime) -> Result<(), Fail> {
     let alloc = rt.alloc();
     let edges = star(alloc, &rt)?;
-    assert!(rt; are_arranged(&edges));
+    assert!(rt; are_arranged(alloc, &edges)?);
     let arena = Arena::build(alloc, edges)?;
     assert_eq!(rt; arena.len(), 2000);
     assert_eq!(rt; arena.next(1), 1998);

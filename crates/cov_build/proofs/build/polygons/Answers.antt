@@ -9,10 +9,10 @@ use Rattle.region_laws.proofs.Exists.{regions_exist}
 use Rattle.cov_build.specs.Boundaries.{AreBoundaries}
 use Rattle.cov_build.specs.Members.{AreListsApart, AreAllPartPolygons}
 use Rattle.cov_build.specs.Rings.{IsBoundary}
-use Rattle.cov_build.specs.RoundParts.{owner_in}
+use Rattle.cov_build.specs.Owners.{owner_in}
 use Rattle.cov_build.specs.declared.boundary.BoundaryEdge.{BoundaryEdge}
 use Rattle.cov_build.specs.declared.part.Part.{Part}
-use Rattle.cov_build.proofs.BuiltRound.{built_round, built_formed}
+use Rattle.cov_build.proofs.BuiltPolygons.{built_polygons, built_formed}
 use Rattle.cov_build.proofs.PartLists.{lists_bound, lists_apart}
 use Rattle.cov_build.proofs.build.polygons.Goals as goal
 
@@ -50,7 +50,7 @@ returns-clause-polygons c = λ o same regions.
     (subst (λ (ps : List (Option Part)). AreBoundaries ps c.edges-edges.result.now lists) c.deref.ensures.value c.in_ok-boundaries.ensures) in
     let outer : (n : ℕ) → IsOuterRegion o.edges n → owner_in owned n ≡ None = λ n is. c.requires.outer n (subst (λ (es : List Seg). IsOuterRegion es n) same is) in
     let all : AreAllPartPolygons lists owned (length lists) c.args.members c.in_ok-unsorted.unsorted.items = subst (λ (ls : List (Vec BoundaryEdge)). AreAllPartPolygons ls owned (length ls) c.args.members c.in_ok-unsorted.unsorted.items) c.deref-2.ensures.value c.in_ok-unsorted.ensures in
-    built_round o planar distinct regions owned parts are lists bound outer c.args.members c.in_ok-unsorted.unsorted.items c.in_ok-members.members.items all c.in_ok-members.ensures
+    built_polygons o planar distinct regions owned parts are lists bound outer c.args.members c.in_ok-unsorted.unsorted.items c.in_ok-members.members.items all c.in_ok-members.ensures
 
 pub returns-clause-formed : goal.returns-clause-formed
 returns-clause-formed c =

@@ -2,10 +2,10 @@ use Rattle.std.proofs.Common.{◌≡◌, sym, ◌∙◌, ap, subst, ◌*◌, ◌
 use Rattle.std.proofs.lemmas.List.Elements.{All-push}
 use Rattle.std.specs.Global.{Vec}
 use Rattle.components.specs.declared.link.Link.{Link}
-use Rattle.components.specs.Connected.{AreWithin}
+use Rattle.components.specs.Connected.{AreLinksWithin}
 use Rattle.plane.specs.Region.{AreRegions}
 use Rattle.cov_build.specs.Parted.{AreOwnerLinks}
-use Rattle.cov_build.specs.RoundParts.{owner_in}
+use Rattle.cov_build.specs.Owners.{owner_in}
 use Rattle.cov_build.proofs.OwnerLinks.{owner_is, links_none, links_same, links_more}
 use Rattle.cov_build.proofs.part.links_within_owners.Goals.{then-have_one_owner+in_ok-push, else-have_one_owner}
 use Rattle.cov_build.proofs.part.links_within_owners.Goals as goal
@@ -27,7 +27,7 @@ loop-edge-preserved c =
                 (links_more o (owner_in owners) k c.loop-edge.links.items (omega (arith, c.loop-edge-test.true, c.requires.edges, ap length same)) from to
                 (c.region_of-from.ensures.numbering o.numbers (subst (λ es. AreRegions es o.numbers) same regions)) (c.region_of-to.ensures.numbering o.numbers (subst (λ es. AreRegions es o.numbers) same regions))
                 (c.loop-edge.invariant.links o same regions) one.0 (owner_is owners from ∙ one.1.0) (owner_is owners to ∙ one.1.1));
-            within = subst (AreWithin (2 * c.args.edges)) (sym is) (All-push (λ l. (l.from < 2 * c.args.edges) × (l.to < 2 * c.args.edges)) c.loop-edge.links.items (record { from = from; to = to })
+            within = subst (AreLinksWithin (2 * c.args.edges)) (sym is) (All-push (λ l. (l.from < 2 * c.args.edges) × (l.to < 2 * c.args.edges)) c.loop-edge.links.items (record { from = from; to = to })
                 c.loop-edge.invariant.within (omega (arith, c.region_of-from.ensures.within, c.requires.edges), omega (arith, c.region_of-to.ensures.within, c.requires.edges)));
           }
           )
@@ -39,7 +39,7 @@ loop-edge-preserved c =
                 (c.region_of-from.ensures.numbering o.numbers (subst (λ es. AreRegions es o.numbers) same regions)) (c.region_of-to.ensures.numbering o.numbers (subst (λ es. AreRegions es o.numbers) same regions))
                 (c.loop-edge.invariant.links o same regions)
                 (λ i a b. true≢false (sym (c.have_one_owner.ensures.any i (sym (owner_is owners from) ∙ a) (sym (owner_is owners to) ∙ b)) ∙ w.if-have_one_owner.false)));
-            within = subst (AreWithin (2 * c.args.edges)) (sym is) c.loop-edge.invariant.within;
+            within = subst (AreLinksWithin (2 * c.args.edges)) (sym is) c.loop-edge.invariant.within;
           }
           )
     ]

@@ -5,7 +5,7 @@ use Rattle.std.proofs.lemmas.List.Elements.{All-push}
 use Rattle.components.specs.Connected.{AreComponents}
 use Rattle.plane.specs.Region.{AreRegions}
 use Rattle.cov_build.specs.Parted.{AreOwnerLinks, IsPartAt, AreBelow}
-use Rattle.cov_build.specs.RoundParts.{owner_in}
+use Rattle.cov_build.specs.Owners.{owner_in}
 use Rattle.cov_build.proofs.OwnerLinks.{ArePartsTo, part_is, part_below, parts_more, parts_all}
 use Rattle.cov_build.proofs.part.parts_of_sides.Goals as goal
 

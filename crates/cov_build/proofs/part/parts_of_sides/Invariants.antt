@@ -2,7 +2,7 @@ use Rattle.std.proofs.Common.{◌≡◌, ◌*◌, length}
 use Rattle.plane.specs.Region.{AreRegions}
 use Rattle.arrangement.specs.Overlay.{Overlay}
 use Rattle.cov_build.specs.Parted.{AreBelow}
-use Rattle.cov_build.specs.RoundParts.{owner_in}
+use Rattle.cov_build.specs.Owners.{owner_in}
 use Rattle.cov_build.proofs.OwnerLinks.{ArePartsTo}
 use Rattle.cov_build.proofs.part.parts_of_sides.Given as goal
 

@@ -3,7 +3,7 @@ use Rattle.cov_build.proofs.Walking.{IsWalking, walk_none, walk_more, walk_end, 
 use Rattle.cov_build.proofs.ring.walk.Goals as goal
 
 pub round-init : goal.round-init
-round-init c = walk_none c.args.a.now c.requires.planar c.requires.distinct c.args.start c.args.seen.now c.requires.marks c.requires.within c.new-way.result.items c.new-way.ensures.items
+round-init c = walk_none c.args.a.now c.requires.planar c.requires.distinct c.args.start c.args.seen.now c.requires.flags c.requires.within c.new-way.result.items c.new-way.ensures.items
 
 pub bounds-seen-h : goal.bounds-seen-h
 bounds-seen-h c = omega (arith, c.round.invariant.within, c.round.invariant.count)

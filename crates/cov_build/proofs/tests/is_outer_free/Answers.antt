@@ -2,7 +2,7 @@ use Rattle.std.proofs.Common.{◌≡◌, ◌∙◌, ap, subst, ℕ, Option, List
 use Rattle.std.specs.Prelude.{IfSome}
 use Rattle.cov_types.specs.declared.seg.Seg.{Seg}
 use Rattle.plane.specs.Region.{IsOuterRegion}
-use Rattle.cov_build.specs.RoundParts.{owner_in}
+use Rattle.cov_build.specs.Owners.{owner_in}
 use Rattle.cov_build.proofs.OwnerLinks.{owner_is}
 use Rattle.cov_build.proofs.tests.is_outer_free.Goals as goal
 

@@ -6,8 +6,8 @@ use Rattle.half_edge.proofs.arranged.are_arranged.Goals as goal
 
 pub returns-clause-exact : goal.returns-clause-exact
 returns-clause-exact c = (
-  λ t. arranged c.args.edges.now (by_true c.are_in_range.result c.are_in_range.ensures c.if-not-are_in_range.false) (by_true c.are_ascending.result c.are_ascending.ensures c.if-not-are_ascending.false) (c.are_noded.ensures.0 t),
-  λ (a : IsArranged c.args.edges.now). c.are_noded.ensures.1 a.planar.noded,
+  λ t. arranged c.args.edges.now (by_true c.are_in_range.result c.are_in_range.ensures c.if-not-are_in_range.false) (by_true c.are_ascending.result c.are_ascending.ensures c.if-not-are_ascending.false) (c.in_ok-noded.ensures.0 t),
+  λ (a : IsArranged c.args.edges.now). c.in_ok-noded.ensures.1 a.planar.noded,
 )
 
 pub returns-clause-planar : goal.returns-clause-planar

@@ -2,7 +2,7 @@ use Rattle.std.proofs.Common.{refl}
 use Rattle.half_edge.proofs.Meeting.{bad_meets_not}
 use Rattle.half_edge.proofs.Meeting.{meet_apart, meet_in_end}
 use Rattle.half_edge.proofs.Deciding.{iff_true, iff_false}
-use Rattle.half_edge.proofs.arranged.meets_in_ends.Goals as goal
+use Rattle.half_edge.proofs.noded.meets_in_ends.Goals as goal
 
 pub returns-in-Apart : goal.returns-in-Apart
 returns-in-Apart c = iff_true (meet_apart c.args.e c.args.f c.in-Apart.ensures.exact)

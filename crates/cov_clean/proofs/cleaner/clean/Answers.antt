@@ -1,0 +1,95 @@
+-- The owners of the regions between the live edges, and what is built of them.
+use Rattle.std.proofs.Common.{◌≡◌, sym, ◌∙◌, ap, subst, ℕ, ◌*◌, ◌<◌, List, length, Option, rules}
+use Rattle.std.specs.Prelude.{All, IfSome}
+use Rattle.std.proofs.lemmas.Result.{IfOk-weaker}
+use Rattle.cov_types.specs.declared.seg.Seg.{Seg}
+use Rattle.cov_types.specs.Coverage.{Members}
+use Rattle.plane.specs.Region.{IsOuterRegion, AreRegions}
+use Rattle.arrangement.specs.Overlay.{Overlay}
+use Rattle.arrangement.specs.declared.odd_use.OddUse.{OddUse}
+use Rattle.owner_label.specs.Labelled.{Labelled}
+use Rattle.cov_build.specs.Owners.{owner_in}
+use Rattle.sound_polygons.specs.Cleaned.{IsBuilt}
+use Rattle.cov_clean.proofs.Asking.{asked_all}
+use Rattle.cov_clean.proofs.Candidates.{areas_long, areas_all}
+use Rattle.cov_clean.proofs.Cleaning.{sides_count, sides_below, sides_outer, cleaned, built_count}
+use Rattle.cov_clean.proofs.Overlays.{snapped_labels}
+use Rattle.cov_clean.proofs.Results.{if_ok, if_err}
+use Rattle.cov_clean.proofs.cleaner.clean.Goals as goal
+
+pub owners_of_sides-requires-clause-areas : goal.owners_of_sides-requires-clause-areas
+owners_of_sides-requires-clause-areas g c =
+    let l = c.in_ok-labels.labels in
+    areas_all l c.deref-2.result.now c.len-members.result (c.deref-2.ensures.value ∙ c.in_ok-areas.ensures)
+
+pub owners_of_sides-requires-clause-members : goal.owners_of_sides-requires-clause-members
+owners_of_sides-requires-clause-members g c =
+    let l = c.in_ok-labels.labels in
+    let are = c.in_ok-live.ensures in
+    let many : c.len-members.result ≡ length c.args.c.now = search rules in
+    let long : length c.deref-2.result.now ≡ length c.args.c.now = areas_long l c.deref-2.result.now c.len-members.result (c.deref-2.ensures.value ∙ c.in_ok-areas.ensures) ∙ many in
+    let odd : l.odd ≡ c.in_ok-live.live.odd.items = ap (λ (k : Labelled). k.odd) c.in_ok-labels.ensures in
+    subst (λ (n : ℕ). All (λ u. u.member < n) l.odd) (sym long) (subst (λ (us : List OddUse). All (λ u. u.member < length c.args.c.now) us) (sym odd) are.below)
+
+pub returns-in_err-owners-clause-no_memory : goal.returns-in_err-owners-clause-no_memory
+returns-in_err-owners-clause-no_memory g c = if_err c.from_residual-in_err-owners.result _ (λ o is.
+    c.in_err-owners.ensures.no_memory o (snapped_labels c.args.c.now c.requires.in_range c.in_ok-live.live.edges.items c.in_ok-live.live.odd.items c.in_ok-live.ensures c.in_ok-labels.labels c.in_ok-labels.ensures o is))
+
+pub polygons-requires-clause-count : goal.polygons-requires-clause-count
+polygons-requires-clause-count g c =
+    let edges = c.in_ok-live.live.edges.items in
+    let between : c.in_ok-arena.arena ≡ edges = search rules in
+    ap length c.deref-3.ensures.value ∙ sides_count g.R.MergeRule.rule (g.R.MergeRule.state c.args.rule.now) c.args.c.now c.requires.in_range edges c.in_ok-live.live.odd.items c.in_ok-live.ensures
+    c.in_ok-labels.labels c.in_ok-labels.ensures c.len.result (c.len.ensures.count ∙ ap (λ (es : List Seg). 2 * length es) between) c.in_ok-owners.owners.items c.in_ok-owners.ensures.owners
+    ∙ ap (λ (es : List Seg). 2 * length es) (sym between)
+
+pub polygons-requires-clause-below : goal.polygons-requires-clause-below
+polygons-requires-clause-below g c =
+    let edges = c.in_ok-live.live.edges.items in
+    let between : c.in_ok-arena.arena ≡ edges = search rules in
+    let many : c.len-members.result ≡ length c.args.c.now = search rules in
+    let below = sides_below g.R.MergeRule.rule (g.R.MergeRule.state c.args.rule.now) c.args.c.now c.requires.in_range edges c.in_ok-live.live.odd.items c.in_ok-live.ensures
+    c.in_ok-labels.labels c.in_ok-labels.ensures c.len.result (c.len.ensures.count ∙ ap (λ (es : List Seg). 2 * length es) between) c.in_ok-owners.owners.items c.in_ok-owners.ensures.owners in
+    let counted : All (λ found. IfSome found (λ i. i < c.len-members.result)) c.in_ok-owners.owners.items = subst (λ (n : ℕ). All (λ found. IfSome found (λ i. i < n)) c.in_ok-owners.owners.items) (sym many) below in
+    subst (λ (os : List (Option ℕ)). All (λ found. IfSome found (λ i. i < c.len-members.result)) os) (sym c.deref-3.ensures.value) counted
+
+pub polygons-requires-clause-outer : goal.polygons-requires-clause-outer
+polygons-requires-clause-outer g c = λ n outer.
+    (let edges = c.in_ok-live.live.edges.items in
+    let between : c.in_ok-arena.arena ≡ edges = search rules in
+    ap (λ (os : List (Option ℕ)). owner_in os n) c.deref-3.ensures.value ∙ sides_outer g.R.MergeRule.rule (g.R.MergeRule.state c.args.rule.now) c.args.c.now c.requires.in_range edges c.in_ok-live.live.odd.items c.in_ok-live.ensures
+    c.in_ok-labels.labels c.in_ok-labels.ensures c.len.result (c.len.ensures.count ∙ ap (λ (es : List Seg). 2 * length es) between) c.in_ok-owners.owners.items c.in_ok-owners.ensures.owners
+    n (subst (λ (es : List Seg). IsOuterRegion es n) between outer))
+
+-- what is built, as it is said of the list of owners and of the members
+built_is : (arena edges : List Seg) (slice owners : List (Option ℕ)) (n members : ℕ) (out : Members) → arena ≡ edges → slice ≡ owners → n ≡ members
+    → ((o : Overlay) → o.edges ≡ arena → AreRegions o.edges o.numbers → IsBuilt o (owner_in slice) n out) → (o : Overlay) → o.edges ≡ edges → AreRegions o.edges o.numbers → IsBuilt o (owner_in owners) members out
+built_is arena edges slice owners n members out between same many built o is regions =
+    subst (λ (k : ℕ). IsBuilt o (owner_in owners) k out) many (subst (λ (os : List (Option ℕ)). IsBuilt o (owner_in os) n out) same (built o (is ∙ sym between) regions))
+
+pub returns-clause-cleaned : goal.returns-clause-cleaned
+returns-clause-cleaned g c =
+    let edges = c.in_ok-live.live.edges.items in
+    let between : c.in_ok-arena.arena ≡ edges = search rules in
+    let many : c.len-members.result ≡ length c.args.c.now = search rules in
+    IfOk-weaker c.polygons.result _ _ (λ (out : Members) built. cleaned g.R.MergeRule.rule (g.R.MergeRule.state c.args.rule.now) c.args.c.now c.requires.in_range edges c.in_ok-live.live.odd.items c.in_ok-live.ensures
+    c.in_ok-labels.labels c.in_ok-labels.ensures c.len.result (c.len.ensures.count ∙ ap (λ (es : List Seg). 2 * length es) between) c.in_ok-owners.owners.items c.in_ok-owners.ensures.owners
+    c.args.gap c.requires.gap out (built_is c.in_ok-arena.arena edges c.deref-3.result.now c.in_ok-owners.owners.items c.len-members.result (length c.args.c.now) out between c.deref-3.ensures.value many built)) c.polygons.ensures.polygons
+
+pub returns-clause-count : goal.returns-clause-count
+returns-clause-count g c =
+    let edges = c.in_ok-live.live.edges.items in
+    let between : c.in_ok-arena.arena ≡ edges = search rules in
+    let many : c.len-members.result ≡ length c.args.c.now = search rules in
+    IfOk-weaker c.polygons.result _ _ (λ (out : Members) built. built_count g.R.MergeRule.rule (g.R.MergeRule.state c.args.rule.now) c.args.c.now c.requires.in_range edges c.in_ok-live.live.odd.items c.in_ok-live.ensures
+    c.in_ok-labels.labels c.in_ok-labels.ensures c.len.result (c.len.ensures.count ∙ ap (λ (es : List Seg). 2 * length es) between) c.in_ok-owners.owners.items c.in_ok-owners.ensures.owners
+    out (built_is c.in_ok-arena.arena edges c.deref-3.result.now c.in_ok-owners.owners.items c.len-members.result (length c.args.c.now) out between c.deref-3.ensures.value many built)) c.polygons.ensures.polygons
+
+pub returns-clause-state : goal.returns-clause-state
+returns-clause-state g c = if_ok c.polygons.result _ (λ o is.
+    c.in_ok-owners.ensures.state o (snapped_labels c.args.c.now c.requires.in_range c.in_ok-live.live.edges.items c.in_ok-live.live.odd.items c.in_ok-live.ensures c.in_ok-labels.labels c.in_ok-labels.ensures o is))
+
+pub returns-clause-no_memory : goal.returns-clause-no_memory
+returns-clause-no_memory g c = if_err c.polygons.result _ (λ o is.
+    asked_all o g.R.MergeRule.rule (g.R.MergeRule.state c.args.rule.now) (g.R.MergeRule.state c.owners_of_sides.new.rule)
+    (c.in_ok-owners.ensures.state o (snapped_labels c.args.c.now c.requires.in_range c.in_ok-live.live.edges.items c.in_ok-live.live.odd.items c.in_ok-live.ensures c.in_ok-labels.labels c.in_ok-labels.ensures o is)))

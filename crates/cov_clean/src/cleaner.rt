@@ -1,0 +1,63 @@
+ghost use Rattle.std.specs.Prelude.{◌≡◌, length, IfOk, IfErr};
+ghost use Rattle.cov_types.specs.Coverage.{AllInRange, IsFormed};
+ghost use Rattle.cov_types.specs.Uses.{uses_of};
+ghost use Rattle.arrangement.specs.Overlay.{Overlay, IsSnappedOverlay};
+ghost use Rattle.region_owners.specs.Owner.{last_state};
+ghost use Rattle.cov_clean.specs.Asked.{HasAskedFirst};
+ghost use Rattle.sound_polygons.specs.Cleaned.{IsCleaned};
+ghost use Rattle.cov_clean.specs.SnappedEdges.{AreSnappedEdges};
+
+use crate::facts::areas_of_members;
+use crate::owners::owners_of_sides;
+use cov_build::polygons;
+use cov_types::{Coverage, NoMemory, uses};
+use face_walk::Regions;
+use half_edge::Arena;
+use merge_rule::MergeRule;
+use owner_label::Labels;
+use snap_noder::{LiveEdges, live, node};
+use std::alloc::Global;
+
+/// The coverage, cleaned: it is snapped, each region goes to the one member that holds it or, where members overlap, to the one that the
+/// rule picks, and each member becomes the polygons of the regions that it has. The gap width, in grid units, is 0: no gap is filled.
+///
+/// The rule is asked once for each region that several members hold, in ascending order. Without memory it was asked for the first of
+/// these regions, as many as its state tells.
+///
+/// Takes time in proportion to the edges and their logarithm, beside the noding, and for each region that several members hold to its
+/// sides times these members; and memory in proportion to the edges, the members and the lengths of the labels.
+pub fn clean<R: MergeRule>(
+    alloc: Global,
+    c: &Coverage,
+    rule: &mut R,
+    gap: u32,
+) -> Result<Coverage, NoMemory>
+    requires in_range { AllInRange c.now }
+    requires gap { gap ≡ 0 }
+    ensures cleaned { IfOk result (λ out. IsCleaned c.now R.rule (R.state rule.old) gap out) }
+    ensures formed { IfOk result IsFormed }
+    ensures count { IfOk result (λ out. length out ≡ length c.now) }
+
+    // The rule was asked for all shared regions or, without memory, for the first ones.
+    ensures state { IfOk result (λ _. (o : Overlay) → IsSnappedOverlay (uses_of c.now) (length c.now) o → R.state rule.new ≡ last_state R.rule (R.state rule.old) o) }
+    ensures no_memory { IfErr result (λ _. (o : Overlay) → IsSnappedOverlay (uses_of c.now) (length c.now) o → HasAskedFirst R.rule (R.state rule.old) o (R.state rule.new)) }
+{
+    let live = live_edges(alloc, c)?;
+    let arena = Arena::build(alloc, live.edges.to_vec(alloc)?)?;
+    let regions = Regions::build(alloc, &arena)?;
+    let labels = Labels::build(alloc, &arena, &regions, &live)?;
+    let members = c.members.len() as u32;
+    let areas = areas_of_members(alloc, &labels, members)?;
+    let owners = owners_of_sides(alloc, &regions, &labels, &areas, arena.len(), rule)?;
+    polygons(alloc, &arena, &regions, &owners, members)
+}
+
+// The live edges of the snapped members.
+fn live_edges(alloc: Global, c: &Coverage) -> Result<LiveEdges, NoMemory>
+    requires { AllInRange c.now }
+    ensures { IfOk result (λ l. AreSnappedEdges c.now l.edges.items l.odd.items) }
+{
+    let uses = uses(alloc, c)?;
+    let noded = node(alloc, &uses)?;
+    Ok(live(alloc, &noded)?)
+}

@@ -1,0 +1,29 @@
+//! The cleaner: each region of a coverage goes to one owner, and what an owner has becomes polygons.
+//!
+//! Its promise, that of [`clean`]: the coverage is snapped, each region goes to the one member that holds it or, where members overlap, to
+//! the one that the rule picks, and each member becomes the polygons of the regions that it owns (`IsCleaned` of `sound_polygons`, which
+//! one coverage is at most). The rule is asked once for each shared region, in ascending order, and for no other; its state in the end is
+//! that of the definition, also after running out of memory: then of the first shared regions. The gap width is 0: no gap is filled.
+//!
+//! The files of `specs/`: `SnappedEdges`, the live edges of the snapped members; `Asked`, the owner that a rule gives a region and the
+//! state that it has on the way.
+//!
+//! The proof goes in the order of the program. In `proofs/`:
+//!
+//! - `Overlays`: the live edges with the numbers of their regions are the overlay of the coverage, which the labels are those of
+//!   (`snapped_labels`), and no member holds the outer region (`snapped_outer`);
+//! - `Numbers`: lists that are made of the numbers below a count. `Candidates`: one candidate more for each member of the label, and
+//!   facts with the same candidates and area are the same (`same_facts`);
+//! - `Asking`: the shared regions below a number are the first of all, so the state of a rule that was asked for these is the one in which
+//!   it comes to the next (`state_there`). `SideOwners`: the owner of each side (`side_own`, `side_other`), and of each region
+//!   (`owners_are`);
+//! - `Cleaning`: what is built of these owners (`cleaned`). `Results`: what holds whatever a result has.
+#![tactic(auto)]
+
+mod cleaner;
+mod facts;
+mod owners;
+#[cfg(test)]
+mod tests;
+
+pub use cleaner::clean;

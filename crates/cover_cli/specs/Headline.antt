@@ -1,0 +1,53 @@
+-- The headline: for every file in the grammar and range clean writes a valid coverage, and each point lies in the member that the definitions say.
+use Rattle.std.specs.Prelude.{◌≡◌, ◌⊎◌, ℕ, ◌≤◌, List, length, Some, IsTrue}
+use Rattle.cov_types.specs.declared.seg.Seg.{Seg}
+use Rattle.cov_types.specs.Coverage.{Members, IsFormed}
+use Rattle.cov_types.specs.Uses.{uses_of}
+use Rattle.plane.specs.Joined.{IsOff}
+use Rattle.plane.specs.Label.{label_at}
+use Rattle.plane.specs.Point.{Point}
+use Rattle.plane.specs.Validity.{IsValid}
+use Rattle.arrangement.specs.declared.odd_use.OddUse.{OddUse}
+use Rattle.arrangement.specs.Noding.{IsNoded}
+use Rattle.merge_rule.specs.RuleState.{no_state}
+use Rattle.sound_polygons.specs.Cleaned.{IsCleaned}
+use Rattle.cleaned_laws.specs.HeldByLabel.{IsHeldByLabel}
+use Rattle.cov_io.specs.Contents.{HoldsNow}
+use Rattle.cov_io.specs.State.{State}
+use Rattle.cov_write.specs.Written.{coverage_text}
+use Rattle.geo_text.specs.Fault.{HasNoFault}
+use Rattle.geo_text.specs.Reading.{Reads}
+use Rattle.cover_cli.specs.declared.outcome.Outcome.{Outcome}
+use Rattle.cover_cli.specs.declared.outcome.Outcome.TheVariants.{Done, ReadFault, WriteFault, NoMemory}
+use Rattle.cover_cli.specs.declared.rule_name.RuleName.{RuleName}
+use Rattle.cover_cli.specs.Answers.{IsAnswer}
+use Rattle.cover_cli.specs.Clean.{rule_of}
+use Rattle.cover_cli.specs.Input.{longest_input}
+use Rattle.cover_cli.specs.Words.{Clean}
+
+-- the text is that of a valid coverage, the members cleaned by the rule: each point off the noded edges lies in the one snapped member that
+-- holds it, where several do in the one that the rule picks, and otherwise in none
+pub record IsCleanText (rule : RuleName) (members : Members) (text : List ℕ) : Type 0 where
+  pub out : Members
+  pub lines : text ≡ coverage_text out
+  pub formed : IsFormed out
+  pub valid : IsValid (uses_of out)
+  pub cleaned : IsCleaned members (rule_of rule) no_state 0 out
+  pub held : (edges : List Seg) (odd : List OddUse) (noded : IsNoded (uses_of members) edges odd) (p : Point) → IsOff edges p
+      → IsHeldByLabel (rule_of rule) no_state cleaned.overlay 0 out (label_at noded.snapped (length members) p) p
+
+-- the output is a clean text, and every other file is as it was
+pub record HoldsCleanText (rule : RuleName) (members : Members) (to : List ℕ) (old new : State) : Type 0 where
+  pub text : List ℕ
+  pub is_clean : IsCleanText rule members text
+  pub held : HoldsNow to text old.files new.files
+
+-- a call on a file failed, or memory ran out
+abbrev pub IsFileFault : Outcome → Type 0
+IsFileFault answer = (answer ≡ ReadFault) ⊎ ((answer ≡ WriteFault) ⊎ (answer ≡ NoMemory))
+
+-- for every file in the grammar and range clean is done and the output is a clean text, want of memory and faults of files aside
+abbrev pub HeadlineLaw : Type 0
+HeadlineLaw = (rule : RuleName) (from to input : List ℕ) (members : Members) (old new : State) (answer : Outcome) → IsTrue old.tells_files
+    → old.files from ≡ Some input → length input ≤ longest_input → Reads input members → HasNoFault input
+    → IsAnswer (Clean rule from to) old new answer → ((answer ≡ Done) × HoldsCleanText rule members to old new) ⊎ IsFileFault answer

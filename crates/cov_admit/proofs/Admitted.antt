@@ -1,5 +1,5 @@
 -- Uses of which none is at fault are valid.
-use Rattle.std.proofs.Common.{◌≡◌, refl, sym, ◌∙◌, ap, subst, ℕ, ◌⊎◌, true, List, inl, inr}
+use Rattle.std.proofs.Common.{◌≡◌, refl, sym, ◌∙◌, ap, ℕ, ◌⊎◌, true, List, inl, inr}
 use Rattle.std.specs.Prelude.{All, Contains}
 use Rattle.std.proofs.lemmas.Bool.{cases_eq, false≢true}
 use Rattle.std.proofs.lemmas.Option.{slice_get_within, get_or_from_slice_get}
@@ -26,7 +26,7 @@ use Rattle.arrangement.specs.Noding.{segments}
 use Rattle.arrangement.proofs.Labels.{far_free}
 use Rattle.cov_valid.specs.Kinds.{HasBadContact, IsSameSide, IsInside, AreFaultless}
 use Rattle.cov_valid.specs.declared.mark.Kind.TheVariants.{Meets, Repeated, SameSide, Inside}
-use Rattle.cov_admit.proofs.Segments.{use_by, same_or_not, has_or_not, among, use_of_segment, use_in_range, segments_in_range}
+use Rattle.cov_admit.proofs.Segments.{use_by, same_or_not, has_or_not, among, use_of_segment, noded_by_uses, use_in_range, segments_in_range}
 
 -- ---- two segments that do not meet badly
 
@@ -81,15 +81,9 @@ module _ (uses : List EdgeUse) (in_range : All (λ u. IsSegInRange u.seg) uses) 
   segs = segments uses
 
   segs_planar : IsPlanar segs
-  segs_planar = record {
-    in_range = segments_in_range uses in_range;
-    noded = λ e f in_e in_f. (
-        let u = use_of_segment uses e in_e in
-        let v = use_of_segment uses f in_f in
-        subst (λ s. MeetInEnds s f) u.1.1 (subst (λ t. MeetInEnds (u.0).seg t) v.1.1 (all_meet u.0 v.0 u.1.0 v.1.0)));
-  }
+  segs_planar = record { in_range = segments_in_range uses in_range; noded = noded_by_uses uses all_meet }
 
-  -- a member that has the segment and another that is over its midpoint without it
+  -- no member that doesn't have a segment holds the side point above it
   guest : (u : EdgeUse) → Contains uses u → (member : ℕ) → ¬ Contains uses (use_by member u.seg) → member_holds uses member (upper u.seg) ≡ true → ⊥
   guest u has member without held = not_inside u has (record {
     member = member;

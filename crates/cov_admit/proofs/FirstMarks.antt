@@ -33,7 +33,7 @@ module _ (members : Members) (formed : IsFormed members) where
       omega (arith, listed.1)))
 
   -- with a mark it is not
-  pub not_valid_by_mark : (m : Mark) → IsMark uses (length members) 0 m → ¬ IsValid uses
+  not_valid_by_mark : (m : Mark) → IsMark uses (length members) 0 m → ¬ IsValid uses
   not_valid_by_mark m mark valid =
       let u : EdgeUse = mark.marked in
       let has : Contains uses u = (m.place, slice_get_within uses m.place u mark.at_place, get_or_from_slice_get uses m.place u u mark.at_place) in
@@ -45,6 +45,6 @@ module _ (members : Members) (formed : IsFormed members) where
     first = λ others h. ap (λ (l : List Mark). slice_get l 0) (AreMarks-unique uses (length members) 0 others (m ∷ ms) h are);
   }
 
-  pub first_or_valid : (marks : List Mark) → AreMarks uses (length members) 0 marks → MatchOption (slice_get marks 0) (IsValid uses) (IsFirstMark members)
+  pub first_or_valid : (marks : List Mark) → AreMarks uses (length members) 0 marks → MatchOption (slice_get marks 0) (IsValid uses) (λ m. IsFirstMark members m × ¬ IsValid uses)
   first_or_valid [] are = valid_by_none are
-  first_or_valid (m ∷ ms) are = first_of_marks m ms are
+  first_or_valid (m ∷ ms) are = let first = first_of_marks m ms are in (first, not_valid_by_mark m first.mark)

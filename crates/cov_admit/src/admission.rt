@@ -29,7 +29,7 @@ pub fn admit(alloc: Global, c: Coverage) -> Result<ValidCoverage, AdmitError>
 // The first mark of a coverage; none where it is valid.
 fn first_mark(alloc: Global, c: &Coverage) -> Result<Option<Mark>, NoMemory>
     requires { IsFormed c.now }
-    ensures { IfOk result (λ found. MatchOption found (IsValid (uses_of c.now)) (IsFirstMark c.now)) }
+    ensures { IfOk result (λ found. MatchOption found (IsValid (uses_of c.now)) (λ m. IsFirstMark c.now m × ¬ IsValid (uses_of c.now))) }
 {
     let marks = marks(alloc, c, 0)?;
     Ok(marks.first().copied())

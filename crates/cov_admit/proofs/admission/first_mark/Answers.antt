@@ -13,4 +13,4 @@ returns c =
     let members = c.args.c.now in
     let list : List Mark = c.in_ok-marks.marks.items in
     let is : c.copied.result ≡ slice_get list 0 = c.copied.ensures ∙ c.first.ensures.value ∙ ap (λ (l : List Mark). slice_get l 0) c.deref.ensures.value in
-    subst (λ (found : Option Mark). MatchOption found (IsValid (uses_of members)) (IsFirstMark members)) (sym is) (first_or_valid members c.requires list c.in_ok-marks.ensures.exact)
+    subst (λ (found : Option Mark). MatchOption found (IsValid (uses_of members)) (λ m. IsFirstMark members m × ¬ IsValid (uses_of members))) (sym is) (first_or_valid members c.requires list c.in_ok-marks.ensures.exact)

@@ -17,8 +17,8 @@ use owner_label::Labels;
 use snap_noder::{LiveEdges, live, plain};
 use std::alloc::Global;
 
-/// The union of a valid coverage: one member that holds what some member of it holds, in canonical order. Takes n log n time in the number
-/// of segments, and memory in proportion to it.
+/// The union of a valid coverage: one member that holds what some member of it holds, in canonical order. Takes n log n time in the
+/// number of segments, beside that of `Regions::build`, and memory in proportion to it.
 pub fn union_of(alloc: Global, v: &ValidCoverage) -> Result<Member, NoMemory>
     ensures polygons { IfOk result (λ m. IsUnited v.now (m ∷ [])) }
     ensures union { IfOk result (λ m. IsUnionOf v.now (m ∷ [])) }

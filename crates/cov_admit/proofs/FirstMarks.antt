@@ -1,0 +1,50 @@
+-- What the list of the marks of a coverage tells of it.
+use Rattle.std.proofs.Common.{◌≡◌, ◌∙◌, ap, List, [], ◌∷◌, length, refl, arith}
+use Rattle.std.specs.Prelude.{All, Contains, Some, MatchOption, slice_get}
+use Rattle.std.proofs.lemmas.Option.{slice_get-get_or, slice_get_within, get_or_from_slice_get}
+use Rattle.cov_types.specs.Coverage.{Members, IsFormed}
+use Rattle.cov_types.specs.Range.{IsSegInRange}
+use Rattle.cov_types.specs.Uses.{uses_of}
+use Rattle.cov_types.specs.declared.edge_use.EdgeUse.{EdgeUse}
+use Rattle.cov_types.proofs.AllUses.{uses-in_range}
+use Rattle.cov_types.proofs.EvenEnds.{even-ends}
+use Rattle.crossing_laws.proofs.Lists.{contains_here}
+use Rattle.cov_valid.specs.Marks.{IsMark, AreMarks}
+use Rattle.cov_valid.specs.declared.mark.Mark.{Mark}
+use Rattle.cov_valid.proofs.Unique.{AreMarks-unique}
+use Rattle.plane.specs.Validity.{IsValid}
+use Rattle.cov_admit.specs.FirstMark.{IsFirstMark}
+use Rattle.cov_admit.proofs.Admitted.{faultless_valid}
+use Rattle.cov_admit.proofs.Refused.{valid_faultless}
+
+module _ (members : Members) (formed : IsFormed members) where
+  abbrev uses : List EdgeUse
+  uses = uses_of members
+
+  uses_in_range : All (λ (u : EdgeUse). IsSegInRange u.seg) uses
+  uses_in_range = uses-in_range members formed.in_range
+
+  -- without marks the coverage is valid
+  valid_by_none : AreMarks uses (length members) 0 [] → IsValid uses
+  valid_by_none are = faultless_valid uses uses_in_range (even-ends members) (λ u has kind fault. (
+      let at : slice_get uses has.0 ≡ Some u = slice_get-get_or uses has.0 u has.1 ∙ ap (λ (v : EdgeUse). Some v) has.2 in
+      let m : Mark = record { member = u.member; place = has.0; kind = kind } in
+      let listed = (are.exact m).1 (record { marked = u; at_place = at; member = refl; kind = fault }) in
+      omega (arith, listed.1)))
+
+  -- with a mark it is not
+  not_valid_by_mark : (m : Mark) → IsMark uses (length members) 0 m → ¬ IsValid uses
+  not_valid_by_mark m mark valid =
+      let u : EdgeUse = mark.marked in
+      let has : Contains uses u = (m.place, slice_get_within uses m.place u mark.at_place, get_or_from_slice_get uses m.place u u mark.at_place) in
+      valid_faultless uses uses_in_range valid u has m.kind mark.kind
+
+  first_of_marks : (m : Mark) (ms : List Mark) → AreMarks uses (length members) 0 (m ∷ ms) → IsFirstMark members m
+  first_of_marks m ms are = record {
+    mark = (are.exact m).0 (contains_here m ms);
+    first = λ others h. ap (λ (l : List Mark). slice_get l 0) (AreMarks-unique uses (length members) 0 others (m ∷ ms) h are);
+  }
+
+  pub first_or_valid : (marks : List Mark) → AreMarks uses (length members) 0 marks → MatchOption (slice_get marks 0) (IsValid uses) (λ m. IsFirstMark members m × ¬ IsValid uses)
+  first_or_valid [] are = valid_by_none are
+  first_or_valid (m ∷ ms) are = let first = first_of_marks m ms are in (first, not_valid_by_mark m first.mark)

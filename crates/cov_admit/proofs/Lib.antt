@@ -1,0 +1,4 @@
+pub mod Segments
+pub mod Admitted
+pub mod Refused
+pub mod FirstMarks

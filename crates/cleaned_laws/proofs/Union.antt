@@ -53,7 +53,8 @@ module _ (members : Members) (in_range : AllInRange members) (valid : IsValid (u
   segs_range : All IsSegInRange (segments uses)
   segs_range = All-map IsSegInRange (λ (u : EdgeUse). u.seg) uses (uses-in_range members in_range)
 
-  planar : IsPlanar o.edges
+  -- and so they meet in ends alone
+  pub planar : IsPlanar o.edges
   planar = record {
     in_range = λ k d within. All-contains IsSegInRange (segments uses) (get_or o.edges k d) segs_range (of_segment (get_or o.edges k d) (Contains-get_or o.edges k d within));
     noded = λ e f in_e in_f.

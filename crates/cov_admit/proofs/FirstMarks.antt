@@ -1,7 +1,7 @@
 -- What the list of the marks of a coverage tells of it.
-use Rattle.std.proofs.Common.{◌≡◌, ◌∙◌, ap, List, [], ◌∷◌, length, refl, arith}
+use Rattle.std.proofs.Common.{◌≡◌, ◌∙◌, sym, ap, List, [], ◌∷◌, length, refl, arith}
 use Rattle.std.specs.Prelude.{All, Contains, Some, MatchOption, slice_get}
-use Rattle.std.proofs.lemmas.Option.{slice_get-get_or, slice_get_within, get_or_from_slice_get}
+use Rattle.std.proofs.lemmas.Option.{slice_get-get_or, slice_get_within, get_or_from_slice_get, same_Some}
 use Rattle.cov_types.specs.Coverage.{Members, IsFormed}
 use Rattle.cov_types.specs.Range.{IsSegInRange}
 use Rattle.cov_types.specs.Uses.{uses_of}
@@ -41,10 +41,17 @@ module _ (members : Members) (formed : IsFormed members) where
 
   first_of_marks : (m : Mark) (ms : List Mark) → AreMarks uses (length members) 0 (m ∷ ms) → IsFirstMark members m
   first_of_marks m ms are = record {
-    mark = (are.exact m).0 (contains_here m ms);
-    first = λ others h. ap (λ (l : List Mark). slice_get l 0) (AreMarks-unique uses (length members) 0 others (m ∷ ms) h are);
+    marks = m ∷ ms;
+    are_marks = are;
+    first = refl;
   }
 
   pub first_or_valid : (marks : List Mark) → AreMarks uses (length members) 0 marks → MatchOption (slice_get marks 0) (IsValid uses) (λ m. IsFirstMark members m × ¬ IsValid uses)
   first_or_valid [] are = valid_by_none are
-  first_or_valid (m ∷ ms) are = let first = first_of_marks m ms are in (first, not_valid_by_mark m first.mark)
+  first_or_valid (m ∷ ms) are = (first_of_marks m ms are, not_valid_by_mark m ((are.exact m).0 (contains_here m ms)))
+
+-- a coverage has one first mark
+pub one_first_mark : (members : Members) (m n : Mark) → IsFirstMark members m → IsFirstMark members n → m ≡ n
+one_first_mark members m n first second =
+    let same = AreMarks-unique (uses_of members) (length members) 0 first.marks second.marks first.are_marks second.are_marks in
+    same_Some m n (sym first.first ∙ ap (λ (l : List Mark). slice_get l 0) same ∙ second.first)

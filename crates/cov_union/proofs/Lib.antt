@@ -1,2 +1,3 @@
 pub mod ByLabel
 pub mod UnionOverlay
+pub mod OneUnited

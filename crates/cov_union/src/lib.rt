@@ -5,7 +5,7 @@
 //! have a label (`IsUnited` of `specs/United.antt`).
 //!
 //! The files of `proofs/`: `ByLabel`, owners by labels are those of a union; `UnionOverlay`, the overlay of the own segments of a valid
-//! coverage, and what is built of it.
+//! coverage, and what is built of it; `OneUnited`, that there is one union in canonical order (`one_united`).
 #![tactic(auto)]
 
 mod owners;

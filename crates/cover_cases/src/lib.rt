@@ -16,5 +16,7 @@ mod hostile;
 mod rows;
 #[cfg(test)]
 mod tests;
+#[cfg(test)]
+mod uniting;
 
 pub use files::{BEFORE, shelf_of};

@@ -1,5 +1,6 @@
 use crate::{BEFORE, shelf_of};
 use cov_io::{Call, Fail, Shelf};
+use cov_valid::{Kind, Mark};
 use cover_cli::{Outcome, cover, message, status};
 use geo_text::TextFault;
 use std::alloc::{AllocError, Global};
@@ -70,6 +71,7 @@ pub(crate) fn expect_refusal(
     for line in [
         "validate in out",
         "clean in out --rule least-index",
+        "union in out",
         "node in out",
         "regions in out",
     ] {
@@ -523,9 +525,20 @@ fn each_outcome_has_its_status_and_its_message(rt: HostRuntime) -> Result<(), te
             "marked 18446744073709551615",
         ),
         (
+            Outcome::NotValid {
+                mark: Mark {
+                    member: 0,
+                    place: 1,
+                    kind: Kind::Meets,
+                },
+            },
+            3,
+            "not valid: member 0 place 1 meets",
+        ),
+        (
             Outcome::Usage,
             2,
-            "usage: cover validate|clean|node|regions",
+            "usage: cover validate|clean|union|node|regions",
         ),
         (NO_TEXT, 4, "text: syntax at 0"),
         (Outcome::TooLong, 6, "input is longer than 67108864 bytes"),

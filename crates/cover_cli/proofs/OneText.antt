@@ -28,8 +28,10 @@ use Rattle.cover_cli.specs.Made.{IsOneAnd, Makes, Refuses}
 use Rattle.cover_cli.specs.Node.{IsNoding}
 use Rattle.cover_cli.specs.Regions.{IsRow, AreRows, IsRegionList}
 use Rattle.cover_cli.specs.Text.{IsReadAnd}
+use Rattle.cov_union.proofs.OneUnited.{one_united}
+use Rattle.cover_cli.specs.Union.{IsUniting}
 use Rattle.cover_cli.specs.Validate.{marking, IsValidation}
-use Rattle.cover_cli.specs.Words.{Operation, Validate, Clean, Node, Regions, inputs_of}
+use Rattle.cover_cli.specs.Words.{Operation, Validate, Clean, Union, Node, Regions, inputs_of}
 use Rattle.cover_cli.specs.declared.outcome.Outcome.{Outcome}
 use Rattle.cover_cli.specs.declared.rule_name.RuleName.{RuleName}
 use Rattle.merge_rule.specs.RuleState.{no_state}
@@ -51,6 +53,11 @@ one_node members o p text other in_range v w =
 one_cleaning : (rule : RuleName) (members : List (List (List (List Coord)))) (o p : Outcome) (text other : List ℕ) → AllInRange members → IsCleaning rule members o text → IsCleaning rule members p other → (o ≡ p) × (text ≡ other)
 one_cleaning rule members o p text other in_range v w =
     let same : v.out ≡ w.out = one_cleaned members in_range (rule_of rule) no_state 0 v.out w.out v.cleaned w.cleaned in
+    (v.done ∙ sym w.done, v.lines ∙ ap coverage_text same ∙ sym w.lines)
+
+one_uniting : (members : List (List (List (List Coord)))) (o p : Outcome) (text other : List ℕ) → AllInRange members → IsUniting members o text → IsUniting members p other → (o ≡ p) × (text ≡ other)
+one_uniting members o p text other in_range v w =
+    let same : v.out ≡ w.out = one_united members in_range v.admitted v.out w.out v.united w.united in
     (v.done ∙ sym w.done, v.lines ∙ ap coverage_text same ∙ sym w.lines)
 
 -- a region has one row
@@ -100,6 +107,8 @@ one_made (Validate from to) s names inputs o p text other =
     of_inputs s names inputs _ _ ((o ≡ p) × (text ≡ other)) (of_reading _ _ ((o ≡ p) × (text ≡ other)) (λ members in_range. one_validation members o p text other))
 one_made (Clean rule from to) s names inputs o p text other =
     of_inputs s names inputs _ _ ((o ≡ p) × (text ≡ other)) (of_reading _ _ ((o ≡ p) × (text ≡ other)) (λ members in_range. one_cleaning rule members o p text other in_range))
+one_made (Union from to) s names inputs o p text other =
+    of_inputs s names inputs _ _ ((o ≡ p) × (text ≡ other)) (of_reading _ _ ((o ≡ p) × (text ≡ other)) (λ members in_range. one_uniting members o p text other in_range))
 one_made (Node from to) s names inputs o p text other =
     of_inputs s names inputs _ _ ((o ≡ p) × (text ≡ other)) (of_reading _ _ ((o ≡ p) × (text ≡ other)) (λ members in_range. one_node members o p text other in_range))
 one_made (Regions from to) s names inputs o p text other =

@@ -5,7 +5,7 @@ use Rattle.cov_io.specs.Contents.{SameFiles, HoldsNow, HoldsPrefix}
 use Rattle.cov_io.specs.Count.{Rose}
 use Rattle.cov_io.specs.State.{State}
 use Rattle.cover_cli.specs.declared.outcome.Outcome.{Outcome}
-use Rattle.cover_cli.specs.declared.outcome.Outcome.TheVariants.{Done, Marked, Usage, ReadFault, WriteFault, TooLong, BadText, NoMemory}
+use Rattle.cover_cli.specs.declared.outcome.Outcome.TheVariants.{Done, Marked, Usage, ReadFault, WriteFault, TooLong, BadText, NotValid, NoMemory}
 use Rattle.cover_cli.specs.Input.{HoldsTooMuch, AreInputs}
 use Rattle.cover_cli.specs.Made.{Makes, Refuses}
 use Rattle.cover_cli.specs.Words.{Operation, is_validate, inputs_of, output_of}
@@ -21,6 +21,7 @@ is_success _ = false
 -- the inputs were read, and refused
 abbrev pub is_refusal : Outcome → Bool
 is_refusal (BadText fault) = true
+is_refusal (NotValid mark) = true
 is_refusal _ = false
 
 -- segments are listed that are at fault

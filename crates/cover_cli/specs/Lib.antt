@@ -6,6 +6,7 @@ pub mod Input
 pub mod Text
 pub mod Validate
 pub mod Clean
+pub mod Union
 pub mod Node
 pub mod Regions
 pub mod Made

@@ -4,8 +4,9 @@ use Rattle.cover_cli.specs.Clean.{IsCleaning}
 use Rattle.cover_cli.specs.Node.{IsNoding}
 use Rattle.cover_cli.specs.Regions.{IsRegionList}
 use Rattle.cover_cli.specs.Text.{IsReadAnd, RefusesText}
+use Rattle.cover_cli.specs.Union.{IsUniting, RefusesUnion}
 use Rattle.cover_cli.specs.Validate.{IsValidation}
-use Rattle.cover_cli.specs.Words.{Operation, Validate, Clean, Node, Regions}
+use Rattle.cover_cli.specs.Words.{Operation, Validate, Clean, Union, Node, Regions}
 use Rattle.cover_cli.specs.declared.outcome.Outcome.{Outcome}
 
 -- there is one input, and this holds of it
@@ -18,6 +19,7 @@ IsOneAnd (input ∷ more ∷ rest) P = ⊥
 abbrev pub Makes : Operation → List (List ℕ) → Outcome → List ℕ → Type 0
 Makes (Validate from to) inputs outcome text = IsOneAnd inputs (λ input. IsReadAnd input (λ members. IsValidation members outcome text))
 Makes (Clean rule from to) inputs outcome text = IsOneAnd inputs (λ input. IsReadAnd input (λ members. IsCleaning rule members outcome text))
+Makes (Union from to) inputs outcome text = IsOneAnd inputs (λ input. IsReadAnd input (λ members. IsUniting members outcome text))
 Makes (Node from to) inputs outcome text = IsOneAnd inputs (λ input. IsReadAnd input (λ members. IsNoding members outcome text))
 Makes (Regions from to) inputs outcome text = IsOneAnd inputs (λ input. IsReadAnd input (λ members. IsRegionList members outcome text))
 
@@ -25,5 +27,6 @@ Makes (Regions from to) inputs outcome text = IsOneAnd inputs (λ input. IsReadA
 abbrev pub Refuses : Operation → List (List ℕ) → Outcome → Type 0
 Refuses (Validate from to) inputs outcome = IsOneAnd inputs (λ input. RefusesText input outcome)
 Refuses (Clean rule from to) inputs outcome = IsOneAnd inputs (λ input. RefusesText input outcome)
+Refuses (Union from to) inputs outcome = IsOneAnd inputs (λ input. RefusesUnion input outcome)
 Refuses (Node from to) inputs outcome = IsOneAnd inputs (λ input. RefusesText input outcome)
 Refuses (Regions from to) inputs outcome = IsOneAnd inputs (λ input. RefusesText input outcome)

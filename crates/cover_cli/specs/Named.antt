@@ -2,12 +2,13 @@
 use Rattle.std.specs.Prelude.{◌≡◌, Option, Some, None}
 use Rattle.cover_cli.specs.declared.words.Operation as code
 use Rattle.cover_cli.specs.declared.words.Operation.TheVariants as operations
-use Rattle.cover_cli.specs.Words.{Operation, Validate, Clean, Node, Regions}
+use Rattle.cover_cli.specs.Words.{Operation, Validate, Clean, Union, Node, Regions}
 
 -- the operation with the names that its texts hold
 abbrev pub named : code.Operation → Operation
 named (operations.Validate from to) = Validate from.now to.now
 named (operations.Clean rule from to) = Clean rule from.now to.now
+named (operations.Union from to) = Union from.now to.now
 named (operations.Node from to) = Node from.now to.now
 named (operations.Regions from to) = Regions from.now to.now
 

@@ -2,7 +2,10 @@
 use Rattle.std.specs.Prelude.{ℕ, List, ◌++◌, codes}
 use Rattle.std.specs.Fmt.{decimal}
 use Rattle.cover_cli.specs.declared.outcome.Outcome.{Outcome}
-use Rattle.cover_cli.specs.declared.outcome.Outcome.TheVariants.{Done, Marked, Usage, ReadFault, WriteFault, TooLong, BadText, NoMemory}
+use Rattle.cover_cli.specs.declared.outcome.Outcome.TheVariants.{Done, Marked, Usage, ReadFault, WriteFault, TooLong, BadText, NotValid, NoMemory}
+use Rattle.cov_valid.specs.declared.mark.Kind.{Kind}
+use Rattle.cov_valid.specs.declared.mark.Kind.TheVariants.{Meets, Repeated, SameSide, Inside}
+use Rattle.cov_valid.specs.declared.mark.Mark.{Mark}
 use Rattle.geo_text.specs.declared.error.TextFault.{TextFault}
 use Rattle.geo_text.specs.declared.error.TextFault.TheVariants.{Syntax, NotPlanar, NotWhole, OutOfRange, RingShort, RingOpen}
 
@@ -11,6 +14,7 @@ abbrev pub status_of : Outcome → ℕ
 status_of Done = 0
 status_of (Marked edges) = 1
 status_of Usage = 2
+status_of (NotValid mark) = 3
 status_of (BadText fault) = 4
 status_of TooLong = 6
 status_of ReadFault = 7
@@ -26,13 +30,25 @@ fault_text (OutOfRange at) = codes "text: out of range at " ++ decimal at
 fault_text (RingShort ring) = codes "text: ring " ++ decimal ring ++ codes " is short"
 fault_text (RingOpen ring) = codes "text: ring " ++ decimal ring ++ codes " is open"
 
+-- the word for a kind of fault
+abbrev pub kind_text : Kind → List ℕ
+kind_text Meets = codes "meets"
+kind_text Repeated = codes "repeated"
+kind_text SameSide = codes "same side"
+kind_text Inside = codes "inside"
+
+-- the text of the first segment at fault of a coverage that is not valid
+abbrev pub mark_text : Mark → List ℕ
+mark_text m = codes "not valid: member " ++ decimal m.member ++ codes " place " ++ decimal m.place ++ codes " " ++ kind_text m.kind
+
 -- the line that is printed
 abbrev pub message_of : Outcome → List ℕ
 message_of Done = codes "done"
 message_of (Marked edges) = codes "marked " ++ decimal edges
-message_of Usage = codes "usage: cover validate|clean|node|regions"
+message_of Usage = codes "usage: cover validate|clean|union|node|regions"
 message_of ReadFault = codes "cannot read"
 message_of WriteFault = codes "cannot write"
 message_of TooLong = codes "input is longer than 67108864 bytes"
 message_of (BadText fault) = fault_text fault
+message_of (NotValid mark) = mark_text mark
 message_of NoMemory = codes "no memory"

@@ -4,9 +4,11 @@ use Rattle.cov_io.specs.State.{State}
 use Rattle.cov_io.specs.Count.{Rose}
 use Rattle.cov_io.specs.declared.input.SlurpError.{SlurpError}
 use Rattle.cov_io.specs.declared.input.SlurpError.TheVariants as slurps
+use Rattle.cov_admit.specs.declared.error.AdmitError.{AdmitError}
+use Rattle.cov_admit.specs.declared.error.AdmitError.TheVariants as admits
 use Rattle.cover_cli.specs.Input.{HoldsTooMuch}
 use Rattle.cover_cli.specs.declared.outcome.Outcome.{Outcome}
-use Rattle.cover_cli.specs.declared.outcome.Outcome.TheVariants.{ReadFault, TooLong, BadText, NoMemory}
+use Rattle.cover_cli.specs.declared.outcome.Outcome.TheVariants.{ReadFault, TooLong, BadText, NotValid, NoMemory}
 use Rattle.geo_text.specs.declared.error.TextError.{TextError}
 use Rattle.geo_text.specs.declared.error.TextError.TheVariants as texts
 
@@ -20,6 +22,11 @@ outcome_of_slurp slurps.NoMemory = NoMemory
 abbrev pub outcome_of_text : TextError → Outcome
 outcome_of_text (texts.Fault fault) = BadText fault
 outcome_of_text texts.NoMemory = NoMemory
+
+-- the outcome where a coverage is not admitted
+abbrev pub outcome_of_refusal : AdmitError → Outcome
+outcome_of_refusal (admits.NotValid coverage mark) = NotValid mark
+outcome_of_refusal (admits.NoMemory coverage) = NoMemory
 
 -- memory ran out, or the refusal has this cause
 abbrev pub IsRefusedFor : (Outcome → Type 0) → Outcome → Type 0

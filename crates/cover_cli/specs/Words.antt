@@ -8,6 +8,7 @@ use Rattle.cover_cli.specs.declared.rule_name.RuleName.TheVariants.{LeastIndex, 
 pub data Operation : Type 0 where
   Validate : List ℕ → List ℕ → Operation
   Clean : RuleName → List ℕ → List ℕ → Operation
+  Union : List ℕ → List ℕ → Operation
   Node : List ℕ → List ℕ → Operation
   Regions : List ℕ → List ℕ → Operation
 
@@ -20,6 +21,7 @@ is_validate _ = false
 abbrev pub inputs_of : Operation → List (List ℕ)
 inputs_of (Validate from to) = from ∷ []
 inputs_of (Clean rule from to) = from ∷ []
+inputs_of (Union from to) = from ∷ []
 inputs_of (Node from to) = from ∷ []
 inputs_of (Regions from to) = from ∷ []
 
@@ -27,6 +29,7 @@ inputs_of (Regions from to) = from ∷ []
 abbrev pub output_of : Operation → List ℕ
 output_of (Validate from to) = to
 output_of (Clean rule from to) = to
+output_of (Union from to) = to
 output_of (Node from to) = to
 output_of (Regions from to) = to
 
@@ -39,9 +42,10 @@ is_name (c ∷ cs) = not (c == 45)
 abbrev pub operation_on : List ℕ → List ℕ → List ℕ → Option Operation
 operation_on word from to =
     if bytes_eq word (codes "validate") then Some (Validate from to)
+    else (if bytes_eq word (codes "union") then Some (Union from to)
     else (if bytes_eq word (codes "node") then Some (Node from to)
     else (if bytes_eq word (codes "regions") then Some (Regions from to)
-    else None))
+    else None)))
 
 -- the rule that a word names
 abbrev pub rule_named : List ℕ → Option RuleName

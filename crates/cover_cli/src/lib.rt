@@ -22,6 +22,7 @@ mod refusal;
 mod regions;
 mod rule_name;
 mod text;
+mod union;
 mod validate;
 mod words;
 

@@ -7,7 +7,7 @@ ghost use Rattle.cover_cli.specs.Words.{inputs_of};
 
 use crate::outcome::Outcome;
 use crate::words::Operation;
-use crate::{clean, node, regions, validate};
+use crate::{clean, node, regions, union, validate};
 use std::alloc::Global;
 
 /// What an operation made: the outcome, should the text be written whole, and that text.
@@ -29,6 +29,7 @@ pub fn make(alloc: Global, operation: &Operation, mut inputs: Vec<Vec<u8>>) -> R
     match operation {
         Operation::Validate { .. } => validate::make(alloc, inputs.remove(0)),
         Operation::Clean { rule, .. } => clean::make(alloc, *rule, inputs.remove(0)),
+        Operation::Union { .. } => union::make(alloc, inputs.remove(0)),
         Operation::Node { .. } => node::make(alloc, inputs.remove(0)),
         Operation::Regions { .. } => regions::make(alloc, inputs.remove(0)),
     }

@@ -1,8 +1,9 @@
 ghost use Rattle.std.specs.Prelude.{◌≡◌, IfOk};
 ghost use Rattle.std.specs.String.{string_bytes};
-ghost use Rattle.cover_cli.specs.Outcome.{status_of, message_of, fault_text};
+ghost use Rattle.cover_cli.specs.Outcome.{status_of, message_of, fault_text, mark_text};
 
 use cov_types::NoMemory;
+use cov_valid::{Kind, Mark};
 use geo_text::TextFault;
 use std::alloc::Global;
 
@@ -23,6 +24,8 @@ pub enum Outcome {
     TooLong,
     /// The input is no text that can be read.
     BadText(TextFault),
+    /// The coverage that the input is read as is not valid: its first segment that is at fault.
+    NotValid { mark: Mark },
     /// Memory ran out before the output was created.
     NoMemory,
 }
@@ -35,6 +38,7 @@ pub fn status(o: &Outcome) -> u8
         Outcome::Done => 0,
         Outcome::Marked { edges: _ } => 1,
         Outcome::Usage => 2,
+        Outcome::NotValid { mark: _ } => 3,
         Outcome::BadText(_) => 4,
         Outcome::TooLong => 6,
         Outcome::ReadFault => 7,
@@ -49,15 +53,30 @@ pub fn message(alloc: Global, o: &Outcome) -> Result<String, NoMemory>
 {
     let text = match o {
         Outcome::Marked { edges } => return Ok(format!(in alloc; "marked {edges}")?),
+        Outcome::NotValid { mark } => return mark_message(alloc, mark),
         Outcome::BadText(fault) => return fault_message(alloc, *fault),
         Outcome::Done => "done",
-        Outcome::Usage => "usage: cover validate|clean|node|regions",
+        Outcome::Usage => "usage: cover validate|clean|union|node|regions",
         Outcome::ReadFault => "cannot read",
         Outcome::WriteFault => "cannot write",
         Outcome::TooLong => "input is longer than 67108864 bytes",
         Outcome::NoMemory => "no memory",
     };
     Ok(String::from_str(alloc, text)?)
+}
+
+// The line that is printed for a coverage that is not valid.
+fn mark_message(alloc: Global, mark: &Mark) -> Result<String, NoMemory>
+    ensures { IfOk result (λ text. string_bytes text ≡ mark_text mark.now) }
+{
+    let (member, place) = (mark.member, mark.place);
+    let kind = match mark.kind {
+        Kind::Meets => "meets",
+        Kind::Repeated => "repeated",
+        Kind::SameSide => "same side",
+        Kind::Inside => "inside",
+    };
+    Ok(format!(in alloc; "not valid: member {member} place {place} {kind}")?)
 }
 
 // The line that is printed for a fault of the input.

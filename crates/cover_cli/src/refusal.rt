@@ -1,7 +1,8 @@
 ghost use Rattle.std.specs.Prelude.{◌≡◌};
-ghost use Rattle.cover_cli.specs.Refusal.{outcome_of_slurp, outcome_of_text};
+ghost use Rattle.cover_cli.specs.Refusal.{outcome_of_slurp, outcome_of_text, outcome_of_refusal};
 
 use crate::outcome::Outcome;
+use cov_admit::AdmitError;
 use cov_io::SlurpError;
 use cov_types::NoMemory;
 use geo_text::TextError;
@@ -26,6 +27,17 @@ impl From<TextError> for Outcome {
         match e {
             TextError::Fault(fault) => Outcome::BadText(fault),
             TextError::NoMemory => Outcome::NoMemory,
+        }
+    }
+}
+
+impl From<AdmitError> for Outcome {
+    ghost from_gives = { λ e o. o ≡ outcome_of_refusal e };
+
+    fn from(e: AdmitError) -> Outcome {
+        match e {
+            AdmitError::NotValid { coverage: _, mark } => Outcome::NotValid { mark },
+            AdmitError::NoMemory { coverage: _ } => Outcome::NoMemory,
         }
     }
 }

@@ -18,6 +18,10 @@ pub enum Operation<'a> {
         from: &'a str,
         to: &'a str,
     },
+    Union {
+        from: &'a str,
+        to: &'a str,
+    },
     Node {
         from: &'a str,
         to: &'a str,
@@ -40,6 +44,7 @@ impl<'a> Operation<'a> {
                 from,
                 to: _,
             } => slice::from_ref(from),
+            Operation::Union { from, to: _ } => slice::from_ref(from),
             Operation::Node { from, to: _ } => slice::from_ref(from),
             Operation::Regions { from, to: _ } => slice::from_ref(from),
         }
@@ -56,6 +61,7 @@ impl<'a> Operation<'a> {
                 from: _,
                 to,
             } => to,
+            Operation::Union { from: _, to } => to,
             Operation::Node { from: _, to } => to,
             Operation::Regions { from: _, to } => to,
         }
@@ -75,6 +81,9 @@ fn operation_on<'a>(word: &str, from: &'a str, to: &'a str) -> Option<Operation<
 {
     if word == "validate" {
         return Some(Operation::Validate { from, to });
+    }
+    if word == "union" {
+        return Some(Operation::Union { from, to });
     }
     if word == "node" {
         return Some(Operation::Node { from, to });

@@ -1,0 +1,40 @@
+ghost use Rattle.std.specs.Prelude.{◌≡◌, ◌≤◌, length, IfOk, IfErr};
+ghost use Rattle.cover_cli.specs.Input.{longest_input};
+ghost use Rattle.cover_cli.specs.Refusal.{IsRefusedFor};
+ghost use Rattle.cover_cli.specs.Text.{IsReadAnd};
+ghost use Rattle.cover_cli.specs.Union.{IsUniting, RefusesUnion};
+
+use crate::making::Made;
+use crate::outcome::Outcome;
+use crate::text::coverage_of;
+use cov_admit::{ValidCoverage, admit};
+use cov_types::{Coverage, NoMemory};
+use cov_union::union_of;
+use cov_write::text_of;
+use std::alloc::Global;
+
+// The text of the union of a valid coverage.
+fn uniting(alloc: Global, v: &ValidCoverage) -> Result<Made, NoMemory>
+    ensures { IfOk result (λ made. IsUniting v.now made.outcome made.text.items) }
+{
+    let union = union_of(alloc, v)?;
+    let mut members = Vec::new(alloc);
+    members.push(union)?;
+    let text = text_of(alloc, &Coverage { members })?;
+    Ok(Made {
+        outcome: Outcome::Done,
+        text,
+    })
+}
+
+/// Unites the coverage that the input is read as, where it is valid.
+pub fn make(alloc: Global, input: Vec<u8>) -> Result<Made, Outcome>
+    requires { length input.items ≤ longest_input }
+    ensures made { IfOk result (λ made.
+        IsReadAnd input.items (λ members. IsUniting members made.outcome made.text.items)) }
+    ensures refused { IfErr result (IsRefusedFor (RefusesUnion input.items)) }
+{
+    let coverage = coverage_of(alloc, input)?;
+    let valid = admit(alloc, coverage)?;
+    Ok(uniting(alloc, &valid)?)
+}

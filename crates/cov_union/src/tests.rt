@@ -101,6 +101,8 @@ fn members_apart_stay_two_polygons(rt: HostRuntime) -> Result<(), Fail> {
     let union = union_of(alloc, &admitted(alloc, &rt, c)?)?;
     let polys = points_of(alloc, &union)?;
     assert_eq!(rt; polys.len(), 2);
+    assert_eq!(rt; polys[0].len(), 1);
+    assert_eq!(rt; polys[1].len(), 1);
     assert_eq!(rt; polys[0][0].as_slice(), SQUARE.as_slice());
     assert_eq!(rt;
         polys[1][0].as_slice(),

@@ -58,7 +58,7 @@ not_read_and_refused input P _ read refuses = absurd refuses
 
 -- a coverage that is not admitted is refused for its cause
 pub admit_refused : (e : AdmitError) (input : List ℕ) (members : Members) → Reads input members → HasNoFault input → IsRefusal members e → IsRefusedFor (RefusesUnion input) (outcome_of_refusal e)
-admit_refused (NotAdmitted coverage mark) input members reads faultless refusal = inr (inr (record { members = members; reads = reads; faultless = faultless; holds = refusal.1 }))
+admit_refused (NotAdmitted coverage mark) input members reads faultless refusal = inr (inr (record { members = members; reads = reads; faultless = faultless; holds = (refusal.1, refusal.2) }))
 admit_refused (NoAdmitMemory coverage) input members reads faultless refusal = inl refl
 
 -- what refuses a text, refuses its union
@@ -200,6 +200,7 @@ marked_success _ marks = cc
 
 pub success_no_refusal : (o : Outcome) → IsTrue (is_success o) → is_refusal o ≡ false
 success_no_refusal (BadText fault) success = cc
+success_no_refusal (NotValid mark) success = cc
 success_no_refusal _ success = refl
 
 -- what doesn't touch the output is no success

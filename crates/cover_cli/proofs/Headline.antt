@@ -1,7 +1,6 @@
 -- For every file in the grammar and range clean writes a valid coverage.
-use Rattle.std.proofs.Common.{◌≡◌, ℕ, ◌≤◌, List, [], ◌∷◌, length, Some, IsTrue, inl, inr, subst, sym}
+use Rattle.std.proofs.Common.{◌≡◌, ℕ, ◌≤◌, List, [], ◌∷◌, length, Some, IsTrue, inl, inr, subst}
 use Rattle.std.specs.Prelude.{◌⊎◌}
-use Rattle.cov_types.specs.declared.coord.Coord.{Coord}
 use Rattle.cov_types.specs.Coverage.{Members, IsFormed}
 use Rattle.region_owners.specs.Owner.{IsLawful}
 use Rattle.region_owners.proofs.Held.{lawful}
@@ -13,15 +12,14 @@ use Rattle.geo_text.proofs.Formed.{read_formed}
 use Rattle.geo_text.proofs.OneReading.{one_reading}
 use Rattle.geo_text.specs.Fault.{HasNoFault}
 use Rattle.geo_text.specs.Reading.{Reads}
-use Rattle.cover_cli.proofs.Causes.{differs}
 use Rattle.cover_cli.proofs.Inputs.{same_inputs}
-use Rattle.cover_cli.specs.Answers.{is_success, MayWrite, HoldsNoCause, HoldsText, IsSuccessUnlessFault, IsAnswer}
+use Rattle.cover_cli.specs.Answers.{is_success, HoldsNoCause, HoldsText, IsSuccessUnlessFault, IsAnswer}
 use Rattle.cover_cli.specs.Clean.{rule_of, IsCleaning}
-use Rattle.cover_cli.specs.Headline.{IsCleanText, HoldsCleanText, IsFileFault, HeadlineLaw}
+use Rattle.cover_cli.specs.Headline.{IsCleanText, HoldsCleanText, IsFileFault}
 use Rattle.cover_cli.specs.Input.{longest_input, AreInputs}
 use Rattle.cover_cli.specs.Made.{Makes}
 use Rattle.cover_cli.specs.Text.{IsReadAnd, RefusesText}
-use Rattle.cover_cli.specs.Words.{Clean, inputs_of}
+use Rattle.cover_cli.specs.Words.{Clean}
 use Rattle.cover_cli.specs.declared.outcome.Outcome.{Outcome}
 use Rattle.cover_cli.specs.declared.outcome.Outcome.TheVariants.{Done, BadText}
 use Rattle.cover_cli.specs.declared.rule_name.RuleName.{RuleName}

@@ -5,7 +5,6 @@ use Rattle.cover_cli.specs.declared.outcome.Outcome.{Outcome}
 use Rattle.cover_cli.specs.declared.outcome.Outcome.TheVariants.{Done, Marked, Usage, ReadFault, WriteFault, TooLong, BadText, NotValid, NoMemory}
 use Rattle.cov_valid.specs.declared.mark.Kind.{Kind}
 use Rattle.cov_valid.specs.declared.mark.Kind.TheVariants.{Meets, Repeated, SameSide, Inside}
-use Rattle.cov_valid.specs.declared.mark.Mark.{Mark}
 use Rattle.geo_text.specs.declared.error.TextFault.{TextFault}
 use Rattle.geo_text.specs.declared.error.TextFault.TheVariants.{Syntax, NotPlanar, NotWhole, OutOfRange, RingShort, RingOpen}
 
@@ -30,16 +29,12 @@ fault_text (OutOfRange at) = codes "text: out of range at " ++ decimal at
 fault_text (RingShort ring) = codes "text: ring " ++ decimal ring ++ codes " is short"
 fault_text (RingOpen ring) = codes "text: ring " ++ decimal ring ++ codes " is open"
 
--- the word for a kind of fault
-abbrev pub kind_text : Kind → List ℕ
-kind_text Meets = codes "meets"
-kind_text Repeated = codes "repeated"
-kind_text SameSide = codes "same side"
-kind_text Inside = codes "inside"
-
--- the text of the first segment at fault of a coverage that is not valid
-abbrev pub mark_text : Mark → List ℕ
-mark_text m = codes "not valid: member " ++ decimal m.member ++ codes " place " ++ decimal m.place ++ codes " " ++ kind_text m.kind
+-- the text of the first segment at fault of a coverage that is not valid, with its member, its place and its kind
+abbrev pub mark_text : ℕ → ℕ → Kind → List ℕ
+mark_text member place Meets = codes "not valid: member " ++ (decimal member ++ (codes " place " ++ (decimal place ++ codes " meets")))
+mark_text member place Repeated = codes "not valid: member " ++ (decimal member ++ (codes " place " ++ (decimal place ++ codes " repeated")))
+mark_text member place SameSide = codes "not valid: member " ++ (decimal member ++ (codes " place " ++ (decimal place ++ codes " same side")))
+mark_text member place Inside = codes "not valid: member " ++ (decimal member ++ (codes " place " ++ (decimal place ++ codes " inside")))
 
 -- the line that is printed
 abbrev pub message_of : Outcome → List ℕ
@@ -50,5 +45,5 @@ message_of ReadFault = codes "cannot read"
 message_of WriteFault = codes "cannot write"
 message_of TooLong = codes "input is longer than 67108864 bytes"
 message_of (BadText fault) = fault_text fault
-message_of (NotValid mark) = mark_text mark
+message_of (NotValid mark) = mark_text mark.member mark.place mark.kind
 message_of NoMemory = codes "no memory"

@@ -53,7 +53,12 @@ pub fn message(alloc: Global, o: &Outcome) -> Result<String, NoMemory>
 {
     let text = match o {
         Outcome::Marked { edges } => return Ok(format!(in alloc; "marked {edges}")?),
-        Outcome::NotValid { mark } => return mark_message(alloc, mark),
+        Outcome::NotValid { mark } => return mark_message(
+            alloc,
+            mark.member,
+            mark.place,
+            mark.kind,
+        ),
         Outcome::BadText(fault) => return fault_message(alloc, *fault),
         Outcome::Done => "done",
         Outcome::Usage => "usage: cover validate|clean|union|node|regions",
@@ -66,17 +71,15 @@ pub fn message(alloc: Global, o: &Outcome) -> Result<String, NoMemory>
 }
 
 // The line that is printed for a coverage that is not valid.
-fn mark_message(alloc: Global, mark: &Mark) -> Result<String, NoMemory>
-    ensures { IfOk result (λ text. string_bytes text ≡ mark_text mark.now) }
+fn mark_message(alloc: Global, member: u32, place: u64, kind: Kind) -> Result<String, NoMemory>
+    ensures { IfOk result (λ text. string_bytes text ≡ mark_text member place kind) }
 {
-    let (member, place) = (mark.member, mark.place);
-    let kind = match mark.kind {
-        Kind::Meets => "meets",
-        Kind::Repeated => "repeated",
-        Kind::SameSide => "same side",
-        Kind::Inside => "inside",
-    };
-    Ok(format!(in alloc; "not valid: member {member} place {place} {kind}")?)
+    Ok(match kind {
+        Kind::Meets => format!(in alloc; "not valid: member {member} place {place} meets")?,
+        Kind::Repeated => format!(in alloc; "not valid: member {member} place {place} repeated")?,
+        Kind::SameSide => format!(in alloc; "not valid: member {member} place {place} same side")?,
+        Kind::Inside => format!(in alloc; "not valid: member {member} place {place} inside")?,
+    })
 }
 
 // The line that is printed for a fault of the input.

@@ -1,4 +1,6 @@
 ghost use Rattle.std.specs.Prelude.{◌≡◌, ◌≤◌, length, IfOk, IfErr};
+ghost use Rattle.cov_types.specs.Uses.{uses_of};
+ghost use Rattle.plane.specs.Validity.{IsValid};
 ghost use Rattle.cover_cli.specs.Input.{longest_input};
 ghost use Rattle.cover_cli.specs.Refusal.{IsRefusedFor};
 ghost use Rattle.cover_cli.specs.Text.{IsReadAnd};
@@ -15,6 +17,7 @@ use std::alloc::Global;
 
 // The text of the union of a valid coverage.
 fn uniting(alloc: Global, v: &ValidCoverage) -> Result<Made, NoMemory>
+    requires { IsValid (uses_of v.now) }
     ensures { IfOk result (λ made. IsUniting v.now made.outcome made.text.items) }
 {
     let union = union_of(alloc, v)?;

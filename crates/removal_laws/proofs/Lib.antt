@@ -12,3 +12,5 @@ pub mod Members
 pub mod Bridge
 pub mod Chains
 pub mod Steps
+pub mod Removable
+pub mod RunStates

@@ -32,7 +32,7 @@ grid_within t p h = record {
 
 -- ---- elements
 
-of_flat_map : {X Y : Type 0} (f : X → List Y) (xs : List X) (y : Y) → Contains (flat_map f xs) y → (x : X) × (Contains xs x × Contains (f x) y)
+pub of_flat_map : {X Y : Type 0} (f : X → List Y) (xs : List X) (y : Y) → Contains (flat_map f xs) y → (x : X) × (Contains xs x × Contains (f x) y)
 of_flat_map f [] y has = absurd (let within = has.1 in omega arith)
 of_flat_map f (x ∷ xs) y has =
     elim (Contains-append_cases (f x) (flat_map f xs) y (subst (λ l. Contains l y) (flat_map-cons f x xs) has)) [
@@ -40,7 +40,7 @@ of_flat_map f (x ∷ xs) y has =
       | inr later ↦ (let rest = of_flat_map f xs y later in (rest.0, (contains_there x rest.0 xs rest.1.0, rest.1.1)))
     ]
 
-to_flat_map : {X Y : Type 0} (f : X → List Y) (xs : List X) (x : X) (y : Y) → Contains xs x → Contains (f x) y → Contains (flat_map f xs) y
+pub to_flat_map : {X Y : Type 0} (f : X → List Y) (xs : List X) (x : X) (y : Y) → Contains xs x → Contains (f x) y → Contains (flat_map f xs) y
 to_flat_map f [] x y (k, inside, is) h = absurd (omega arith)
 to_flat_map f (z ∷ xs) x y (zero, inside, is) h =
     subst (λ l. Contains l y) (sym (flat_map-cons f z xs)) (Contains-append_left (f z) (flat_map f xs) y (subst (λ w. Contains (f w) y) (sym is) h))
@@ -49,11 +49,11 @@ to_flat_map f (z ∷ xs) x y (suc k, inside, is) h =
 
 -- ---- the ends of a chain's edges are its points
 
-record HasEndsIn (points : List Coord) (e : Seg) : Type 0 where
-  lo : Contains points e.lo
-  hi : Contains points e.hi
+pub record HasEndsIn (points : List Coord) (e : Seg) : Type 0 where
+  pub lo : Contains points e.lo
+  pub hi : Contains points e.hi
 
-ends_of_side : (x y : Coord) (o : Option Seg) → SideCases x y o → (e : Seg) → Contains (option_to_list o) e → IsSegBetween x y e
+pub ends_of_side : (x y : Coord) (o : Option Seg) → SideCases x y o → (e : Seg) → Contains (option_to_list o) e → IsSegBetween x y e
 ends_of_side x y o (inl none) e has = absurd (let within = (subst (λ p. Contains (option_to_list p) e) none.0 has).1 in omega arith)
 ends_of_side x y o (inr some) e has = by (subst (λ p. Contains (option_to_list p) e) some.1.0 has)
   where
@@ -61,7 +61,7 @@ ends_of_side x y o (inr some) e has = by (subst (λ p. Contains (option_to_list 
     by (zero, inside, is) = subst (IsSegBetween x y) is some.1.1
     by (suc k, inside, is) = absurd (omega arith)
 
-chain_ends : (points : List Coord) (e : Seg) → Contains (chain_edges points) e → HasEndsIn points e
+pub chain_ends : (points : List Coord) (e : Seg) → Contains (chain_edges points) e → HasEndsIn points e
 chain_ends [] e has = absurd (let within = has.1 in omega arith)
 chain_ends (x ∷ []) e has = absurd (let within = has.1 in omega arith)
 chain_ends (x ∷ y ∷ rest) e has =

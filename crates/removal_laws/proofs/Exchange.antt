@@ -44,7 +44,7 @@ same_seg_cases e f = by (is_same_seg e f)
 pub seg_is : (e f : Seg) → is_same_seg e f ≡ true → e ≡ f
 seg_is e f h = (Decides-same_segs e f).0 h
 
-not_seg : (e f : Seg) → ¬ (e ≡ f) → is_same_seg e f ≡ false
+pub not_seg : (e f : Seg) → ¬ (e ≡ f) → is_same_seg e f ≡ false
 not_seg e f apart =
     elim (same_seg_cases e f) [
       | inl same ↦ absurd (apart (seg_is e f same))

@@ -10,4 +10,7 @@ pub mod Walks
 pub mod Rings
 pub mod Members
 pub mod Bridge
+pub mod Chains
 pub mod Steps
+pub mod Removable
+pub mod RunStates

@@ -169,7 +169,7 @@ module _ (t : Triangle) (ab bc ac : Seg) (old : List EdgeUse) (is_ear : IsEar t 
 -- ---- one point after the other
 
 -- taking out b and others is taking out the others and then b
-current_more : (b : Coord) (removed points : List Coord) → current (b ∷ removed) points ≡ current (b ∷ []) (current removed points)
+pub current_more : (b : Coord) (removed points : List Coord) → current (b ∷ removed) points ≡ current (b ∷ []) (current removed points)
 current_more b removed [] = refl
 current_more b removed (x ∷ xs) = step (current_more b removed xs) (is_same_coord x b) (is_removed removed x) refl
   where

@@ -1,5 +1,5 @@
 -- The laws of taking a point out of a border.
-use Rattle.std.specs.Prelude.{◌≡◌, ◌≢◌, ℕ, true, List, [], ◌∷◌, Contains}
+use Rattle.std.specs.Prelude.{◌≡◌, ◌≢◌, ℕ, Bool, true, ◌↔◌, List, [], ◌∷◌, Contains}
 use Rattle.cov_types.specs.declared.coord.Coord.{Coord}
 use Rattle.cov_types.specs.Coverage.{Members, AllInRange}
 use Rattle.cov_types.specs.declared.edge_use.EdgeUse.{EdgeUse}
@@ -12,7 +12,8 @@ use Rattle.plane.specs.Validity.{IsValid}
 use Rattle.plane.specs.Joined.{IsClear}
 use Rattle.plane.specs.Point.{Point}
 use Rattle.plane.specs.Segment.{IsOn}
-use Rattle.greedy_run.specs.Run.{Triangle, Simplification, Spot, IsRemovable, current_edges, is_one_point, ring_without, coverage_without}
+use Rattle.arrangement.specs.Noding.{segments}
+use Rattle.greedy_run.specs.Run.{Triangle, Simplification, Spot, IsRemovable, current_edges, IsRunState, is_one_point, ring_without, coverage_without, IsSimplificationOf, IsSimplified}
 use Rattle.removal_laws.specs.Exchange.{IsEar, IsExchange}
 use Rattle.removal_laws.specs.Ear.{IsWithin, IsStrictlyWithin, AreSides, AreThreeSides, MeetsInEndsAlone, HasFreeEnds, IsFreeOf, IsOther, IsOuterEnd}
 
@@ -106,3 +107,41 @@ StepLaw = (t : Triangle) (ab bc ac : Seg) (members : Members) (removed : List Co
 abbrev pub FreeEndsLaw : Type 0
 FreeEndsLaw = (s : Simplification) (removed : List Coord) (spot : Spot) (h : IsRemovable s removed spot)
     → (e : Seg) → Contains (current_edges s.lines removed) e → e.lo ≢ h.t.b → e.hi ≢ h.t.b → HasFreeEnds h.t e
+
+-- the coverage of a state is valid and in range, its segments are exactly the current ones, and no ring has come to be of one point
+pub record IsSoundState (s : Simplification) (members : Members) (removed : List Coord) : Type 0 where
+  pub valid : IsValid (uses_of (coverage_without removed members))
+  pub in_range : AllInRange (coverage_without removed members)
+  pub edges : (e : Seg) → Contains (current_edges s.lines removed) e ↔ Contains (segments (uses_of (coverage_without removed members))) e
+  pub keeps : KeepsRings members removed
+
+-- the triangle has three sides with which it is an ear of the uses
+pub record HasEar (t : Triangle) (uses : List EdgeUse) : Type 0 where
+  pub ab : Seg
+  pub bc : Seg
+  pub ac : Seg
+  pub is_ear : IsEar t ab bc ac uses
+
+-- in such a state the triangle of a removable point is an ear
+abbrev pub RemovableEarLaw : Type 0
+RemovableEarLaw = (s : Simplification) (members : Members) (removed : List Coord) → IsSoundState s members removed
+    → (spot : Spot) (h : IsRemovable s removed spot) → HasEar h.t (uses_of (coverage_without removed members))
+
+-- without points a coverage stays in range
+abbrev pub StateRangeLaw : Type 0
+StateRangeLaw = (members : Members) (removed : List Coord) → AllInRange members → AllInRange (coverage_without removed members)
+
+-- the state after a removable point of a sound state is sound
+abbrev pub NextStateLaw : Type 0
+NextStateLaw = (s : Simplification) (members : Members) (removed : List Coord) → IsSoundState s members removed
+    → (spot : Spot) (h : IsRemovable s removed spot) → IsSoundState s members (h.t.b ∷ removed)
+
+-- of a valid coverage in range each state to which the run comes is sound
+abbrev pub RunStateLaw : Type 0
+RunStateLaw = (members : Members) (tolerance : ℕ) (inner_only : Bool) (s : Simplification) → IsSimplificationOf members tolerance inner_only s
+    → AllInRange members → IsValid (uses_of members) → (removed : List Coord) → IsRunState s removed → IsSoundState s members removed
+
+-- so a valid coverage in range, simplified, is valid and in range
+abbrev pub SimplifiedValidLaw : Type 0
+SimplifiedValidLaw = (members : Members) (tolerance : ℕ) (inner_only : Bool) (out : Members) → AllInRange members → IsValid (uses_of members)
+    → IsSimplified members tolerance inner_only out → IsValid (uses_of out) × AllInRange out

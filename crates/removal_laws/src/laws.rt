@@ -1,4 +1,4 @@
-ghost use Rattle.removal_laws.specs.Laws.{PaschLaw, EarLaw, OddLaw, InnerLaw, HoldersLaw, ValidLaw, RingsLaw, StaysValidLaw, KeepsLaw, OneMoreLaw, CoverageMoreLaw, StepLaw, FreeEndsLaw};
+ghost use Rattle.removal_laws.specs.Laws.{PaschLaw, EarLaw, OddLaw, InnerLaw, HoldersLaw, ValidLaw, RingsLaw, StaysValidLaw, KeepsLaw, OneMoreLaw, CoverageMoreLaw, StepLaw, FreeEndsLaw, RemovableEarLaw, StateRangeLaw, NextStateLaw, RunStateLaw, SimplifiedValidLaw};
 
 /// A segment that meets two sides of a triangle in ends alone, and has no end in it but at the third side, comes into it nowhere else; so it meets the third side in ends alone. A call does nothing.
 pub fn ear_law()
@@ -39,4 +39,17 @@ pub fn steps_law()
     ensures one_more { OneMoreLaw }
     ensures coverage { CoverageMoreLaw }
     ensures step { StepLaw }
+{}
+
+/// In a state whose coverage is valid and in range and has the current segments, the triangle of a removable point is an ear. A call does nothing.
+pub fn removable_ear_law()
+    ensures { RemovableEarLaw }
+{}
+
+/// Each state of the run over a valid coverage in range is valid and in range, and so is the simplified coverage. A call does nothing.
+pub fn run_state_law()
+    ensures range { StateRangeLaw }
+    ensures next { NextStateLaw }
+    ensures run { RunStateLaw }
+    ensures simplified { SimplifiedValidLaw }
 {}

@@ -1,7 +1,8 @@
 //! Taking a point out of a shared border: the laws by which a coverage stays valid.
 //!
 //! It has definitions and laws, and no code. Its promise: where the triangle of two neighbouring segments of a valid coverage is
-//! free of all other ends, the coverage without the point between them is valid. The laws are the public functions.
+//! free of all other ends, the coverage without the point between them is valid; so a valid coverage, simplified, is valid. The laws
+//! are the public functions.
 //!
 //! The files of `specs/`: `Ear`, triangles of two neighbouring segments and what stays out of them; `Exchange`, the uses without
 //! the point between the two, said by sums; `Laws`.
@@ -21,9 +22,14 @@
 //!   (`ring_without_exchange`). `Members`: on a coverage (`coverage_exchange`), which stays valid (`coverage_valid`).
 //! - `Steps`: a ring with two different points keeps two (`coverage_keeps`), and points are taken out one after the other
 //!   (`coverage_without_more`), so the state after a valid one with an ear is valid (`step`).
-//! - `Bridge`: the triangle of a removable point is free of the current segments that do not end at it (`free_ends`).
+//! - `Bridge`: the triangle of a removable point is free of the current segments that do not end at it (`free_ends`). `Chains`: the
+//!   edges of a chain with and without a point that stands once. `Removable`: the triangle is an ear of the state (`ear_of`).
+//! - `RunStates`: each state of the run is valid (`run_sound`), and so is the simplified coverage (`simplified_valid`).
 #![tactic(auto)]
 
 mod laws;
 
-pub use laws::{ear_law, free_ends_law, inner_law, odd_law, removal_law, rings_law, steps_law};
+pub use laws::{
+    ear_law, free_ends_law, inner_law, odd_law, removable_ear_law, removal_law, rings_law,
+    run_state_law, steps_law,
+};

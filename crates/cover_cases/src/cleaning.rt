@@ -193,3 +193,43 @@ fn of_a_hundred_copies_one_is_left(rt: HostRuntime) -> Result<(), test::Fail> {
         &[case],
     )
 }
+
+#[test]
+fn rings_that_meet_in_a_vertex_stay_apart(rt: HostRuntime) -> Result<(), test::Fail> {
+    let cases: [Case; 4] = [
+        (
+            "a shell comes to the vertex of its hole from outside",
+            "POLYGON ((0 0, 30 0, 30 30, 20 30, 15 20, 10 30, 0 30, 0 0), (10 10, 10 20, 15 20, 20 20, 20 10, 10 10))",
+            Outcome::Done,
+            "POLYGON ((0 0, 30 0, 30 30, 20 30, 15 20, 10 30, 0 30, 0 0), (10 10, 10 20, 15 20, 20 20, 20 10, 10 10))\n",
+        ),
+        (
+            "a hole touches a hole",
+            "POLYGON ((0 0, 30 0, 30 30, 0 30, 0 0), (10 10, 15 10, 15 15, 10 15, 10 10), (5 5, 10 5, 10 10, 5 10, 5 5))",
+            Outcome::Done,
+            "POLYGON ((0 0, 30 0, 30 30, 0 30, 0 0), (5 5, 5 10, 10 10, 10 5, 5 5), (10 10, 10 15, 15 15, 15 10, 10 10))\n",
+        ),
+        (
+            "four holes are drawn as one chain through a vertex",
+            "POLYGON ((0 0, 40 0, 40 40, 0 40, 0 0), (20 20, 30 15, 30 25, 20 20, 25 30, 15 30, 20 20, 10 25, 10 15, 20 20, 15 10, 25 10, 20 20))",
+            Outcome::Done,
+            "POLYGON ((0 0, 40 0, 40 40, 0 40, 0 0), (10 15, 10 25, 20 20, 10 15), (15 10, 20 20, 25 10, 15 10), (15 30, 25 30, 20 20, 15 30), (20 20, 30 25, 30 15, 20 20))\n",
+        ),
+        (
+            "the black squares of a board are polygons of their own",
+            "MULTIPOLYGON (((20 20, 30 20, 30 30, 20 30, 20 20)), ((0 0, 10 0, 10 10, 0 10, 0 0)), ((10 10, 20 10, 20 20, 10 20, 10 10)), ((20 0, 30 0, 30 10, 20 10, 20 0)), ((0 20, 10 20, 10 30, 0 30, 0 20)))",
+            Outcome::Done,
+            "MULTIPOLYGON (((0 0, 10 0, 10 10, 0 10, 0 0)), ((0 20, 10 20, 10 30, 0 30, 0 20)), ((10 10, 20 10, 20 20, 10 20, 10 10)), ((20 0, 30 0, 30 10, 20 10, 20 0)), ((20 20, 30 20, 30 30, 20 30, 20 20)))\n",
+        ),
+    ];
+    expect_answers(&rt, rt.alloc(), "clean in out --rule least-index", &cases)
+}
+
+#[test]
+fn a_ring_in_a_ring_in_a_ring_is_a_polygon_of_its_own(rt: HostRuntime) -> Result<(), test::Fail> {
+    let text =
+        "MULTIPOLYGON (((0 0, 50 0, 50 50, 0 50, 0 0), (10 10, 10 40, 40 40, 40 10, 10 10)), ((20 20, 30 20, 30 30, 20 30, 20 20)))\n";
+    let case = ("rings in rings", text, Outcome::Done, text);
+    expect_answers(&rt, rt.alloc(), "clean in out --rule least-index", &[case])?;
+    expect_answers(&rt, rt.alloc(), "union in out", &[case])
+}

@@ -1,0 +1,14 @@
+-- The laws on which a search for the clearance of a gap by squares stands.
+use Rattle.std.specs.Prelude.{ℕ, ◌*◌, ◌≤◌, ◌↔◌}
+use Rattle.cov_types.specs.declared.coord.Coord.{Coord}
+use Rattle.cov_types.specs.declared.seg.Seg.{Seg}
+use Rattle.region_owners.specs.Gap.{HasRoom}
+use Rattle.clearance_laws.specs.Room.{doubled, HasHalfRoom, reach}
+
+-- the room of a grid point is that of its doubled coordinates
+abbrev pub DoubledLaw : Type 0
+DoubledLaw = (q : Coord) (w : ℕ) (e : Seg) → HasRoom q w e ↔ HasHalfRoom (doubled q) w e
+
+-- a point of the half grid has room w from an edge where the square of w is not past its reach
+abbrev pub ReachLaw : Type 0
+ReachLaw = (c : Coord) (w : ℕ) (e : Seg) → HasHalfRoom c w e ↔ (w * w ≤ reach c e)

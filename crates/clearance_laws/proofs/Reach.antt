@@ -13,7 +13,7 @@ use Rattle.plane.specs.Point.{Point, at_coord}
 use Rattle.plane.specs.Segment.{IsOn}
 use Rattle.plane.proofs.Points.{first_between, second_between, between_by}
 use Rattle.region_owners.specs.Gap.{squared_distance, HasRoom}
-use Rattle.clearance_laws.specs.Room.{doubled, half_distance, HasHalfRoom, squared_to, squared_length, foot, beside, reach}
+use Rattle.clearance_laws.specs.Room.{doubled, half_distance, HasHalfRoom, squared_to, squared_length, foot, half_side, reach}
 
 -- ---- over plain variables: v leads from lo to the point and u from lo to hi, and m and n are weights of the ends
 
@@ -242,7 +242,7 @@ module _ (c : Coord) (w : ℕ) (e : Seg) where
     length = unsigned_abs (squared_length e)
 
     abbrev off : ℤ
-    off = beside c e *ℤ beside c e
+    off = half_side c e *ℤ half_side c e
 
     long : pos 0 <ℤ squared_length e
     long = let two : pos 2 *ℤ squared_length e ≡ squared_length e +ℤ squared_length e = by_ring (squared_length e ∷ []) (Lit (pos 2) ⊗ Var 0) (Var 0 ⊕ Var 0) refl in omega (arith, lin)
@@ -288,7 +288,7 @@ module _ (c : Coord) (w : ℕ) (e : Seg) where
         (Var 0) (Var 5) (Lit (pos 2) ⊗ Var 3) refl h
 
     at_foot_is : half_distance c at_foot ≡ (pos 4 *ℤ squared_length e) *ℤ off
-    unfolding half_distance foot squared_length beside
+    unfolding half_distance foot squared_length half_side
     at_foot_is =
         (λ i. let a = foot_gap c.x e.lo.x ux (squared_length e) (foot c e) (pos (2 * length)) foot_d i in let b = foot_gap c.y e.lo.y uy (squared_length e) (foot c e) (pos (2 * length)) foot_d i in (a *ℤ a) +ℤ (b *ℤ b))
         ∙ foot_distance vx vy ux uy
@@ -305,7 +305,7 @@ module _ (c : Coord) (w : ℕ) (e : Seg) where
         scaled W (pos (2 * length)) (squared_length e) off long foot_d (subst (λ z. (W *ℤ (pos (2 * length) *ℤ pos (2 * length))) ≤ℤ z) at_foot_is at)
 
     line_means : (W *ℤ squared_length e) ≤ℤ off → AtMeans
-    unfolding squared_length beside
+    unfolding squared_length half_side
     line_means room m n a b =
         let square = (m +ℤ n) *ℤ (m +ℤ n) in
         let times = mul_le square (square_nonneg (m +ℤ n)) room in
@@ -316,7 +316,7 @@ module _ (c : Coord) (w : ℕ) (e : Seg) where
 
     divided : ((W *ℤ squared_length e) ≤ℤ off) ↔ (w * w ≤ unsigned_abs off / length)
     divided =
-        let off_is = unsigned_abs_nonneg off (square_nonneg (beside c e)) in
+        let off_is = unsigned_abs_nonneg off (square_nonneg (half_side c e)) in
         let by = le-div_iff_mul-le {k = length} {x = w * w} {y = unsigned_abs off} length_some in
         let product : pos (w * w * length) ≡ W *ℤ squared_length e = pos_mul (w * w) length ∙ ap (λ z. W *ℤ z) length_is in
         let le = pos_le (w * w * length) (unsigned_abs off) in (
@@ -331,7 +331,7 @@ module _ (c : Coord) (w : ℕ) (e : Seg) where
   reach_is = by (int_le (foot c e) (pos 0)) refl (int_le (pos 2 *ℤ squared_length e) (foot c e)) refl
     where
       by : (b : Bool) → int_le (foot c e) (pos 0) ≡ b → (t : Bool) → int_le (pos 2 *ℤ squared_length e) (foot c e) ≡ t
-          → HasHalfRoom c w e ↔ (w * w ≤ cond b (unsigned_abs (squared_to c e.lo)) (cond t (unsigned_abs (squared_to c e.hi)) (unsigned_abs (beside c e *ℤ beside c e) / unsigned_abs (squared_length e))))
+          → HasHalfRoom c w e ↔ (w * w ≤ cond b (unsigned_abs (squared_to c e.lo)) (cond t (unsigned_abs (squared_to c e.hi)) (unsigned_abs (half_side c e *ℤ half_side c e) / unsigned_abs (squared_length e))))
       by true lo t hi = lo_is ((int_le_is (foot c e) (pos 0)).0 lo)
       by false lo true hi = hi_is ((int_le_is (pos 2 *ℤ squared_length e) (foot c e)).0 hi)
       by false lo false hi = line_is ((int_le_false (foot c e) (pos 0)).0 lo) ((int_le_false (pos 2 *ℤ squared_length e) (foot c e)).0 hi)

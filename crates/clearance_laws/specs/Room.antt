@@ -39,12 +39,12 @@ unfoldable pub foot : Coord → Seg → ℤ
 foot c e = ((e.hi.x -ℤ e.lo.x) *ℤ (c.x -ℤ (pos 2 *ℤ e.lo.x))) +ℤ ((e.hi.y -ℤ e.lo.y) *ℤ (c.y -ℤ (pos 2 *ℤ e.lo.y)))
 
 -- twice the distance of c/2 to the edge's line, times the edge's length: positive on the left
-unfoldable pub beside : Coord → Seg → ℤ
-beside c e = ((e.hi.x -ℤ e.lo.x) *ℤ (c.y -ℤ (pos 2 *ℤ e.lo.y))) -ℤ ((e.hi.y -ℤ e.lo.y) *ℤ (c.x -ℤ (pos 2 *ℤ e.lo.x)))
+unfoldable pub half_side : Coord → Seg → ℤ
+half_side c e = ((e.hi.x -ℤ e.lo.x) *ℤ (c.y -ℤ (pos 2 *ℤ e.lo.y))) -ℤ ((e.hi.y -ℤ e.lo.y) *ℤ (c.x -ℤ (pos 2 *ℤ e.lo.x)))
 
 -- four times the squared distance of c/2 and the edge, rounded down: to an end of it, or to its line
 abbrev pub reach : Coord → Seg → ℕ
 reach c e =
     cond (int_le (foot c e) (pos 0)) (unsigned_abs (squared_to c e.lo))
     (cond (int_le (pos 2 *ℤ squared_length e) (foot c e)) (unsigned_abs (squared_to c e.hi))
-    (unsigned_abs (beside c e *ℤ beside c e) / unsigned_abs (squared_length e)))
+    (unsigned_abs (half_side c e *ℤ half_side c e) / unsigned_abs (squared_length e)))

@@ -1,7 +1,18 @@
-ghost use Rattle.clearance_laws.specs.Laws.{DoubledLaw, ReachLaw};
+ghost use Rattle.clearance_laws.specs.Laws.{DoubledLaw, ReachLaw, LipschitzLaw, RoomBoundLaw, HandingDownLaw};
 
 /// The room of a point of the half grid from an edge, by one whole number that code computes. A call does nothing.
 pub fn reach_law()
     ensures doubled { DoubledLaw }
     ensures reach { ReachLaw }
+{}
+
+/// From a point to one within s of it, room changes by s at most. A call does nothing.
+pub fn lipschitz_law()
+    ensures near { LipschitzLaw }
+    ensures bound { RoomBoundLaw }
+{}
+
+/// An edge that is far beside another one is not needed near a point. A call does nothing.
+pub fn handing_down_law()
+    ensures { HandingDownLaw }
 {}

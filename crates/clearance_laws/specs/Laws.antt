@@ -1,9 +1,10 @@
 -- The laws on which a search for the clearance of a gap by squares stands.
-use Rattle.std.specs.Prelude.{ℕ, ◌+◌, ◌*◌, ◌≤◌, ◌↔◌}
+use Rattle.std.specs.Prelude.{ℕ, ◌+◌, ◌*◌, ◌≤◌, ◌↔◌, Bool, pos, ◌-ℤ◌, ◌*ℤ◌, ◌≤ℤ◌}
 use Rattle.cov_types.specs.declared.coord.Coord.{Coord}
 use Rattle.cov_types.specs.declared.seg.Seg.{Seg}
 use Rattle.region_owners.specs.Gap.{HasRoom}
 use Rattle.clearance_laws.specs.Near.{IsNear}
+use Rattle.clearance_laws.specs.Quarter.{IsInSquare, centre, quarter}
 use Rattle.clearance_laws.specs.Room.{doubled, HasHalfRoom, reach}
 
 -- the room of a grid point is that of its doubled coordinates
@@ -25,3 +26,15 @@ RoomBoundLaw = (c q : Coord) (r s v : ℕ) (f : Seg) → IsNear c q s → ¬ Has
 -- an edge from which c has room r + 1 + 2·s, where it has no room r + 1 from another, is not needed for the points within s of c: what room they have from the other they have from it
 abbrev pub HandingDownLaw : Type 0
 HandingDownLaw = (c q : Coord) (r s w : ℕ) (e f : Seg) → IsNear c q s → ¬ HasHalfRoom c (r + 1) f → HasHalfRoom c (r + 1 + 2 * s) e → HasHalfRoom q w f → HasHalfRoom q w e
+
+-- the four quarters of a square with 2·k grid points on a side cover it: each grid point of it is in one
+abbrev pub QuartersLaw : Type 0
+QuartersLaw = (a : Coord) (k : ℕ) (q : Coord) → IsInSquare a (k + k) (doubled q) → (east : Bool) × (north : Bool) × IsInSquare (quarter a k east north) k (doubled q)
+
+-- and each point of the half grid that is in a quarter is in the square
+abbrev pub InWholeLaw : Type 0
+InWholeLaw = (a : Coord) (k : ℕ) (east north : Bool) (c : Coord) → IsInSquare (quarter a k east north) k c → IsInSquare a (k + k) c
+
+-- each point of a square of k by k grid points is within s of its centre, where s is half a diagonal or more
+abbrev pub NearCentreLaw : Type 0
+NearCentreLaw = (a : Coord) (k s : ℕ) (c : Coord) → (pos 2 *ℤ ((pos k -ℤ pos 1) *ℤ (pos k -ℤ pos 1))) ≤ℤ pos (s * s) → IsInSquare a k c → IsNear (centre a k) c s

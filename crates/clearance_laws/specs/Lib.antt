@@ -1,3 +1,4 @@
 pub mod Room
 pub mod Near
+pub mod Quarter
 pub mod Laws

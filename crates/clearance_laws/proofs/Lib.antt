@@ -1,3 +1,5 @@
 pub mod Reach
 pub mod Near
 pub mod Quarters
+pub mod Along
+pub mod Inside

@@ -1,8 +1,14 @@
 -- The laws on which a search for the clearance of a gap by squares stands.
-use Rattle.std.specs.Prelude.{ℕ, ◌+◌, ◌*◌, ◌≤◌, ◌↔◌, Bool, pos, ◌-ℤ◌, ◌*ℤ◌, ◌≤ℤ◌}
+use Rattle.std.specs.Prelude.{ℕ, ◌+◌, ◌*◌, ◌≤◌, ◌≡◌, ◌↔◌, Bool, List, pos, ◌-ℤ◌, ◌*ℤ◌, ◌≤ℤ◌}
 use Rattle.cov_types.specs.declared.coord.Coord.{Coord}
 use Rattle.cov_types.specs.declared.seg.Seg.{Seg}
+use Rattle.plane.specs.Point.{Point}
+use Rattle.plane.specs.Region.{IsOuterRegion, IsRegionOf}
+use Rattle.crossing_laws.specs.Crossing.{crossing_sum}
+use Rattle.sector_laws.specs.Sector.{HalfEdge, AreDistinct, IsPlanar}
+use Rattle.region_laws.specs.Weights.{weigh_sides}
 use Rattle.region_owners.specs.Gap.{HasRoom}
+use Rattle.clearance_laws.specs.Inside.{TellsSides, IsOffOwn}
 use Rattle.clearance_laws.specs.Near.{IsNear}
 use Rattle.clearance_laws.specs.Quarter.{IsInSquare, centre, quarter}
 use Rattle.clearance_laws.specs.Room.{doubled, HasHalfRoom, reach}
@@ -26,6 +32,11 @@ RoomBoundLaw = (c q : Coord) (r s v : ℕ) (f : Seg) → IsNear c q s → ¬ Has
 -- an edge from which c has room r + 1 + 2·s, where it has no room r + 1 from another, is not needed for the points within s of c: what room they have from the other they have from it
 abbrev pub HandingDownLaw : Type 0
 HandingDownLaw = (c q : Coord) (r s w : ℕ) (e f : Seg) → IsNear c q s → ¬ HasHalfRoom c (r + 1) f → HasHalfRoom c (r + 1 + 2 * s) e → HasHalfRoom q w f → HasHalfRoom q w e
+
+-- a point off the region's own edges is in it where these weigh 1 over it; an edge that has not the region on just one side weighs 0, so other edges do not count
+abbrev pub InsideLaw : Type 0
+InsideLaw = (edges : List Seg) → IsPlanar edges → AreDistinct edges → (r : ℕ) → ¬ IsOuterRegion edges r → (passes : HalfEdge → Bool) → TellsSides edges r passes
+    → (p : Point) → IsOffOwn edges r p → IsRegionOf edges p r ↔ (crossing_sum (weigh_sides passes edges) p ≡ pos 1)
 
 -- the four quarters of a square with 2·k grid points on a side cover it: each grid point of it is in one
 abbrev pub QuartersLaw : Type 0

@@ -1,4 +1,4 @@
-ghost use Rattle.clearance_laws.specs.Laws.{DoubledLaw, ReachLaw, LipschitzLaw, RoomBoundLaw, HandingDownLaw, QuartersLaw, InWholeLaw, NearCentreLaw};
+ghost use Rattle.clearance_laws.specs.Laws.{DoubledLaw, ReachLaw, LipschitzLaw, RoomBoundLaw, HandingDownLaw, InsideLaw, QuartersLaw, InWholeLaw, NearCentreLaw};
 
 /// The room of a point of the half grid from an edge, by one whole number that code computes. A call does nothing.
 pub fn reach_law()
@@ -15,6 +15,11 @@ pub fn lipschitz_law()
 /// An edge that is far beside another one is not needed near a point. A call does nothing.
 pub fn handing_down_law()
     ensures { HandingDownLaw }
+{}
+
+/// Whether a point off a region's own edges is in it, by these alone. A call does nothing.
+pub fn inside_law()
+    ensures { InsideLaw }
 {}
 
 /// The quarters of a square cover it, and its points are near its centre. A call does nothing.

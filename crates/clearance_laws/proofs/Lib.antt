@@ -3,3 +3,4 @@ pub mod Near
 pub mod Quarters
 pub mod Along
 pub mod Inside
+pub mod Outside

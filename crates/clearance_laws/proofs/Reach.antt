@@ -130,7 +130,7 @@ gap_is c lo hi r d m n mean =
     ((Var 5 ⊕ Var 6) ⊗ (Var 0 ⊗ Var 4 ⊖ Lit (pos 2) ⊗ Var 3)) (Var 4 ⊗ ((Var 5 ⊕ Var 6) ⊗ (Var 0 ⊖ Lit (pos 2) ⊗ Var 1) ⊖ Lit (pos 2) ⊗ (Var 6 ⊗ (Var 2 ⊖ Var 1))))
     (Neg (Lit (pos 2))) (Var 3 ⊗ (Var 5 ⊕ Var 6)) (Var 4 ⊗ (Var 5 ⊗ Var 1 ⊕ Var 6 ⊗ Var 2)) refl mean
 
-squares_are : (k t a b f g : ℤ) → k *ℤ a ≡ t *ℤ f → k *ℤ b ≡ t *ℤ g → (k *ℤ k) *ℤ ((a *ℤ a) +ℤ (b *ℤ b)) ≡ (t *ℤ t) *ℤ ((f *ℤ f) +ℤ (g *ℤ g))
+pub squares_are : (k t a b f g : ℤ) → k *ℤ a ≡ t *ℤ f → k *ℤ b ≡ t *ℤ g → (k *ℤ k) *ℤ ((a *ℤ a) +ℤ (b *ℤ b)) ≡ (t *ℤ t) *ℤ ((f *ℤ f) +ℤ (g *ℤ g))
 squares_are k t a b f g h i =
     by_two (k ∷ t ∷ a ∷ b ∷ f ∷ g ∷ [])
     ((Var 0 ⊗ Var 0) ⊗ (Var 2 ⊗ Var 2 ⊕ Var 3 ⊗ Var 3)) ((Var 1 ⊗ Var 1) ⊗ (Var 4 ⊗ Var 4 ⊕ Var 5 ⊗ Var 5))

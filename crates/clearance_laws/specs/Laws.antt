@@ -1,14 +1,15 @@
 -- The laws on which a search for the clearance of a gap by squares stands.
-use Rattle.std.specs.Prelude.{ℕ, ◌+◌, ◌*◌, ◌≤◌, ◌≡◌, ◌↔◌, Bool, List, pos, ◌-ℤ◌, ◌*ℤ◌, ◌≤ℤ◌}
+use Rattle.std.specs.Prelude.{ℕ, ◌+◌, ◌*◌, ◌≤◌, ◌<◌, ◌≡◌, ◌↔◌, Bool, List, pos, ◌-ℤ◌, ◌*ℤ◌, ◌≤ℤ◌}
 use Rattle.cov_types.specs.declared.coord.Coord.{Coord}
 use Rattle.cov_types.specs.declared.seg.Seg.{Seg}
-use Rattle.plane.specs.Point.{Point}
+use Rattle.plane.specs.Point.{Point, at_coord}
 use Rattle.plane.specs.Region.{IsOuterRegion, IsRegionOf}
 use Rattle.crossing_laws.specs.Crossing.{crossing_sum}
 use Rattle.sector_laws.specs.Sector.{HalfEdge, AreDistinct, IsPlanar}
 use Rattle.region_laws.specs.Weights.{weigh_sides}
+use Rattle.region_owners.specs.Box.{IsEdgeOf}
 use Rattle.region_owners.specs.Gap.{HasRoom}
-use Rattle.clearance_laws.specs.Inside.{TellsSides, IsOffOwn}
+use Rattle.clearance_laws.specs.Inside.{half_point, TellsSides, IsOffOwn}
 use Rattle.clearance_laws.specs.Near.{IsNear}
 use Rattle.clearance_laws.specs.Quarter.{IsInSquare, centre, quarter}
 use Rattle.clearance_laws.specs.Room.{doubled, HasHalfRoom, reach}
@@ -32,6 +33,21 @@ RoomBoundLaw = (c q : Coord) (r s v : ℕ) (f : Seg) → IsNear c q s → ¬ Has
 -- an edge from which c has room r + 1 + 2·s, where it has no room r + 1 from another, is not needed for the points within s of c: what room they have from the other they have from it
 abbrev pub HandingDownLaw : Type 0
 HandingDownLaw = (c q : Coord) (r s w : ℕ) (e f : Seg) → IsNear c q s → ¬ HasHalfRoom c (r + 1) f → HasHalfRoom c (r + 1 + 2 * s) e → HasHalfRoom q w f → HasHalfRoom q w e
+
+-- a grid point is in a region where the point that its doubled coordinates stand for is
+abbrev pub HalfPointLaw : Type 0
+HalfPointLaw = (edges : List Seg) (q : Coord) (r : ℕ) → IsRegionOf edges (at_coord q) r ↔ IsRegionOf edges (half_point (doubled q)) r
+
+-- of two points within s of each other, one in the region and the other not, with room v and w from the region's own edges: v + w is at most s
+abbrev pub OutsideRoomLaw : Type 0
+OutsideRoomLaw = (edges : List Seg) → IsPlanar edges → AreDistinct edges → (r : ℕ) → ¬ IsOuterRegion edges r
+    → (a b : Coord) (s v w : ℕ) → IsNear a b s → IsRegionOf edges (half_point a) r → ¬ IsRegionOf edges (half_point b) r
+    → ((e : Seg) → IsEdgeOf edges r e → HasHalfRoom a v e) → ((e : Seg) → IsEdgeOf edges r e → HasHalfRoom b w e) → v + w ≤ s
+
+-- so where a point of the region has more room than s from these, all points within s of it are in the region
+abbrev pub StaysInsideLaw : Type 0
+StaysInsideLaw = (edges : List Seg) → IsPlanar edges → AreDistinct edges → (r : ℕ) → ¬ IsOuterRegion edges r
+    → (a b : Coord) (s v : ℕ) → IsNear a b s → IsRegionOf edges (half_point a) r → s < v → ((e : Seg) → IsEdgeOf edges r e → HasHalfRoom a v e) → IsRegionOf edges (half_point b) r
 
 -- a point off the region's own edges is in it where these weigh 1 over it; an edge that has not the region on just one side weighs 0, so other edges do not count
 abbrev pub InsideLaw : Type 0

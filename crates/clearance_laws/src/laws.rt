@@ -1,4 +1,4 @@
-ghost use Rattle.clearance_laws.specs.Laws.{DoubledLaw, ReachLaw, LipschitzLaw, RoomBoundLaw, HandingDownLaw, InsideLaw, QuartersLaw, InWholeLaw, NearCentreLaw};
+ghost use Rattle.clearance_laws.specs.Laws.{DoubledLaw, ReachLaw, LipschitzLaw, RoomBoundLaw, HandingDownLaw, HalfPointLaw, OutsideRoomLaw, StaysInsideLaw, InsideLaw, QuartersLaw, InWholeLaw, NearCentreLaw};
 
 /// The room of a point of the half grid from an edge, by one whole number that code computes. A call does nothing.
 pub fn reach_law()
@@ -15,6 +15,13 @@ pub fn lipschitz_law()
 /// An edge that is far beside another one is not needed near a point. A call does nothing.
 pub fn handing_down_law()
     ensures { HandingDownLaw }
+{}
+
+/// A way from a point of a region to one that is not in it meets an edge of the region, which bounds the room of both. A call does nothing.
+pub fn outside_room_law()
+    ensures half { HalfPointLaw }
+    ensures outside { OutsideRoomLaw }
+    ensures inside { StaysInsideLaw }
 {}
 
 /// Whether a point off a region's own edges is in it, by these alone. A call does nothing.

@@ -3,4 +3,4 @@
 
 mod laws;
 
-pub use laws::{handing_down_law, inside_law, lipschitz_law, quarters_law, reach_law};
+pub use laws::{handing_down_law, inside_law, lipschitz_law, outside_room_law, quarters_law, reach_law};

@@ -1,40 +1,19 @@
 -- From a point of an edge along it to its middle, and from there to its upper side.
 use mathlib.Core.List.{[], ◌∷◌}
-use Rattle.std.proofs.Common.{◌≡◌, refl, sym, ◌∙◌, ap, subst, ℕ, zero, suc, ◌+◌, ◌*◌, ◌^◌, Bool, true, false, cond, List, ◌↔◌, ℤ, pos, neg_ℤ, ◌+ℤ◌, ◌-ℤ◌, ◌*ℤ◌, ◌≤ℤ◌, ◌<ℤ◌, int_eq, inl, inr, arith}
-use Rattle.std.specs.Prelude.{Contains}
-use Rattle.std.proofs.lemmas.Bool.{true≢false}
-use Rattle.std.proofs.lemmas.Bool.Decides.{Decides-int_eq}
+use Rattle.std.proofs.Common.{◌≡◌, refl, sym, ◌∙◌, subst, ◌+◌, ◌*◌, ◌^◌, ℤ, pos, neg_ℤ, ◌+ℤ◌, ◌-ℤ◌, ◌*ℤ◌, ◌≤ℤ◌, ◌<ℤ◌, inl, inr, arith}
 use Rattle.std.proofs.lemmas.Int.{ints}
-use Rattle.cov_types.specs.declared.coord.Coord.{Coord}
 use Rattle.cov_types.specs.declared.seg.Seg.{Seg}
 use Rattle.integer_laws.proofs.Cast.{pos_add, pos_mul, pos_nonneg}
-use Rattle.integer_laws.proofs.Compare.{le_of_lt, le_cases, lt_or_ge, lt_excludes_le, eq_or_not}
+use Rattle.integer_laws.proofs.Compare.{le_of_lt, le_cases}
 use Rattle.integer_laws.proofs.Ring.{lin, by_one, Var, Lit, ◌⊕◌, ◌⊖◌, ◌⊗◌, mul_one, mul_add}
 use Rattle.integer_laws.proofs.Sign.{nonneg_times_nonneg, positive_times_positive}
-use Rattle.plane.specs.Joined.{IsClear, Joined}
 use Rattle.plane.specs.Point.{Point, at_coord, SamePoint, IsBetween}
-use Rattle.plane.specs.Ray.{sweep, is_over, Rises}
-use Rattle.plane.specs.Region.{IsOuterRegion, IsRegionOf, AreRegions}
+use Rattle.plane.specs.Ray.{sweep, Rises}
 use Rattle.plane.specs.Segment.{IsOn, IsEnd, midpoint, upper, lower}
 use Rattle.plane.proofs.Forms.{form, between_weight, form_not_negative-between, form_not_positive-between, form_positive-between, form_negative-between, form_zero-between}
-use Rattle.plane.proofs.Points.{d_positive, second_between, between-moved, same_point-sym, same_point-trans, between_by}
+use Rattle.plane.proofs.Points.{d_positive, same_point-sym, same_point-trans, between_by}
 use Rattle.plane.proofs.Sides.{side_a, side_b, side_c, side-form, side_zero-on}
-use Rattle.plane.proofs.Sweeps.{rises-in_range, sweep-above, sweep-same, same_as_lo, same_as_hi, on-is}
-use Rattle.crossing_laws.specs.Crossing.{WeightedEdge, int_sum_by, IsSwept}
-use Rattle.crossing_laws.proofs.Beside.{HaveOnlyEnds, side_points_clear}
-use Rattle.crossing_laws.proofs.Lists.{contains_here, contains_there}
-use Rattle.crossing_laws.proofs.Sums.{crossing_sum-joined}
-use Rattle.crossing_laws.proofs.Ways.{joined-trans, joined_by_clear}
-use Rattle.sector_laws.specs.Sector.{HalfEdge, AreDistinct, IsPlanar}
-use Rattle.region_laws.specs.Weights.{weigh_sides}
-use Rattle.region_laws.proofs.Balance.{balanced_sides}
-use Rattle.region_laws.proofs.Exists.{regions_exist}
-use Rattle.region_owners.specs.Box.{IsEdgeOf}
-use Rattle.region_owners.specs.Gap.{squared_distance, HasRoom, HasRoomWithin}
-use Rattle.region_owners.specs.Laws.{HasOwnRoomWithin}
-use Rattle.region_owners.proofs.OwnEdges.{jump, weighed_edges, one_passes, passes, passes_own, IsSideTest, of_range, passes_next, sum_at, own_sum, region_test, sum_within, in_range}
-use Rattle.region_owners.proofs.RegionBox.{in_box}
-use Rattle.region_owners.proofs.StillNear.{not_past}
+use Rattle.plane.proofs.Sweeps.{sweep-above, sweep-same, same_as_lo, same_as_hi, on-is}
 
 -- ---- from a point of an edge along it to its middle, and to its upper side
 

@@ -1,6 +1,6 @@
 -- Whether a point off a region's own edges is in it is told by what these weigh over it.
 use mathlib.Core.List.{[], ◌∷◌}
-use Rattle.std.proofs.Common.{◌≡◌, ◌⊎◌, refl, sym, ◌∙◌, ap, subst, ℕ, Bool, true, false, cond, List, ◌↔◌, IsTrue, ℤ, pos, ◌+ℤ◌, ◌-ℤ◌, ◌*ℤ◌, ◌≤ℤ◌, inl, inr, arith}
+use Rattle.std.proofs.Common.{◌≡◌, ◌⊎◌, refl, sym, ◌∙◌, ap, subst, ℕ, Bool, true, false, cond, List, ◌↔◌, ℤ, pos, ◌*ℤ◌, inl, inr, arith}
 use Rattle.std.specs.Prelude.{Contains}
 use Rattle.std.proofs.lemmas.Bool.{true≢false, false_from_ne_true}
 use Rattle.std.proofs.lemmas.Int.{ints}
@@ -12,7 +12,7 @@ use Rattle.plane.specs.Joined.{IsClear, IsOff, Joined}
 use Rattle.plane.specs.Point.{Point, at_coord}
 use Rattle.plane.specs.Ray.{sweep, is_over, Rises}
 use Rattle.plane.specs.Region.{far_point, IsOuter, IsOuterRegion, IsRegionOf}
-use Rattle.plane.specs.Segment.{IsOn, side, midpoint, upper, lower}
+use Rattle.plane.specs.Segment.{IsOn, side, midpoint, upper}
 use Rattle.plane.proofs.Over.{over-is}
 use Rattle.plane.proofs.Points.{between-moved}
 use Rattle.plane.proofs.Sweeps.{rises-in_range, on-is}
@@ -171,7 +171,10 @@ module _ (edges : List Seg) (planar : IsPlanar edges) (distinct : AreDistinct ed
         off e (record { among = has; beside = inl ((tells h has).0 (one_is (passes h) weight)) }) on
 
   pub inside_is : (p : Point) → IsOffOwn edges r p → IsRegionOf edges p r ↔ (crossing_sum (weigh_sides passes edges) p ≡ pos 1)
-  inside_is p off = (sum_inside p, λ one. elim (on_some edges p rises) [
-    | inl found ↦ absurd (not_one p off found.0 found.1.0 found.1.1 one)
-    | inr clear ↦ off_inside p clear one
-  ])
+  inside_is p off = (
+    sum_inside p,
+    λ one. elim (on_some edges p rises) [
+      | inl found ↦ absurd (not_one p off found.0 found.1.0 found.1.1 one)
+      | inr clear ↦ off_inside p clear one
+    ],
+  )

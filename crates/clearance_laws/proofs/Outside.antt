@@ -1,11 +1,10 @@
 -- A way from a region to a point that is not in it meets one of the region's own edges, so room on both ends is bounded by its length.
 use mathlib.Core.List.{[], ◌∷◌}
-use Rattle.std.proofs.Common.{◌≡◌, refl, sym, ◌∙◌, ap, subst, ℕ, ◌+◌, ◌*◌, ◌≤◌, ◌<◌, Bool, List, ◌↔◌, ◌⊎◌, ℤ, pos, neg_ℤ, ◌+ℤ◌, ◌-ℤ◌, ◌*ℤ◌, ◌≤ℤ◌, ◌<ℤ◌, inl, inr, arith}
-use Rattle.std.specs.Prelude.{Contains}
+use Rattle.std.proofs.Common.{◌≡◌, refl, sym, ◌∙◌, subst, ℕ, ◌+◌, ◌*◌, ◌≤◌, ◌<◌, Bool, List, ◌↔◌, ℤ, pos, ◌+ℤ◌, ◌-ℤ◌, ◌*ℤ◌, ◌≤ℤ◌, ◌<ℤ◌, inl, inr, arith}
 use Rattle.cov_types.specs.declared.coord.Coord.{Coord}
 use Rattle.cov_types.specs.declared.seg.Seg.{Seg}
-use Rattle.integer_laws.proofs.Cast.{pos_add, pos_mul, pos_le, pos_nonneg, pos_positive}
-use Rattle.integer_laws.proofs.Compare.{le_or_gt, le_trans, lt_excludes_le, le_of_eq}
+use Rattle.integer_laws.proofs.Cast.{pos_add, pos_mul, pos_nonneg}
+use Rattle.integer_laws.proofs.Compare.{le_or_gt, lt_excludes_le}
 use Rattle.integer_laws.proofs.Order.{mul_le, cancel_le, mul_lt_mul}
 use Rattle.integer_laws.proofs.Ring.{lin, by_ring, by_two, Var, Lit, ◌⊕◌, ◌⊖◌, ◌⊗◌, Neg}
 use Rattle.integer_laws.proofs.Sign.{nonneg_times_nonneg, positive_times_positive, square_nonneg}
@@ -24,7 +23,7 @@ use Rattle.clearance_laws.specs.Inside.{half_point, TellsSides, IsOffOwn}
 use Rattle.clearance_laws.specs.Near.{IsNear}
 use Rattle.clearance_laws.specs.Room.{doubled, half_distance, HasHalfRoom}
 use Rattle.clearance_laws.proofs.Inside.{side_test, sum_inside, own_of, inside_is}
-use Rattle.clearance_laws.proofs.Near.{is_near-sym, le_or_more}
+use Rattle.clearance_laws.proofs.Near.{le_or_more}
 use Rattle.clearance_laws.proofs.Reach.{squares_are}
 
 -- ---- over plain variables: r/d is the mean of a/2 and b/2 with the weights m and n

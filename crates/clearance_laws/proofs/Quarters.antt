@@ -1,10 +1,10 @@
 -- The quarters of a square cover it, and each of its points is near its centre.
 use mathlib.Core.List.{[], ◌∷◌}
-use Rattle.std.proofs.Common.{◌≡◌, sym, ap, subst, refl, ◌∙◌, ℕ, ◌+◌, ◌*◌, ◌≤◌, Bool, true, false, List, ℤ, pos, neg_ℤ, ◌+ℤ◌, ◌-ℤ◌, ◌*ℤ◌, ◌≤ℤ◌, ◌<ℤ◌, ◌⊎◌, inl, inr, arith}
+use Rattle.std.proofs.Common.{◌≡◌, refl, ℕ, ◌+◌, ◌*◌, Bool, true, false, ℤ, pos, ◌+ℤ◌, ◌-ℤ◌, ◌*ℤ◌, ◌≤ℤ◌, ◌⊎◌, inl, inr, arith}
 use Rattle.cov_types.specs.declared.coord.Coord.{Coord}
-use Rattle.integer_laws.proofs.Cast.{pos_add, pos_mul, pos_le, pos_nonneg}
-use Rattle.integer_laws.proofs.Compare.{lt_or_ge, le_trans}
-use Rattle.integer_laws.proofs.Ring.{lin, by_ring, Var, Lit, ◌⊕◌, ◌⊖◌, ◌⊗◌, Neg}
+use Rattle.integer_laws.proofs.Cast.{pos_add, pos_nonneg}
+use Rattle.integer_laws.proofs.Compare.{lt_or_ge}
+use Rattle.integer_laws.proofs.Ring.{lin, by_ring, Var, Lit, ◌⊕◌, ◌⊖◌, ◌⊗◌}
 use Rattle.integer_laws.proofs.Sign.{nonneg_times_nonneg}
 use Rattle.clearance_laws.specs.Near.{IsNear}
 use Rattle.clearance_laws.specs.Room.{doubled}

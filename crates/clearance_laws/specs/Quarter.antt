@@ -1,5 +1,5 @@
 -- Squares of grid points, their centres and their quarters.
-use Rattle.std.specs.Prelude.{ℕ, Bool, cond, ℤ, pos, ◌+ℤ◌, ◌-ℤ◌, ◌*ℤ◌, ◌≤ℤ◌}
+use Rattle.std.specs.Prelude.{ℕ, Bool, cond, pos, ◌+ℤ◌, ◌-ℤ◌, ◌*ℤ◌, ◌≤ℤ◌}
 use Rattle.cov_types.specs.declared.coord.Coord.{Coord}
 
 -- in doubled coordinates, c is in the square of k by k grid points whose least corner is a

@@ -1,6 +1,6 @@
 -- Whether a point off a region's own edges is in it is told by what these weigh over it.
 use mathlib.Core.List.{[], ◌∷◌}
-use Rattle.std.proofs.Common.{◌≡◌, ◌⊎◌, refl, sym, ◌∙◌, ap, subst, ℕ, Bool, true, false, cond, List, ◌↔◌, ℤ, pos, ◌*ℤ◌, inl, inr, arith}
+use Rattle.std.proofs.Common.{◌+ℤ◌, ◌-ℤ◌, ◌≡◌, ◌⊎◌, refl, sym, ◌∙◌, ap, subst, ℕ, Bool, true, false, cond, ◌||◌, List, ◌↔◌, ℤ, pos, ◌*ℤ◌, inl, inr, arith}
 use Rattle.std.specs.Prelude.{Contains}
 use Rattle.std.proofs.lemmas.Bool.{true≢false, false_from_ne_true}
 use Rattle.std.proofs.lemmas.Int.{ints}
@@ -30,7 +30,7 @@ use Rattle.region_laws.proofs.Nearest.{nearest_or_none}
 use Rattle.region_owners.specs.Box.{IsEdgeOf}
 use Rattle.region_owners.proofs.OwnEdges.{jump, one_passes, IsSideTest, of_range, sum_at, sum_joined, own_sum, edge_under}
 use Rattle.region_owners.proofs.NearestOwn.{fewer, fewer_is, sum_way}
-use Rattle.clearance_laws.specs.Inside.{TellsSides, IsOffOwn}
+use Rattle.clearance_laws.specs.Inside.{edges_beside, TellsSides, IsOffOwn}
 use Rattle.clearance_laws.proofs.Along.{upper_half, on_middle, on_between, end_first}
 
 -- ---- on an edge or off all
@@ -178,3 +178,22 @@ module _ (edges : List Seg) (planar : IsPlanar edges) (distinct : AreDistinct ed
       | inr clear ↦ off_inside p clear one
     ],
   )
+
+-- ---- the other edges do not count
+
+pub beside_sum : (passes : HalfEdge → Bool) (edges : List Seg) (p : Point) → crossing_sum (weigh_sides passes (edges_beside passes edges)) p ≡ crossing_sum (weigh_sides passes edges) p
+beside_sum passes [] p = refl
+beside_sum passes (e ∷ es) p = by (beside_sum passes es p) (passes (record { edge = e; forwards = true })) refl (passes (record { edge = e; forwards = false })) refl
+  where
+    nothing : (b : Bool) (k : ℤ) → k ≡ pos 0 → cond b k (pos 0) ≡ pos 0
+    nothing true k none = none
+    nothing false k none = refl
+
+    by : crossing_sum (weigh_sides passes (edges_beside passes es)) p ≡ crossing_sum (weigh_sides passes es) p
+        → (t : Bool) → passes (record { edge = e; forwards = true }) ≡ t → (b : Bool) → passes (record { edge = e; forwards = false }) ≡ b
+        → crossing_sum (weigh_sides passes (cond (t || b) (e ∷ edges_beside passes es) (edges_beside passes es))) p ≡ crossing_sum (weigh_sides passes (e ∷ es)) p
+    by rest true up b down = ap (λ z. cond (is_over e p) (jump passes e) (pos 0) +ℤ z) rest
+    by rest false up true down = ap (λ z. cond (is_over e p) (jump passes e) (pos 0) +ℤ z) rest
+    by rest false up false down =
+        let none = nothing (is_over e p) (jump passes e) (λ i. pos (cond (down i) 1 0) -ℤ pos (cond (up i) 1 0)) in
+        omega (arith, lin)

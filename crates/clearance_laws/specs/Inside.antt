@@ -1,5 +1,5 @@
 -- How the edges of a region tell which points are in it.
-use Rattle.std.specs.Prelude.{◌↔◌, ℕ, Bool, IsTrue, List, Contains}
+use Rattle.std.specs.Prelude.{◌↔◌, ℕ, Bool, ◌||◌, true, false, IsTrue, List, filter, Contains}
 use Rattle.std.proofs.Common.{lit≤}
 use Rattle.cov_types.specs.declared.coord.Coord.{Coord}
 use Rattle.cov_types.specs.declared.seg.Seg.{Seg}
@@ -20,3 +20,7 @@ TellsSides edges r passes = (h : HalfEdge) → Contains edges h.edge → IsTrue 
 -- p is on no edge of the region
 abbrev pub IsOffOwn : List Seg → ℕ → Point → Type 0
 IsOffOwn edges r p = (e : Seg) → IsEdgeOf edges r e → IsOn e p → ⊥
+
+-- the edges with a side that passes the test
+abbrev pub edges_beside : (HalfEdge → Bool) → List Seg → List Seg
+edges_beside passes edges = filter (λ e. passes (record { edge = e; forwards = true }) || passes (record { edge = e; forwards = false })) edges

@@ -9,7 +9,7 @@ use Rattle.sector_laws.specs.Sector.{HalfEdge, AreDistinct, IsPlanar}
 use Rattle.region_laws.specs.Weights.{weigh_sides}
 use Rattle.region_owners.specs.Box.{IsEdgeOf}
 use Rattle.region_owners.specs.Gap.{HasRoom}
-use Rattle.clearance_laws.specs.Inside.{half_point, TellsSides, IsOffOwn}
+use Rattle.clearance_laws.specs.Inside.{half_point, edges_beside, TellsSides, IsOffOwn}
 use Rattle.clearance_laws.specs.Near.{IsNear}
 use Rattle.clearance_laws.specs.Quarter.{IsInSquare, centre, quarter}
 use Rattle.clearance_laws.specs.Room.{doubled, HasHalfRoom, reach}
@@ -53,6 +53,10 @@ StaysInsideLaw = (edges : List Seg) → IsPlanar edges → AreDistinct edges →
 abbrev pub InsideLaw : Type 0
 InsideLaw = (edges : List Seg) → IsPlanar edges → AreDistinct edges → (r : ℕ) → ¬ IsOuterRegion edges r → (passes : HalfEdge → Bool) → TellsSides edges r passes
     → (p : Point) → IsOffOwn edges r p → IsRegionOf edges p r ↔ (crossing_sum (weigh_sides passes edges) p ≡ pos 1)
+
+-- so the sum is one over the edges with the region on a side alone
+abbrev pub BesideSumLaw : Type 0
+BesideSumLaw = (passes : HalfEdge → Bool) (edges : List Seg) (p : Point) → crossing_sum (weigh_sides passes (edges_beside passes edges)) p ≡ crossing_sum (weigh_sides passes edges) p
 
 -- the four quarters of a square with 2·k grid points on a side cover it: each grid point of it is in one
 abbrev pub QuartersLaw : Type 0

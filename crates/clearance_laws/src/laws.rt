@@ -1,4 +1,4 @@
-ghost use Rattle.clearance_laws.specs.Laws.{DoubledLaw, ReachLaw, LipschitzLaw, RoomBoundLaw, HandingDownLaw, HalfPointLaw, OutsideRoomLaw, StaysInsideLaw, InsideLaw, QuartersLaw, InWholeLaw, NearCentreLaw};
+ghost use Rattle.clearance_laws.specs.Laws.{DoubledLaw, ReachLaw, LipschitzLaw, RoomBoundLaw, HandingDownLaw, HalfPointLaw, OutsideRoomLaw, StaysInsideLaw, InsideLaw, BesideSumLaw, QuartersLaw, InWholeLaw, NearCentreLaw};
 
 /// The room of a point of the half grid from an edge, by one whole number that code computes. A call does nothing.
 pub fn reach_law()
@@ -26,7 +26,8 @@ pub fn outside_room_law()
 
 /// Whether a point off a region's own edges is in it, by these alone. A call does nothing.
 pub fn inside_law()
-    ensures { InsideLaw }
+    ensures point { InsideLaw }
+    ensures edges { BesideSumLaw }
 {}
 
 /// The quarters of a square cover it, and its points are near its centre. A call does nothing.

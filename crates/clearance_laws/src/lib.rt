@@ -12,7 +12,7 @@
 //! - `Reach`: room from an edge by one whole number (`reach_is`), and the room of a grid point (`doubled_room`).
 //! - `Near`: within s of a point room changes by s at most (`room_near`, `room_bound`), so far edges are not needed (`handed_down`).
 //! - `Along`: from a point of an edge along it to its middle and its upper side. `Inside`: so what the region's own edges weigh over a
-//!   point off them tells whether it is in the region (`inside_is`).
+//!   point off them tells whether it is in the region (`inside_is`), and the other edges weigh nothing (`beside_sum`).
 //! - `Outside`: a way that meets none of the region's own edges stays in it, which bounds the room on both ends of one that leaves
 //!   it (`room_to_outside`, `stays_inside`).
 //! - `Quarters`: quarters cover a square (`covered`, `in_whole`), and its points are near its centre (`near_centre`).

@@ -1,0 +1,6 @@
+pub mod Reach
+pub mod Near
+pub mod Quarters
+pub mod Along
+pub mod Inside
+pub mod Outside

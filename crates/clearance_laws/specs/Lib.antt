@@ -1,0 +1,5 @@
+pub mod Room
+pub mod Near
+pub mod Quarter
+pub mod Inside
+pub mod Laws

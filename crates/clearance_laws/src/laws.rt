@@ -1,0 +1,38 @@
+ghost use Rattle.clearance_laws.specs.Laws.{DoubledLaw, ReachLaw, LipschitzLaw, RoomBoundLaw, HandingDownLaw, HalfPointLaw, OutsideRoomLaw, StaysInsideLaw, InsideLaw, BesideSumLaw, QuartersLaw, InWholeLaw, NearCentreLaw};
+
+/// The room of a point of the half grid from an edge, by one whole number that code computes. A call does nothing.
+pub fn reach_law()
+    ensures doubled { DoubledLaw }
+    ensures reach { ReachLaw }
+{}
+
+/// From a point to one within s of it, room changes by s at most. A call does nothing.
+pub fn lipschitz_law()
+    ensures near { LipschitzLaw }
+    ensures bound { RoomBoundLaw }
+{}
+
+/// An edge that is far beside another one is not needed near a point. A call does nothing.
+pub fn handing_down_law()
+    ensures { HandingDownLaw }
+{}
+
+/// A way from a point of a region to one that is not in it meets an edge of the region, which bounds the room of both. A call does nothing.
+pub fn outside_room_law()
+    ensures half { HalfPointLaw }
+    ensures outside { OutsideRoomLaw }
+    ensures inside { StaysInsideLaw }
+{}
+
+/// Whether a point off a region's own edges is in it, by these alone. A call does nothing.
+pub fn inside_law()
+    ensures point { InsideLaw }
+    ensures edges { BesideSumLaw }
+{}
+
+/// The quarters of a square cover it, and its points are near its centre. A call does nothing.
+pub fn quarters_law()
+    ensures cover { QuartersLaw }
+    ensures whole { InWholeLaw }
+    ensures near { NearCentreLaw }
+{}

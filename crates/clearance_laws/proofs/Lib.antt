@@ -1,4 +1,3 @@
-pub mod Reach
 pub mod Near
 pub mod Quarters
 pub mod Along

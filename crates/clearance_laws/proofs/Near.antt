@@ -9,7 +9,7 @@ use Rattle.integer_laws.proofs.Order.{le_mul, mul_le_mul, mul_lt_mul}
 use Rattle.integer_laws.proofs.Ring.{lin, by_ring, Var, Lit, ◌⊕◌, ◌⊖◌, ◌⊗◌, Neg}
 use Rattle.integer_laws.proofs.Sign.{nonneg_times_nonneg, square_nonneg}
 use Rattle.plane.specs.Point.{Point}
-use Rattle.clearance_laws.specs.Room.{half_distance, HasHalfRoom}
+use Rattle.distance_laws.specs.Room.{half_distance, HasHalfRoom}
 use Rattle.clearance_laws.specs.Near.{IsNear}
 
 -- ---- over plain variables: the vectors g and b

@@ -21,10 +21,10 @@ use Rattle.region_owners.proofs.NearestOwn.{fewer, fewer_is, sum_way}
 use Rattle.region_laws.proofs.Exists.{regions_exist}
 use Rattle.clearance_laws.specs.Inside.{half_point, TellsSides, IsOffOwn}
 use Rattle.clearance_laws.specs.Near.{IsNear}
-use Rattle.clearance_laws.specs.Room.{doubled, half_distance, HasHalfRoom}
+use Rattle.distance_laws.specs.Room.{doubled, half_distance, HasHalfRoom}
 use Rattle.clearance_laws.proofs.Inside.{side_test, sum_inside, own_of, inside_is}
 use Rattle.clearance_laws.proofs.Near.{le_or_more}
-use Rattle.clearance_laws.proofs.Reach.{squares_are}
+use Rattle.distance_laws.proofs.Reach.{squares_are}
 
 -- ---- over plain variables: r/d is the mean of a/2 and b/2 with the weights m and n
 

@@ -7,7 +7,7 @@ use Rattle.integer_laws.proofs.Compare.{lt_or_ge}
 use Rattle.integer_laws.proofs.Ring.{lin, by_ring, Var, Lit, ◌⊕◌, ◌⊖◌, ◌⊗◌}
 use Rattle.integer_laws.proofs.Sign.{nonneg_times_nonneg}
 use Rattle.clearance_laws.specs.Near.{IsNear}
-use Rattle.clearance_laws.specs.Room.{doubled}
+use Rattle.distance_laws.specs.Room.{doubled}
 use Rattle.clearance_laws.specs.Quarter.{IsInSquare, centre, quarter}
 
 twice : (x : ℤ) → pos 2 *ℤ x ≡ x +ℤ x

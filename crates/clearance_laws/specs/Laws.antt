@@ -8,19 +8,10 @@ use Rattle.crossing_laws.specs.Crossing.{crossing_sum}
 use Rattle.sector_laws.specs.Sector.{HalfEdge, AreDistinct, IsPlanar}
 use Rattle.region_laws.specs.Weights.{weigh_sides}
 use Rattle.region_owners.specs.Box.{IsEdgeOf}
-use Rattle.region_owners.specs.Gap.{HasRoom}
 use Rattle.clearance_laws.specs.Inside.{half_point, edges_beside, TellsSides, IsOffOwn}
 use Rattle.clearance_laws.specs.Near.{IsNear}
 use Rattle.clearance_laws.specs.Quarter.{IsInSquare, centre, quarter}
-use Rattle.clearance_laws.specs.Room.{doubled, HasHalfRoom, reach}
-
--- the room of a grid point is that of its doubled coordinates
-abbrev pub DoubledLaw : Type 0
-DoubledLaw = (q : Coord) (w : ℕ) (e : Seg) → HasRoom q w e ↔ HasHalfRoom (doubled q) w e
-
--- a point of the half grid has room w from an edge where the square of w is not past its reach
-abbrev pub ReachLaw : Type 0
-ReachLaw = (c : Coord) (w : ℕ) (e : Seg) → HasHalfRoom c w e ↔ (w * w ≤ reach c e)
+use Rattle.distance_laws.specs.Room.{doubled, HasHalfRoom}
 
 -- where c has room r + s, each point within s of it has room r
 abbrev pub LipschitzLaw : Type 0

@@ -1,4 +1,3 @@
-pub mod Room
 pub mod Near
 pub mod Quarter
 pub mod Inside

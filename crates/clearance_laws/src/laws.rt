@@ -1,10 +1,4 @@
-ghost use Rattle.clearance_laws.specs.Laws.{DoubledLaw, ReachLaw, LipschitzLaw, RoomBoundLaw, HandingDownLaw, HalfPointLaw, OutsideRoomLaw, StaysInsideLaw, InsideLaw, BesideSumLaw, QuartersLaw, InWholeLaw, NearCentreLaw};
-
-/// The room of a point of the half grid from an edge, by one whole number that code computes. A call does nothing.
-pub fn reach_law()
-    ensures doubled { DoubledLaw }
-    ensures reach { ReachLaw }
-{}
+ghost use Rattle.clearance_laws.specs.Laws.{LipschitzLaw, RoomBoundLaw, HandingDownLaw, HalfPointLaw, OutsideRoomLaw, StaysInsideLaw, InsideLaw, BesideSumLaw, QuartersLaw, InWholeLaw, NearCentreLaw};
 
 /// From a point to one within s of it, room changes by s at most. A call does nothing.
 pub fn lipschitz_law()

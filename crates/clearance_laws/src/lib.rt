@@ -4,12 +4,11 @@
 //! order of the squares, a heap or a root. A point of the search is on the half grid: a `Coord` c in doubled coordinates stands
 //! for c/2. The laws are the public functions.
 //!
-//! The files of `specs/`: `Room`, room on the half grid and the whole number that code computes for it; `Near`, points within s of
-//! one another; `Quarter`, squares of grid points, their centres and quarters; `Inside`, the test on the sides of a region's edges; `Laws`.
+//! The files of `specs/`: `Near`, points within s of one another; `Quarter`, squares of grid points, their centres and quarters;
+//! `Inside`, the test on the sides of a region's edges; `Laws`.
 //!
 //! A crate above takes a lemma by `use Rattle.clearance_laws.proofs.FILE.{NAME}` in its `proofs/`. The files:
 //!
-//! - `Reach`: room from an edge by one whole number (`reach_is`), and the room of a grid point (`doubled_room`).
 //! - `Near`: within s of a point room changes by s at most (`room_near`, `room_bound`), so far edges are not needed (`handed_down`).
 //! - `Along`: from a point of an edge along it to its middle and its upper side. `Inside`: so what the region's own edges weigh over a
 //!   point off them tells whether it is in the region (`inside_is`), and the other edges weigh nothing (`beside_sum`).
@@ -20,6 +19,4 @@
 
 mod laws;
 
-pub use laws::{
-    handing_down_law, inside_law, lipschitz_law, outside_room_law, quarters_law, reach_law,
-};
+pub use laws::{handing_down_law, inside_law, lipschitz_law, outside_room_law, quarters_law};

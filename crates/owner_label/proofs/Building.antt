@@ -13,7 +13,7 @@ use Rattle.crossing_laws.proofs.Located.{one_region}
 use Rattle.sector_laws.specs.Sector.{IsPlanar, AreDistinct}
 use Rattle.arrangement.specs.declared.odd_use.OddUse.{OddUse}
 use Rattle.arrangement.specs.Noding.{odd_uses}
-use Rattle.owner_label.specs.Grouped.{IsGrouped}
+use Rattle.counting_sort.specs.Grouped.{IsGrouped}
 use Rattle.owner_label.specs.Labelled.{Labelled}
 use Rattle.owner_label.specs.Lists.{AreRegionLabels, sided_of, AreLabels}
 use Rattle.owner_label.specs.Members.{has, members_of}

@@ -1,6 +1,5 @@
 pub mod Ascending
 pub mod Merging
-pub mod Grouping
 pub mod Tables
 pub mod Sides
 pub mod Toggles

@@ -13,7 +13,7 @@ use Rattle.cov_types.specs.declared.seg.Seg.{Seg}
 use Rattle.plane.specs.Point.{Point}
 use Rattle.plane.specs.Region.{IsSide, IsRegionOf}
 use Rattle.plane.specs.Label.{numbers_below}
-use Rattle.owner_label.specs.Grouped.{places_of, IsGrouped}
+use Rattle.counting_sort.specs.Grouped.{places_of, IsGrouped}
 use Rattle.owner_label.specs.Sided.{Sided, region_on}
 use Rattle.owner_label.proofs.Ascending.{chosen_contains}
 

@@ -21,7 +21,7 @@ use Rattle.arrangement.specs.Noding.{odd_uses}
 use Rattle.arrangement.specs.Overlay.{Overlay, IsRegion, label_of, AreBeside}
 use Rattle.arrangement.proofs.Numberings.{upper_side, lower_side}
 use Rattle.owner_label.specs.Labelled.{Labelled, IsOverlay}
-use Rattle.owner_label.specs.Grouped.{places_of, IsGrouped}
+use Rattle.counting_sort.specs.Grouped.{places_of, IsGrouped}
 use Rattle.owner_label.specs.Lists.{AreRegionLabels}
 use Rattle.owner_label.specs.Members.{has, differs}
 use Rattle.owner_label.specs.Sided.{Sided, AreSided, region_on, odd_uses_of, IsLabelAt}

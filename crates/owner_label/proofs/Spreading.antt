@@ -17,7 +17,7 @@ use Rattle.region_laws.specs.Crossed.{IsCrossed}
 use Rattle.region_laws.proofs.Outwards.{crossed_same}
 use Rattle.region_laws.proofs.Numbered.{index, index_is, side_half_edge}
 use Rattle.owner_label.specs.declared.spread.Spread.{Spread}
-use Rattle.owner_label.specs.Grouped.{places_of, IsGrouped}
+use Rattle.counting_sort.specs.Grouped.{places_of, IsGrouped}
 use Rattle.owner_label.specs.Lists.{AreRegionLabels}
 use Rattle.owner_label.specs.Members.{IsFrom, IsToggled, IsToggledFrom, members_at, pair_edges}
 use Rattle.half_edge.specs.Side.{across}

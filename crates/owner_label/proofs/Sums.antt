@@ -15,7 +15,7 @@ use Rattle.arrangement.specs.Overlay.{Overlay, region_at, label_of}
 use Rattle.half_edge.specs.Side.{across}
 use Rattle.owner_label.specs.Labelled.{Labelled, IsOverlay}
 use Rattle.owner_label.specs.Lists.{sided_of}
-use Rattle.owner_label.specs.Grouped.{places_of}
+use Rattle.counting_sort.specs.Grouped.{places_of}
 use Rattle.owner_label.specs.Sided.{AreSided}
 use Rattle.owner_label.specs.Sides.{side_trapezoid, side_area, length_of, side_length}
 use Rattle.owner_label.proofs.Overlays.{labels_apart}

@@ -1,5 +1,4 @@
 pub mod Members
-pub mod Grouped
 pub mod Spans
 pub mod Sided
 pub mod Labelled

@@ -1,7 +1,7 @@
 -- For each region its sides and its label.
 use Rattle.std.specs.Prelude.{◌≡◌, ℕ, ◌<◌, List, length, Some, slice_get}
 use Rattle.cov_types.specs.declared.seg.Seg.{Seg}
-use Rattle.owner_label.specs.Grouped.{IsGrouped}
+use Rattle.counting_sort.specs.Grouped.{IsGrouped}
 use Rattle.owner_label.specs.Labelled.{Labelled}
 use Rattle.owner_label.specs.Sided.{Sided, AreSided, region_on, IsRegionLabel}
 

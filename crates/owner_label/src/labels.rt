@@ -12,12 +12,12 @@ ghost use Rattle.arrangement.specs.Overlay.{Overlay, IsRegion, label_of, region_
 ghost use Rattle.owner_label.specs.Labelled.{IsOverlay, owner_in};
 ghost use Rattle.owner_label.specs.Sides.{pair_gain, side_length, is_single, is_owned};
 
-use crate::grouped::Grouped;
 use crate::label_table::LabelTable;
 use crate::measure::{area_of_side, length_of_side, odd_of, trapezoid_of};
 use crate::sided::SidedEdges;
 use crate::spread::labels_of_regions;
 use arrangement::OddUse;
+use counting_sort::Grouped;
 use cov_types::{NoMemory, Seg};
 use face_walk::Regions;
 use half_edge::{Arena, Side};

@@ -9,7 +9,6 @@
 //! `Regions::region_of` answers is one.
 #![tactic(auto)]
 
-mod grouped;
 mod label_table;
 mod labels;
 mod laws;

@@ -1,13 +1,13 @@
 ghost use Rattle.std.specs.Prelude.{◌≡◌, ℕ, ◌*◌, ◌<◌, ◌∷◌, [], false, length, replicate, All, IfOk, OnOk, slice_index_or};
-ghost use Rattle.owner_label.specs.Grouped.{IsGrouped};
+ghost use Rattle.counting_sort.specs.Grouped.{IsGrouped};
 ghost use Rattle.owner_label.specs.Lists.{AreRegionLabels};
 ghost use Rattle.owner_label.specs.Members.{pair_edges};
 ghost use Rattle.owner_label.specs.Sided.{Sided, region_on, IsRegionLabel, IsOuterOf};
 
-use crate::grouped::Grouped;
 use crate::label_table::LabelTable;
 use crate::sided::SidedEdges;
 use arrangement::OddUse;
+use counting_sort::Grouped;
 use cov_types::NoMemory;
 use half_edge::Side;
 use std::alloc::Global;

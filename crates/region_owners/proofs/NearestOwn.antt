@@ -30,7 +30,8 @@ use Rattle.region_laws.specs.Weights.{weigh_sides}
 use Rattle.region_laws.proofs.Balance.{balanced_sides}
 use Rattle.region_laws.proofs.Exists.{regions_exist}
 use Rattle.region_owners.specs.Box.{IsEdgeOf}
-use Rattle.region_owners.specs.Gap.{squared_distance, HasRoom, HasRoomWithin}
+use Rattle.distance_laws.specs.Room.{squared_distance, HasRoom}
+use Rattle.region_owners.specs.Gap.{HasRoomWithin}
 use Rattle.region_owners.specs.Laws.{HasOwnRoomWithin}
 use Rattle.region_owners.proofs.OwnEdges.{jump, weighed_edges, one_passes, passes, passes_own, IsSideTest, of_range, passes_next, sum_at, own_sum, region_test, sum_within, in_range}
 use Rattle.region_owners.proofs.RegionBox.{in_box}

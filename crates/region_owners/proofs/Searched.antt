@@ -18,7 +18,8 @@ use Rattle.plane.proofs.Points.{first_between, second_between}
 use Rattle.sector_laws.specs.Sector.{AreDistinct, IsPlanar}
 use Rattle.sector_laws.proofs.Angles.{true_or_false}
 use Rattle.region_owners.specs.Box.{IsCornerOf}
-use Rattle.region_owners.specs.Gap.{squared_distance, HasRoomWithin, IsClearance}
+use Rattle.distance_laws.specs.Room.{squared_distance}
+use Rattle.region_owners.specs.Gap.{HasRoomWithin, IsClearance}
 use Rattle.region_owners.specs.Laws.{IsWithRoom}
 use Rattle.region_owners.proofs.RegionBox.{in_box}
 

@@ -21,7 +21,8 @@ use Rattle.plane.proofs.Sides.{side_zero-on}
 use Rattle.arrangement.specs.Square.{square_edges}
 use Rattle.arrangement.proofs.Squares.{corner, west_joined, south_joined, east_joined, north_joined, IsInside}
 use Rattle.arrangement.proofs.SquareRegions.{inside_is, not_outside}
-use Rattle.region_owners.specs.Gap.{squared_distance, HasRoom, HasRoomWithin, IsClearance}
+use Rattle.distance_laws.specs.Room.{squared_distance, HasRoom}
+use Rattle.region_owners.specs.Gap.{HasRoomWithin, IsClearance}
 
 -- ---- room in the middle
 

@@ -8,7 +8,7 @@ use Rattle.integer_laws.proofs.Order.{mul_le, cancel_le, mul_le_mul}
 use Rattle.integer_laws.proofs.Ring.{lin, by_ring, by_one, by_two, Var, Lit, ◌⊕◌, ◌⊖◌, ◌⊗◌, Neg, zero_mul}
 use Rattle.integer_laws.proofs.Sign.{nonneg_times_nonneg, positive_times_positive, nonpos_factor, square_nonneg}
 use Rattle.plane.specs.Point.{Point, at_coord, IsBetween}
-use Rattle.region_owners.specs.Gap.{squared_distance}
+use Rattle.distance_laws.specs.Room.{squared_distance}
 
 -- ---- over plain variables: (sx, sd) is the mean of (qx, 1) and (cx, cd) with the weights m and n, whose sum is k
 

@@ -1,10 +1,10 @@
--- Gaps, and how narrow they are: the room of a grid point, and the clearance of a region.
-use Rattle.std.specs.Prelude.{◌≡◌, ℕ, ◌*◌, ◌≤◌, List, [], Contains, ℤ, pos, ◌+ℤ◌, ◌-ℤ◌, ◌*ℤ◌, ◌≤ℤ◌}
+-- Gaps, and how narrow they are: the clearance of a region.
+use Rattle.std.specs.Prelude.{◌≡◌, ℕ, ◌≤◌, List, [], Contains}
 use Rattle.cov_types.specs.declared.coord.Coord.{Coord}
 use Rattle.cov_types.specs.declared.seg.Seg.{Seg}
-use Rattle.plane.specs.Point.{Point, at_coord}
+use Rattle.distance_laws.specs.Room.{HasRoom}
+use Rattle.plane.specs.Point.{at_coord}
 use Rattle.plane.specs.Region.{IsOuterRegion, IsRegionOf}
-use Rattle.plane.specs.Segment.{IsOn}
 use Rattle.arrangement.specs.Overlay.{Overlay, IsRegion, label_of}
 
 -- a gap: a region that is not outer and that no member holds
@@ -12,17 +12,6 @@ pub record IsGap (o : Overlay) (r : ℕ) : Type 0 where
   pub region : IsRegion o.edges r
   pub not_outer : ¬ IsOuterRegion o.edges r
   pub empty : label_of o r ≡ []
-
--- the squared distance of a grid point and a point, times the square of the point's denominator
-unfoldable pub squared_distance : Coord → Point → ℤ
-squared_distance q r =
-    let dx = (q.x *ℤ pos r.d) -ℤ r.x in
-    let dy = (q.y *ℤ pos r.d) -ℤ r.y in
-    (dx *ℤ dx) +ℤ (dy *ℤ dy)
-
--- a grid point has room w from an edge: twice its distance to each point of the edge is w or more
-abbrev pub HasRoom : Coord → ℕ → Seg → Type 0
-HasRoom q w e = (r : Point) → IsOn e r → (pos (w * w) *ℤ pos (r.d * r.d)) ≤ℤ (pos 4 *ℤ squared_distance q r)
 
 -- some grid point of the region has room w from every edge
 pub record HasRoomWithin (edges : List Seg) (r w : ℕ) : Type 0 where

@@ -13,7 +13,8 @@ use Rattle.arrangement.specs.Measure.{owned_border}
 use Rattle.arrangement.specs.Overlay.{Overlay, IsRegion, label_of}
 use Rattle.region_owners.specs.declared.candidate.Candidate.{Candidate}
 use Rattle.region_owners.specs.Box.{IsEdgeOf, IsInBoxOf}
-use Rattle.region_owners.specs.Gap.{IsGap, HasRoom, HasRoomWithin, IsClearance, IsNarrow}
+use Rattle.distance_laws.specs.Room.{HasRoom}
+use Rattle.region_owners.specs.Gap.{IsGap, HasRoomWithin, IsClearance, IsNarrow}
 use Rattle.region_owners.specs.Owner.{Rule, rule_by, IsLawful, least_index, greatest_area, least_area, longest_border, label_owner, neighbour_of, IsNarrowGap, IsOwner, AreOwners}
 use Rattle.region_owners.specs.Candidates.{candidates_of}
 

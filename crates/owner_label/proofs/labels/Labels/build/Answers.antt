@@ -1,5 +1,5 @@
 use Rattle.std.proofs.Common.{◌≡◌, ◌*◌, sym, subst, ◌∙◌, length, arith}
-use Rattle.owner_label.specs.Grouped.{IsGrouped}
+use Rattle.counting_sort.specs.Grouped.{IsGrouped}
 use Rattle.owner_label.proofs.Building.{outer_from, built_labels}
 use Rattle.owner_label.proofs.Spreading.{regions_below}
 use Rattle.owner_label.proofs.labels.Labels.build.Goals as goal

@@ -1,7 +1,7 @@
 use Rattle.std.proofs.Common.{refl, ap, sym, ◌∙◌, arith}
 use Rattle.std.proofs.lemmas.List.{get_or_read}
 use Rattle.std.proofs.lemmas.Result.{on_ok_weaker}
-use Rattle.owner_label.specs.Grouped.{places_of}
+use Rattle.counting_sort.specs.Grouped.{places_of}
 use Rattle.owner_label.specs.Members.{pair_edges}
 use Rattle.owner_label.specs.Sided.{region_on}
 use Rattle.owner_label.proofs.Spreading.{label_ascends, pairs_ready, reach_over, crossed_one}

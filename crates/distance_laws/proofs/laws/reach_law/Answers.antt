@@ -1,5 +1,5 @@
-use Rattle.clearance_laws.proofs.Reach.{doubled_room, reach_is}
-use Rattle.clearance_laws.proofs.laws.reach_law.Goals as goal
+use Rattle.distance_laws.proofs.Reach.{doubled_room, reach_is}
+use Rattle.distance_laws.proofs.laws.reach_law.Goals as goal
 
 pub returns-clause-doubled : goal.returns-clause-doubled
 returns-clause-doubled c = doubled_room

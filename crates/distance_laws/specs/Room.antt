@@ -1,9 +1,20 @@
--- The room of points of the half grid, as code computes it.
+-- The room of grid points from edges, and of points of the half grid as code computes it.
 use Rattle.std.specs.Prelude.{ℕ, ◌*◌, ◌/◌, cond, ℤ, pos, ◌+ℤ◌, ◌-ℤ◌, ◌*ℤ◌, ◌≤ℤ◌, int_le, unsigned_abs}
 use Rattle.cov_types.specs.declared.coord.Coord.{Coord}
 use Rattle.cov_types.specs.declared.seg.Seg.{Seg}
 use Rattle.plane.specs.Point.{Point}
 use Rattle.plane.specs.Segment.{IsOn}
+
+-- the squared distance of a grid point and a point, times the square of the point's denominator
+unfoldable pub squared_distance : Coord → Point → ℤ
+squared_distance q r =
+    let dx = (q.x *ℤ pos r.d) -ℤ r.x in
+    let dy = (q.y *ℤ pos r.d) -ℤ r.y in
+    (dx *ℤ dx) +ℤ (dy *ℤ dy)
+
+-- a grid point has room w from an edge: twice its distance to each point of the edge is w or more
+abbrev pub HasRoom : Coord → ℕ → Seg → Type 0
+HasRoom q w e = (r : Point) → IsOn e r → (pos (w * w) *ℤ pos (r.d * r.d)) ≤ℤ (pos 4 *ℤ squared_distance q r)
 
 -- a grid point in doubled coordinates
 abbrev pub doubled : Coord → Coord

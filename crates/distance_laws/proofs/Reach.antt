@@ -12,8 +12,8 @@ use Rattle.integer_laws.proofs.Sign.{nonneg_times_nonneg, positive_times_positiv
 use Rattle.plane.specs.Point.{Point, at_coord}
 use Rattle.plane.specs.Segment.{IsOn}
 use Rattle.plane.proofs.Points.{first_between, second_between, between_by}
-use Rattle.region_owners.specs.Gap.{squared_distance, HasRoom}
-use Rattle.clearance_laws.specs.Room.{doubled, half_distance, HasHalfRoom, squared_to, squared_length, foot, half_side, reach}
+use Rattle.distance_laws.specs.Room.{squared_distance, HasRoom}
+use Rattle.distance_laws.specs.Room.{doubled, half_distance, HasHalfRoom, squared_to, squared_length, foot, half_side, reach}
 
 -- ---- over plain variables: v leads from lo to the point and u from lo to hi, and m and n are weights of the ends
 

@@ -4,11 +4,9 @@
 
 use cov_io::{Disk, slurp, spill};
 use cov_write::text_of;
-use geo_text::read_text;
+use geo_text::{LONGEST_INPUT, read_text};
 use std::process::ExitCode;
 use std::{env, io};
-
-const LONGEST_INPUT: usize = 67_108_864;
 
 // The words after the program's name.
 fn words(rt: &HostRuntime) -> io::Result<Vec<String>> {

@@ -2,13 +2,13 @@ use crate::{BEFORE, shelf_of};
 use cov_io::{Call, Fail, Shelf};
 use cov_valid::{Kind, Mark};
 use cover_cli::{Outcome, cover, message, status};
-use geo_text::TextFault;
+use geo_text::{LONGEST_INPUT, TextFault};
 use std::alloc::{AllocError, Global};
 use std::process::Abort;
 use std::test;
 
 // The room of a file, and the most bytes that one call reads or writes.
-const ROOM: usize = 67_108_864;
+const ROOM: usize = LONGEST_INPUT;
 
 // A square, and a triangle whose tip touches the middle of the square's side.
 const TOUCH: &str =

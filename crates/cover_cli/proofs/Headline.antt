@@ -16,7 +16,8 @@ use Rattle.cover_cli.proofs.Inputs.{same_inputs}
 use Rattle.cover_cli.specs.Answers.{is_success, HoldsNoCause, HoldsText, IsSuccessUnlessFault, IsAnswer}
 use Rattle.cover_cli.specs.Clean.{rule_of, IsCleaning}
 use Rattle.cover_cli.specs.Headline.{IsCleanText, HoldsCleanText, IsFileFault}
-use Rattle.cover_cli.specs.Input.{longest_input, AreInputs}
+use Rattle.cover_cli.specs.Input.{AreInputs}
+use Rattle.geo_text.specs.declared.reader.TheConstants.{LONGEST_INPUT}
 use Rattle.cover_cli.specs.Made.{Makes}
 use Rattle.cover_cli.specs.Text.{IsReadAnd, RefusesText}
 use Rattle.cover_cli.specs.Words.{Clean}
@@ -49,7 +50,7 @@ clean_text rule members outcome text formed cleaning = record {
 }
 
 module _ (rule : RuleName) (from to input : List ℕ) (members : Members) (old new : State) (answer : Outcome) (told : IsTrue old.tells_files)
-    (file : old.files from ≡ Some input) (within : length input ≤ longest_input) (reads : Reads input members) (faultless : HasNoFault input)
+    (file : old.files from ≡ Some input) (within : length input ≤ LONGEST_INPUT) (reads : Reads input members) (faultless : HasNoFault input)
     (a : IsAnswer (Clean rule from to) old new answer) where
   formed : IsFormed members
   formed = read_formed input members within reads faultless

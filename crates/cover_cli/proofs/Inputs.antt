@@ -4,7 +4,8 @@ use Rattle.std.specs.Prelude.{Any}
 use Rattle.cov_io.specs.Calls.{IsPromised}
 use Rattle.cov_io.specs.Frame.{KeepsOutput}
 use Rattle.cov_io.specs.State.{State, IsTelling}
-use Rattle.cover_cli.specs.Input.{longest_input, Holds, HoldsTooMuch, AreInputs}
+use Rattle.cover_cli.specs.Input.{Holds, HoldsTooMuch, AreInputs}
+use Rattle.geo_text.specs.declared.reader.TheConstants.{LONGEST_INPUT}
 
 -- a file holds the same bytes always
 one_content : (b c : List ℕ) → Some b ≡ Some c → b ≡ c
@@ -25,8 +26,8 @@ same_inputs s (n ∷ ns) (i ∷ is) (o ∷ os) are more =
 not_too_long : (s : State) (name input : List ℕ) → Holds s name input → HoldsTooMuch s name → ⊥
 not_too_long s name input holds long =
     let same : long.bytes ≡ input = one_content long.bytes input (sym long.file ∙ holds.file) in
-    let longer : longest_input < length input = subst (λ (b : List ℕ). longest_input < length b) same long.longer in
-    let within : length input ≤ longest_input = holds.within in
+    let longer : LONGEST_INPUT < length input = subst (λ (b : List ℕ). LONGEST_INPUT < length b) same long.longer in
+    let within : length input ≤ LONGEST_INPUT = holds.within in
     omega arith
 
 pub none_too_long : (s : State) (names inputs : List (List ℕ)) → AreInputs s names inputs → Any (HoldsTooMuch s) names → ⊥

@@ -22,7 +22,8 @@ use Rattle.cover_cli.proofs.Causes.{one_refusal, not_both}
 use Rattle.cover_cli.proofs.Inputs.{same_inputs}
 use Rattle.cover_cli.specs.Answers.{MayWrite, HoldsCause}
 use Rattle.cover_cli.specs.Clean.{rule_of, IsCleaning}
-use Rattle.cover_cli.specs.Input.{longest_input, AreInputs}
+use Rattle.cover_cli.specs.Input.{AreInputs}
+use Rattle.geo_text.specs.declared.reader.TheConstants.{LONGEST_INPUT}
 use Rattle.cover_cli.specs.Lines.{member_lists, marked_uses}
 use Rattle.cover_cli.specs.Made.{IsOneAnd, Makes, Refuses}
 use Rattle.cover_cli.specs.Node.{IsNoding}
@@ -87,14 +88,14 @@ one_region_list members o p text other in_range v w =
 
 -- what follows for one coverage, follows for an input that is read as one
 of_reading : (P Q : List (List (List (List Coord))) → Type 0) (C : Type 0) → ((members : List (List (List (List Coord)))) → AllInRange members → P members → Q members → C)
-    → (input : List ℕ) → length input ≤ longest_input → IsReadAnd input P → IsReadAnd input Q → C
+    → (input : List ℕ) → length input ≤ LONGEST_INPUT → IsReadAnd input P → IsReadAnd input Q → C
 of_reading P Q C follows input within first second =
     let same : first.members ≡ second.members = one_reading input first.members second.members first.reads second.reads in
     let formed = read_formed input second.members within second.reads second.faultless in
     follows second.members formed.in_range (subst P same first.holds) second.holds
 
 -- what follows for one input, follows for the inputs where there is one
-of_inputs : (s : State) (names inputs : List (List ℕ)) (P Q : List ℕ → Type 0) (C : Type 0) → ((input : List ℕ) → length input ≤ longest_input → P input → Q input → C)
+of_inputs : (s : State) (names inputs : List (List ℕ)) (P Q : List ℕ → Type 0) (C : Type 0) → ((input : List ℕ) → length input ≤ LONGEST_INPUT → P input → Q input → C)
     → AreInputs s names inputs → IsOneAnd inputs P → IsOneAnd inputs Q → C
 of_inputs s names [] P Q C follows are first second = absurd first
 of_inputs s [] (input ∷ []) P Q C follows are first second = absurd are

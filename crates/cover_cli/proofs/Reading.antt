@@ -11,7 +11,8 @@ use Rattle.cov_io.specs.Slurp.{IsTooLong, CountsReadFault}
 use Rattle.cov_io.specs.State.{State, IsTelling}
 use Rattle.cov_io.specs.declared.input.SlurpError.{SlurpError}
 use Rattle.cov_io.specs.declared.input.SlurpError.TheVariants.{ReadFault, TooLong, NoMemory}
-use Rattle.cover_cli.specs.Input.{longest_input, Holds, AreInputs}
+use Rattle.cover_cli.specs.Input.{Holds, AreInputs}
+use Rattle.geo_text.specs.declared.reader.TheConstants.{LONGEST_INPUT}
 use Rattle.cover_cli.specs.Refusal.{outcome_of_slurp, IsUnread}
 use Rattle.cover_cli.specs.declared.outcome.Outcome.TheVariants as outcomes
 use Rattle.cover_cli.proofs.Inputs.{promised_after}
@@ -24,7 +25,7 @@ pub record AreRead (names inputs : List (List ℕ)) (old now : State) : Type 0 w
 
 -- one file more was read
 read_one : (names inputs : List (List ℕ)) (name input : List ℕ) (old now next : State) → AreRead names inputs old now
-    → (IsTrue now.tells_files → now.files name ≡ Some input) → length input ≤ longest_input → next.read_faults ≡ now.read_faults → KeepsOutput now next
+    → (IsTrue now.tells_files → now.files name ≡ Some input) → length input ≤ LONGEST_INPUT → next.read_faults ≡ now.read_faults → KeepsOutput now next
     → AreRead (names ++ name ∷ []) (inputs ++ input ∷ []) old next
 read_one names inputs name input old now next so_far all within counted kept = record {
   inputs_are = λ told. AllZip-push (Holds old) names inputs name input (so_far.inputs_are told) (record { file = sym (so_far.kept.files told name) ∙ all (so_far.kept.tells.files ∙ told); within = within });
@@ -34,14 +35,14 @@ read_one names inputs name input old now next so_far all within counted kept = r
 
 pub read_more : (names inputs more_names more_inputs : List (List ℕ)) (name input : List ℕ) (old now next : State) → AreRead names inputs old now
     → more_names ≡ names ++ name ∷ [] → more_inputs ≡ inputs ++ input ∷ []
-    → (IsTrue now.tells_files → now.files name ≡ Some input) → length input ≤ longest_input → next.read_faults ≡ now.read_faults → KeepsOutput now next
+    → (IsTrue now.tells_files → now.files name ≡ Some input) → length input ≤ LONGEST_INPUT → next.read_faults ≡ now.read_faults → KeepsOutput now next
     → AreRead more_names more_inputs old next
 read_more names inputs more_names more_inputs name input old now next so_far one_name one_input all within counted kept =
     rw (one_name, one_input) (read_one names inputs name input old now next so_far all within counted kept)
 
 -- the next file was not read
 pub next_unread : (e : SlurpError) (names read inputs : List (List ℕ)) (k : ℕ) (d name : List ℕ) (old now next : State) → AreRead read inputs old now → k < length names → get_or names k d ≡ name
-    → (e ≡ TooLong → IsTrue now.tells_files → IsTooLong name longest_input now next) → CountsReadFault {T = List ℕ} (Err e) now.read_faults next.read_faults
+    → (e ≡ TooLong → IsTrue now.tells_files → IsTooLong name LONGEST_INPUT now next) → CountsReadFault {T = List ℕ} (Err e) now.read_faults next.read_faults
     → IsUnread (outcome_of_slurp e) names old next
 next_unread ReadFault names read inputs k d name old now next so_far within at long counts = subst (λ (n : ℕ). Rose n next.read_faults) so_far.counted counts
 next_unread TooLong names read inputs k d name old now next so_far within at long counts = (

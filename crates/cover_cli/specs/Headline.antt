@@ -22,7 +22,7 @@ use Rattle.cover_cli.specs.declared.outcome.Outcome.TheVariants.{Done, ReadFault
 use Rattle.cover_cli.specs.declared.rule_name.RuleName.{RuleName}
 use Rattle.cover_cli.specs.Answers.{IsAnswer}
 use Rattle.cover_cli.specs.Clean.{rule_of}
-use Rattle.cover_cli.specs.Input.{longest_input}
+use Rattle.geo_text.specs.declared.reader.TheConstants.{LONGEST_INPUT}
 use Rattle.cover_cli.specs.Words.{Clean}
 
 -- the text is that of a valid coverage, the members cleaned by the rule: each point off the noded edges lies in the one snapped member that
@@ -49,5 +49,5 @@ IsFileFault answer = (answer ≡ ReadFault) ⊎ ((answer ≡ WriteFault) ⊎ (an
 -- for every file in the grammar and range clean is done and the output is a clean text, want of memory and faults of files aside
 abbrev pub HeadlineLaw : Type 0
 HeadlineLaw = (rule : RuleName) (from to input : List ℕ) (members : Members) (old new : State) (answer : Outcome) → IsTrue old.tells_files
-    → old.files from ≡ Some input → length input ≤ longest_input → Reads input members → HasNoFault input
+    → old.files from ≡ Some input → length input ≤ LONGEST_INPUT → Reads input members → HasNoFault input
     → IsAnswer (Clean rule from to) old new answer → ((answer ≡ Done) × HoldsCleanText rule members to old new) ⊎ IsFileFault answer

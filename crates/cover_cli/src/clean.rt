@@ -3,7 +3,7 @@ ghost use Rattle.cov_types.specs.Coverage.{AllInRange, IsFormed};
 ghost use Rattle.merge_rule.specs.RuleState.{no_state};
 ghost use Rattle.sound_polygons.specs.Cleaned.{IsCleaned};
 ghost use Rattle.cover_cli.specs.Clean.{rule_of, IsCleaning};
-ghost use Rattle.cover_cli.specs.Input.{longest_input};
+ghost use Rattle.geo_text.specs.declared.reader.TheConstants.{LONGEST_INPUT};
 ghost use Rattle.cover_cli.specs.Refusal.{IsRefusedFor};
 ghost use Rattle.cover_cli.specs.Text.{IsReadAnd, RefusesText};
 
@@ -46,7 +46,7 @@ fn cleaning(alloc: Global, c: &Coverage, rule: RuleName) -> Result<Made, NoMemor
 
 /// Cleans the coverage that the input is read as, by the rule of the name.
 pub fn make(alloc: Global, rule: RuleName, input: Vec<u8>) -> Result<Made, Outcome>
-    requires { length input.items ≤ longest_input }
+    requires { length input.items ≤ LONGEST_INPUT }
     ensures made { IfOk result (λ made.
         IsReadAnd input.items (λ members. IsCleaning rule members made.outcome made.text.items)) }
     ensures refused { IfErr result (IsRefusedFor (RefusesText input.items)) }

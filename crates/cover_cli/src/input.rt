@@ -1,14 +1,14 @@
 ghost use Rattle.std.specs.Prelude.{◌≡◌, ◌≢◌, ◌≤◌, List, length, map, All, IsTrue, IfOk, IfErr, OnOk, Err};
 ghost use Rattle.cov_io.specs.Calls.{IsPromised};
 ghost use Rattle.cov_io.specs.Frame.{KeepsOutput};
-ghost use Rattle.cover_cli.specs.Input.{AreInputs, longest_input};
+ghost use Rattle.cover_cli.specs.Input.{AreInputs};
+ghost use Rattle.geo_text.specs.declared.reader.TheConstants.{LONGEST_INPUT};
 ghost use Rattle.cover_cli.specs.Refusal.{IsUnread};
 
 use crate::outcome::Outcome;
 use cov_io::{Files, slurp};
+use geo_text::LONGEST_INPUT;
 use std::alloc::Global;
-
-const LONGEST_INPUT: usize = 67_108_864;
 
 /// Reads the files of these names whole, in their order. An error is the outcome that refuses them.
 pub fn read_inputs<F: Files>(
@@ -19,7 +19,7 @@ pub fn read_inputs<F: Files>(
     ensures read { IfOk result (λ inputs. IsTrue (F.state files.old).tells_files
         → AreInputs (F.state files.old) (map (λ n. n.now) names.now) (map (λ i. i.items) inputs.items)) }
     ensures count { IfOk result (λ inputs. length inputs.items ≡ length names.now) }
-    ensures within { IfOk result (λ inputs. All (λ i. length i.items ≤ longest_input) inputs.items) }
+    ensures within { IfOk result (λ inputs. All (λ i. length i.items ≤ LONGEST_INPUT) inputs.items) }
     ensures cause { IfErr result (λ o. IsUnread o (map (λ n. n.now) names.now) (F.state files.old) (F.state files.new)) }
     ensures counted { OnOk result ((F.state files.new).read_faults ≡ (F.state files.old).read_faults) }
     ensures kept { KeepsOutput (F.state files.old) (F.state files.new) }

@@ -1,7 +1,7 @@
 ghost use Rattle.std.specs.Prelude.{◌≡◌, ◌≤◌, ◌++◌, ℕ, List, length, IfOk, IfErr, OnOk};
 ghost use Rattle.arrangement.specs.Overlay.{Overlay, region_numbers, IsRegion};
 ghost use Rattle.cov_types.specs.Coverage.{AllInRange};
-ghost use Rattle.cover_cli.specs.Input.{longest_input};
+ghost use Rattle.geo_text.specs.declared.reader.TheConstants.{LONGEST_INPUT};
 ghost use Rattle.cover_cli.specs.Refusal.{IsRefusedFor};
 ghost use Rattle.cover_cli.specs.Regions.{IsRow, AreRows, IsRegionList};
 ghost use Rattle.cover_cli.specs.Text.{IsReadAnd, RefusesText};
@@ -82,7 +82,7 @@ fn region_list(alloc: Global, c: &Coverage) -> Result<Made, NoMemory>
 
 /// Lists the regions of the coverage that the input is read as.
 pub fn make(alloc: Global, input: Vec<u8>) -> Result<Made, Outcome>
-    requires { length input.items ≤ longest_input }
+    requires { length input.items ≤ LONGEST_INPUT }
     ensures made { IfOk result (λ made.
         IsReadAnd input.items (λ members. IsRegionList members made.outcome made.text.items)) }
     ensures refused { IfErr result (IsRefusedFor (RefusesText input.items)) }

@@ -1,6 +1,6 @@
 ghost use Rattle.std.specs.Prelude.{◌≤◌, length, IfOk, IfErr, OnOk};
 ghost use Rattle.cov_types.specs.Coverage.{IsFormed};
-ghost use Rattle.cover_cli.specs.Input.{longest_input};
+ghost use Rattle.geo_text.specs.declared.reader.TheConstants.{LONGEST_INPUT};
 ghost use Rattle.cover_cli.specs.Refusal.{IsRefusedFor};
 ghost use Rattle.cover_cli.specs.Text.{RefusesText};
 ghost use Rattle.geo_text.specs.Fault.{HasNoFault};
@@ -13,7 +13,7 @@ use std::alloc::Global;
 
 /// Reads an input as a coverage, and lets its bytes go. An error is the outcome that refuses it.
 pub fn coverage_of(alloc: Global, input: Vec<u8>) -> Result<Coverage, Outcome>
-    requires { length input.items ≤ longest_input }
+    requires { length input.items ≤ LONGEST_INPUT }
     ensures read { IfOk result (λ c. Reads input.items c) }
     ensures faultless { OnOk result (HasNoFault input.items) }
     ensures formed { IfOk result IsFormed }

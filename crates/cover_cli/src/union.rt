@@ -1,7 +1,7 @@
 ghost use Rattle.std.specs.Prelude.{◌≡◌, ◌≤◌, length, IfOk, IfErr};
 ghost use Rattle.cov_types.specs.Uses.{uses_of};
 ghost use Rattle.plane.specs.Validity.{IsValid};
-ghost use Rattle.cover_cli.specs.Input.{longest_input};
+ghost use Rattle.geo_text.specs.declared.reader.TheConstants.{LONGEST_INPUT};
 ghost use Rattle.cover_cli.specs.Refusal.{IsRefusedFor};
 ghost use Rattle.cover_cli.specs.Text.{IsReadAnd};
 ghost use Rattle.cover_cli.specs.Union.{IsUniting, RefusesUnion};
@@ -32,7 +32,7 @@ fn uniting(alloc: Global, v: &ValidCoverage) -> Result<Made, NoMemory>
 
 /// Unites the coverage that the input is read as, where it is valid.
 pub fn make(alloc: Global, input: Vec<u8>) -> Result<Made, Outcome>
-    requires { length input.items ≤ longest_input }
+    requires { length input.items ≤ LONGEST_INPUT }
     ensures made { IfOk result (λ made.
         IsReadAnd input.items (λ members. IsUniting members made.outcome made.text.items)) }
     ensures refused { IfErr result (IsRefusedFor (RefusesUnion input.items)) }

@@ -1,6 +1,6 @@
 ghost use Rattle.std.specs.Prelude.{◌≡◌, ◌≤◌, length, IfOk, IfErr};
 ghost use Rattle.cov_types.specs.Coverage.{AllInRange};
-ghost use Rattle.cover_cli.specs.Input.{longest_input};
+ghost use Rattle.geo_text.specs.declared.reader.TheConstants.{LONGEST_INPUT};
 ghost use Rattle.cover_cli.specs.Refusal.{IsRefusedFor};
 ghost use Rattle.cover_cli.specs.Text.{IsReadAnd, RefusesText};
 ghost use Rattle.cover_cli.specs.Validate.{marking, IsValidation};
@@ -41,7 +41,7 @@ fn validation(alloc: Global, c: &Coverage) -> Result<Made, NoMemory>
 
 /// Validates the coverage that the input is read as.
 pub fn make(alloc: Global, input: Vec<u8>) -> Result<Made, Outcome>
-    requires { length input.items ≤ longest_input }
+    requires { length input.items ≤ LONGEST_INPUT }
     ensures made { IfOk result (λ made.
         IsReadAnd input.items (λ members. IsValidation members made.outcome made.text.items)) }
     ensures refused { IfErr result (IsRefusedFor (RefusesText input.items)) }

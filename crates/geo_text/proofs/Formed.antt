@@ -12,6 +12,7 @@ use Rattle.geo_text.specs.Reading.{coordinate, positions, points, elements, bodi
 use Rattle.geo_text.specs.Fault.{position_numbers, ring_numbers, rings_of, rings, numbers, IsNumberFine, IsRingFine, HasNoFault}
 use Rattle.geo_text.specs.Machine.{Gives}
 use Rattle.geo_text.specs.declared.error.TextError.{TextError}
+use Rattle.geo_text.specs.declared.reader.TheConstants.{LONGEST_INPUT}
 use Rattle.geo_text.proofs.Options.{split_append}
 use Rattle.geo_text.proofs.Spelled.{begins}
 use Rattle.geo_text.proofs.OneReading.{one_reading}
@@ -112,7 +113,7 @@ file_long (g ∷ gs) = omega (arith, file_long gs, geometry_long g, length-appen
 
 -- ---- the coverage
 
-pub formed : (bytes : List ℕ) (gs : List Geometry) → length bytes ≤ 67108864 → IsClean bytes gs → IsFormed (coverage gs)
+pub formed : (bytes : List ℕ) (gs : List Geometry) → length bytes ≤ LONGEST_INPUT → IsClean bytes gs → IsFormed (coverage gs)
 formed bytes gs h w =
     let es = flat_map elements gs in
     let clean = rings_clean (rings gs) (recursion_from_All IsRingFine (rings gs) w.rings_fine) (recursion_from_All IsNumberFine (numbers gs) w.is_numeric.numeric) in
@@ -124,11 +125,11 @@ formed bytes gs h w =
       shapes = All-from_recursion IsMemberFormed (coverage gs) (map_members IsMemberFormed member_formed es clean);
     }
 
-pub result_formed : (bytes : List ℕ) (result : Result Members TextError) → length bytes ≤ 67108864 → Gives result (answer_to bytes) → IfOk result IsFormed
+pub result_formed : (bytes : List ℕ) (result : Result Members TextError) → length bytes ≤ LONGEST_INPUT → Gives result (answer_to bytes) → IfOk result IsFormed
 result_formed bytes (Ok c) h g = let read = ok_reads bytes c g in subst IsFormed (sym read.2) (formed bytes read.0 h read.1)
 result_formed bytes (Err e) h g = tt
 
 -- what a text without a fault is read as is formed
-pub read_formed : (bytes : List ℕ) (c : Members) → length bytes ≤ 67108864 → Reads bytes c → HasNoFault bytes → IsFormed c
+pub read_formed : (bytes : List ℕ) (c : Members) → length bytes ≤ LONGEST_INPUT → Reads bytes c → HasNoFault bytes → IsFormed c
 read_formed bytes c within reads faultless =
     ⊎_elim (λ w. subst IsFormed (one_reading bytes (coverage w.0) c (w.0, w.1.is_numeric.is_planar.is_file, refl) reads) (formed bytes w.0 within w.1)) (λ f. absurd (faultless f.0 f.1)) (clean_or_fault bytes)

@@ -17,4 +17,4 @@ mod reader;
 mod tests;
 
 pub use error::{TextError, TextFault};
-pub use reader::{one_answer, read_text};
+pub use reader::{LONGEST_INPUT, one_answer, read_text};

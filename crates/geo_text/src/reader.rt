@@ -6,6 +6,7 @@ ghost use Rattle.geo_text.specs.Fault.{IsFault, HasNoFault};
 ghost use Rattle.geo_text.specs.declared.error.TextFault.{TextFault};
 ghost use Rattle.geo_text.specs.Machine.{ending, beginning, read_byte, IsLexeme, answer, Gives, error_of, start};
 ghost use Rattle.geo_text.specs.declared.number.TheConstants.{CAP};
+ghost use Rattle.geo_text.specs.declared.reader.TheConstants.{LONGEST_INPUT};
 ghost use Rattle.geo_text.specs.declared.lexeme.Lexeme.TheVariants.{Blank};
 
 use crate::error::{Stop, TextError, TextFault};
@@ -15,6 +16,9 @@ use crate::number::Number;
 use crate::parser::Parser;
 use cov_types::Coverage;
 use std::alloc::Global;
+
+/// How many bytes an input may have.
+pub const LONGEST_INPUT: usize = 67_108_864;
 
 /// Ends a lexeme: the parser takes the token that it is.
 fn end(lexeme: Lexeme, parser: &mut Parser) -> Result<(), Stop>
@@ -101,7 +105,7 @@ fn stopped(stop: Stop, at: u64) -> TextError
 }
 
 fn read_all(alloc: Global, bytes: &[u8]) -> Result<Coverage, TextError>
-    requires { length bytes.now ≤ 67108864 }
+    requires { length bytes.now ≤ LONGEST_INPUT }
     ensures { Gives result (answer CAP 0 Blank start bytes.now) }
 {
     let mut parser = Parser::new(alloc);
@@ -122,7 +126,7 @@ fn read_all(alloc: Global, bytes: &[u8]) -> Result<Coverage, TextError>
 /// Reads a well-known text of polygons: each polygon, multipolygon and element of a collection is a member of the
 /// coverage, in order.
 pub fn read_text(alloc: Global, bytes: &[u8]) -> Result<Coverage, TextError>
-    requires { length bytes.now ≤ 67108864 }
+    requires { length bytes.now ≤ LONGEST_INPUT }
     ensures read { IfOk result (λ c. Reads bytes.now c) }
     ensures faultless { OnOk result (HasNoFault bytes.now) }
     ensures formed { IfOk result IsFormed }
@@ -139,5 +143,5 @@ pub fn one_answer()
     ensures either { (bytes : List ℕ)
         → ((c : List (List (List (List Coord)))) × Reads bytes c × HasNoFault bytes) ⊎ ((fault : TextFault) × IsFault bytes fault) }
     ensures formed { (bytes : List ℕ) (c : List (List (List (List Coord))))
-        → length bytes ≤ 67108864 → Reads bytes c → HasNoFault bytes → IsFormed c }
+        → length bytes ≤ LONGEST_INPUT → Reads bytes c → HasNoFault bytes → IsFormed c }
 {}

@@ -1,4 +1,4 @@
-use crate::{TextError, TextFault, read_text};
+use crate::{LONGEST_INPUT, TextError, TextFault, read_text};
 use cov_types::Coverage;
 use std::alloc::{AllocError, Global};
 use std::test::Fail;
@@ -24,7 +24,7 @@ fn shown(alloc: Global, coverage: &Coverage) -> Result<String, AllocError> {
 }
 
 fn answer(alloc: Global, text: &[u8]) -> Result<String, Fail> {
-    if text.len() > 67_108_864 {
+    if text.len() > LONGEST_INPUT {
         return Ok(String::from_str(alloc, "too long")?);
     }
     Ok(match read_text(alloc, text) {

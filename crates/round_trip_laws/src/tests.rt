@@ -1,6 +1,6 @@
 use cov_types::{Coord, Coverage, LIMIT, Member, Poly, Ring, formed, same_coverage};
 use cov_write::text_of;
-use geo_text::read_text;
+use geo_text::{LONGEST_INPUT, read_text};
 use std::alloc::{AllocError, Global};
 use std::test::Fail;
 
@@ -15,7 +15,7 @@ fn ring(alloc: Global, places: &[(i32, i32)]) -> Result<Ring, AllocError> {
 /// Whether the text of the coverage is read as an equal coverage.
 fn comes_back(alloc: Global, coverage: &Coverage) -> Result<bool, Fail> {
     let text = text_of(alloc, coverage)?;
-    if text.len() > 67_108_864 {
+    if text.len() > LONGEST_INPUT {
         return Ok(false);
     }
     let read = read_text(alloc, &text)?;

@@ -5,7 +5,7 @@ use Rattle.std.proofs.lemmas.List.Elements.{All-get_or, All-push}
 use Rattle.std.proofs.lemmas.Result.{err_from_is_err_and}
 use Rattle.cov_io.specs.Calls.{IsPromised}
 use Rattle.cover_cli.proofs.Reading.{read_more, next_unread, next_promised, names_more}
-use Rattle.cover_cli.specs.Input.{longest_input}
+use Rattle.geo_text.specs.declared.reader.TheConstants.{LONGEST_INPUT}
 use Rattle.cover_cli.proofs.input.read_inputs.Goals as goal
 
 pub returns-in_err-input-clause-cause : goal.returns-in_err-input-clause-cause
@@ -41,5 +41,5 @@ loop-name-preserved g c =
       read = read_more _ _ _ _ _ _ _ _ _ c.loop-name.invariant.read (names_more c.args.names.now k d c.loop-name-test.true) (ap (map items) pushed ∙ map-append items inputs (c.in_ok-input.input ∷ []))
           slurped.all slurped.within slurped.cause.counted slurped.kept;
       count = omega (arith, ap length pushed, length-append inputs (c.in_ok-input.input ∷ []), c.loop-name.invariant.count);
-      within = rw pushed (All-push (λ (i : Vec ℕ Global). length i.items ≤ longest_input) inputs c.in_ok-input.input c.loop-name.invariant.within slurped.within);
+      within = rw pushed (All-push (λ (i : Vec ℕ Global). length i.items ≤ LONGEST_INPUT) inputs c.in_ok-input.input c.loop-name.invariant.within slurped.within);
     }

@@ -1,5 +1,5 @@
 -- The rows of regions, as text.
-use Rattle.std.specs.Prelude.{ℕ, ℤ, List, [], ◌∷◌, ◌++◌, flat_map, codes}
+use Rattle.std.specs.Prelude.{ℕ, ℤ, List, [], ◌∷◌, ◌++◌, flat_map, codes, Option, Some, None}
 use Rattle.std.specs.Fmt.{decimal, signed_decimal}
 
 -- a row: a region's number, kind, label, doubled area and clearance, with one space between, and a line feed
@@ -22,6 +22,11 @@ abbrev pub label_text : List ℕ → List ℕ
 label_text [] = codes "-"
 label_text (m ∷ rest) = decimal m ++ flat_map (λ n. codes "," ++ decimal n) rest
 
+-- the clearance of a gap, or `-` where none is told
+abbrev pub clearance_text : Option ℕ → List ℕ
+clearance_text None = codes "-"
+clearance_text (Some w) = decimal w
+
 -- the row of a region that is not outer
-abbrev pub inner_row : ℕ → List ℕ → ℤ → List ℕ
-inner_row number label area2 = row_text number (kind_text label) (label_text label) (signed_decimal area2) (codes "-")
+abbrev pub inner_row : ℕ → List ℕ → ℤ → Option ℕ → List ℕ
+inner_row number label area2 clearance = row_text number (kind_text label) (label_text label) (signed_decimal area2) (clearance_text clearance)

@@ -1,6 +1,6 @@
 ghost use Rattle.std.specs.Prelude.{◌≡◌, ◌++◌, List, flat_map, codes, OnOk};
 ghost use Rattle.std.specs.Fmt.{decimal};
-ghost use Rattle.cov_write.specs.Rows.{kind_text, label_text, outer_row, inner_row};
+ghost use Rattle.cov_write.specs.Rows.{kind_text, label_text, clearance_text, outer_row, inner_row};
 
 use crate::written::append_number;
 use cov_types::NoMemory;
@@ -14,15 +14,16 @@ pub fn append_outer_row(out: &mut Vec<u8>, number: usize) -> Result<(), NoMemory
     Ok(())
 }
 
-/// Appends the row of a region that isn't outer, by its label and its doubled area. The label is the numbers of the
-/// members that hold its points. After an error some of the row may be there.
+/// Appends the row of a region that isn't outer, by its label, its doubled area and, of a gap, its clearance. The label is
+/// the numbers of the members that hold its points. After an error some of the row may be there.
 pub fn append_inner_row(
     out: &mut Vec<u8>,
     number: usize,
     label: &[u32],
     area2: i128,
+    clearance: Option<u32>,
 ) -> Result<(), NoMemory>
-    ensures { OnOk result (out.new.items ≡ out.old.items ++ inner_row number label.now area2) }
+    ensures { OnOk result (out.new.items ≡ out.old.items ++ inner_row number label.now area2 clearance) }
 {
     append_number(out, number)?;
     out.push(b' ')?;
@@ -31,7 +32,9 @@ pub fn append_inner_row(
     append_label(out, label)?;
     out.push(b' ')?;
     append_number(out, area2)?;
-    out.extend_from_slice(b" -\n")?;
+    out.push(b' ')?;
+    append_clearance(out, clearance)?;
+    out.push(b'\n')?;
     Ok(())
 }
 
@@ -60,4 +63,14 @@ fn append_label(out: &mut Vec<u8>, label: &[u32]) -> Result<(), NoMemory>
         append_number(out, *member)?;
     }
     Ok(())
+}
+
+// Appends the clearance, if there is one.
+fn append_clearance(out: &mut Vec<u8>, clearance: Option<u32>) -> Result<(), NoMemory>
+    ensures { OnOk result (out.new.items ≡ out.old.items ++ clearance_text clearance) }
+{
+    match clearance {
+        Some(clearance) => append_number(out, clearance),
+        None => Ok(out.push(b'-')?),
+    }
 }

@@ -103,12 +103,12 @@ fn several_segments_share_a_line(rt: HostRuntime) -> Result<(), Fail> {
 fn rows_of_regions_by_the_members_in_their_labels(rt: HostRuntime) -> Result<(), Fail> {
     let mut rows = Vec::new(rt.alloc());
     append_outer_row(&mut rows, 0)?;
-    append_inner_row(&mut rows, 1, &[4], 100)?;
-    append_inner_row(&mut rows, 7, &[], 72)?;
-    append_inner_row(&mut rows, 13, &[0, 2, 10], 576_460_752_303_423_488)?;
+    append_inner_row(&mut rows, 1, &[4], 100, None)?;
+    append_inner_row(&mut rows, 7, &[], 72, Some(12))?;
+    append_inner_row(&mut rows, 13, &[0, 2, 10], 576_460_752_303_423_488, None)?;
     let wanted = b"0 outer - - -\n\
         1 single 4 100 -\n\
-        7 gap - 72 -\n\
+        7 gap - 72 12\n\
         13 shared 0,2,10 576460752303423488 -\n";
     assert!(rt; same(&rows, wanted));
     Ok(())

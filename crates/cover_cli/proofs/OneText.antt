@@ -1,10 +1,11 @@
 -- An operation makes one text of its inputs.
-use Rattle.std.proofs.Common.{◌≡◌, ℕ, ◌≤◌, ◌∷◌, List, [], length, refl, sym, ap, subst, ◌∙◌, inl, inr}
+use Rattle.std.proofs.Common.{◌≡◌, ℕ, ◌≤◌, ◌∷◌, List, [], length, refl, sym, ap, subst, ◌∙◌, inl, inr, Option, Some, None}
 use Rattle.std.specs.List.{AllZip, concat}
 use Rattle.arrangement.proofs.OneNoding.{one_noding}
 use Rattle.arrangement.proofs.OneOverlay.{one_snapped_overlay}
+use Rattle.arrangement.specs.Measure.{region_area2}
 use Rattle.arrangement.specs.Noding.{odd_uses}
-use Rattle.arrangement.specs.Overlay.{Overlay, region_numbers}
+use Rattle.arrangement.specs.Overlay.{Overlay, region_numbers, label_of}
 use Rattle.arrangement.specs.declared.odd_use.OddUse.{OddUse}
 use Rattle.cov_io.specs.State.{State}
 use Rattle.cov_types.proofs.AllUses.{uses-in_range}
@@ -14,7 +15,9 @@ use Rattle.cov_types.specs.declared.coord.Coord.{Coord}
 use Rattle.cov_types.specs.declared.seg.Seg.{Seg}
 use Rattle.cov_valid.proofs.Unique.{AreMarks-unique}
 use Rattle.cov_valid.specs.declared.mark.Mark.{Mark}
+use Rattle.cov_write.specs.Rows.{inner_row}
 use Rattle.cov_write.specs.Written.{lines_text, coverage_text}
+use Rattle.region_owners.proofs.Clearances.{clearance_unique}
 use Rattle.sound_polygons.proofs.OneCleaned.{one_cleaned}
 use Rattle.geo_text.proofs.Formed.{read_formed}
 use Rattle.geo_text.proofs.OneReading.{one_reading}
@@ -27,7 +30,7 @@ use Rattle.geo_text.specs.declared.reader.TheConstants.{LONGEST_INPUT}
 use Rattle.cover_cli.specs.Lines.{member_lists, marked_uses}
 use Rattle.cover_cli.specs.Made.{IsOneAnd, Makes, Refuses}
 use Rattle.cover_cli.specs.Node.{IsNoding}
-use Rattle.cover_cli.specs.Regions.{IsRow, AreRows, IsRegionList}
+use Rattle.cover_cli.specs.Regions.{IsClearanceTold, IsRow, AreRows, IsRegionList}
 use Rattle.cover_cli.specs.Text.{IsReadAnd}
 use Rattle.cov_union.proofs.OneUnited.{one_united}
 use Rattle.cover_cli.specs.Union.{IsUniting}
@@ -61,12 +64,19 @@ one_uniting members o p text other in_range v w =
     let same : v.out ≡ w.out = one_united members in_range v.admitted v.out w.out v.united w.united in
     (v.done ∙ sym w.done, v.lines ∙ ap coverage_text same ∙ sym w.lines)
 
+-- a region has one clearance to tell
+one_told : (o : Overlay) (r : ℕ) (first second : Option ℕ) → IsClearanceTold o r first → IsClearanceTold o r second → first ≡ second
+one_told o r None None held held_too = refl
+one_told o r None (Some w) held gap = absurd (held gap.0)
+one_told o r (Some v) None gap held = absurd (held gap.0)
+one_told o r (Some v) (Some w) gap gap_too = ap Some (clearance_unique o.edges r v w gap.1 gap_too.1)
+
 -- a region has one row
 one_row : (o : Overlay) (r : ℕ) (line other : List ℕ) → IsRow o r line → IsRow o r other → line ≡ other
 one_row o r line other (inl (outer, is)) (inl (outer_too, is_too)) = is ∙ sym is_too
-one_row o r line other (inl (outer, is)) (inr (inner, is_too)) = absurd (inner outer)
-one_row o r line other (inr (inner, is)) (inl (outer, is_too)) = absurd (inner outer)
-one_row o r line other (inr (inner, is)) (inr (inner_too, is_too)) = is ∙ sym is_too
+one_row o r line other (inl (outer, is)) (inr inner) = absurd (inner.inner outer)
+one_row o r line other (inr inner) (inl (outer, is)) = absurd (inner.inner outer)
+one_row o r line other (inr v) (inr w) = v.row ∙ ap (inner_row r (label_of o r) (region_area2 o r)) (one_told o r v.clearance w.clearance v.told w.told) ∙ sym w.row
 
 one_rows : (o : Overlay) (regions : List ℕ) (lines others : List (List ℕ)) → AllZip (IsRow o) regions lines → AllZip (IsRow o) regions others → lines ≡ others
 one_rows o [] [] [] first second = refl

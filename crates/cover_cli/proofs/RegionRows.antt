@@ -17,7 +17,7 @@ use Rattle.arrangement.specs.Overlay.{Overlay, region_at, region_numbers, IsRegi
 use Rattle.arrangement.specs.Measure.{region_area2}
 use Rattle.owner_label.specs.Labelled.{Labelled, IsOverlay}
 use Rattle.snap_noder.proofs.Zip.{zip_push}
-use Rattle.cover_cli.specs.Regions.{IsRow, AreRows}
+use Rattle.cover_cli.specs.Regions.{IsClearanceTold, IsRow, AreRows}
 use Rattle.cov_write.specs.Rows.{outer_row, inner_row}
 
 -- ---- which regions there are
@@ -52,18 +52,20 @@ not_outer edges (Some k) r none region other is_region outer =
 pub outer_is_row : (o : Overlay) (r : ℕ) → IsOuterRegion o.edges r → IsRow o r (outer_row r)
 outer_is_row o r outer = inl (outer, refl)
 
-pub inner_is_row : (o : Overlay) (r : ℕ) (label : List ℕ) (area2 : ℤ) → ¬ IsOuterRegion o.edges r → label ≡ label_of o r → area2 ≡ region_area2 o r → IsRow o r (inner_row r label area2)
-inner_is_row o r label area2 inner l a = inr (inner, λ i. inner_row r (l i) (a i))
+pub inner_is_row : (o : Overlay) (r : ℕ) (label : List ℕ) (area2 : ℤ) (clearance : Option ℕ) → ¬ IsOuterRegion o.edges r → label ≡ label_of o r → area2 ≡ region_area2 o r → IsClearanceTold o r clearance
+    → IsRow o r (inner_row r label area2 clearance)
+inner_is_row o r label area2 clearance inner l a told = inr (record { inner = inner; clearance = clearance; told = told; row = λ i. inner_row r (l i) (a i) clearance })
 
--- the row of a region that is not outer was appended, and its label and area are those of each overlay
-pub inner_appended : {T E : Type 0} (r : Result T E) (l : Labelled) (edges : List Seg) (region : ℕ) (label : List ℕ) (area2 : ℤ) (before after : List ℕ) → l.edges ≡ edges → ¬ IsOuterRegion edges region
-    → ((o : Overlay) → IsOverlay l o → label ≡ label_of o region) → ((o : Overlay) → IsOverlay l o → area2 ≡ region_area2 o region) → OnOk r (after ≡ before ++ inner_row region label area2)
+-- the row of a region that is not outer was appended, and its label, its area and its clearance are those of each overlay
+pub inner_appended : {T E : Type 0} (r : Result T E) (l : Labelled) (edges : List Seg) (region : ℕ) (label : List ℕ) (area2 : ℤ) (clearance : Option ℕ) (before after : List ℕ) → l.edges ≡ edges
+    → ¬ IsOuterRegion edges region → ((o : Overlay) → IsOverlay l o → label ≡ label_of o region) → ((o : Overlay) → IsOverlay l o → area2 ≡ region_area2 o region)
+    → ((o : Overlay) → IsOverlay l o → IsClearanceTold o region clearance) → OnOk r (after ≡ before ++ inner_row region label area2 clearance)
     → OnOk r ((o : Overlay) → IsOverlay l o → (line : List ℕ) × (IsRow o region line × (after ≡ before ++ line)))
-inner_appended r l edges region label area2 before after same inner labels areas appended =
+inner_appended r l edges region label area2 clearance before after same inner labels areas told appended =
     on_ok_weaker r
-    (λ (is : after ≡ before ++ inner_row region label area2) (o : Overlay) (is_overlay : IsOverlay l o). (
-      inner_row region label area2,
-      (inner_is_row o region label area2 (λ outer. inner (subst (λ (es : List Seg). IsOuterRegion es region) (is_overlay.edges ∙ same) outer)) (labels o is_overlay) (areas o is_overlay), is),
+    (λ (is : after ≡ before ++ inner_row region label area2 clearance) (o : Overlay) (is_overlay : IsOverlay l o). (
+      inner_row region label area2 clearance,
+      (inner_is_row o region label area2 clearance (λ outer. inner (subst (λ (es : List Seg). IsOuterRegion es region) (is_overlay.edges ∙ same) outer)) (labels o is_overlay) (areas o is_overlay) (told o is_overlay), is),
     )) appended
 
 -- ---- the regions below a number

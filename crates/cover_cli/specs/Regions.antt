@@ -1,5 +1,5 @@
 -- What listing the regions of a coverage answers and writes.
-use Rattle.std.specs.Prelude.{◌≡◌, ◌⊎◌, ℕ, List, length}
+use Rattle.std.specs.Prelude.{◌≡◌, ◌⊎◌, ℕ, List, [], length, Option, Some, None}
 use Rattle.std.specs.List.{AllZip, concat}
 use Rattle.arrangement.specs.Measure.{region_area2}
 use Rattle.arrangement.specs.Overlay.{Overlay, region_numbers, label_of, IsSnappedOverlay}
@@ -9,10 +9,23 @@ use Rattle.cov_write.specs.Rows.{outer_row, inner_row}
 use Rattle.cover_cli.specs.declared.outcome.Outcome.{Outcome}
 use Rattle.cover_cli.specs.declared.outcome.Outcome.TheVariants.{Done}
 use Rattle.plane.specs.Region.{IsOuterRegion}
+use Rattle.region_owners.specs.Gap.{IsClearance}
+
+-- what a row tells of a clearance: of a region that no member holds its own, and of others none
+abbrev pub IsClearanceTold : Overlay → ℕ → Option ℕ → Type 0
+IsClearanceTold o r None = ¬ (label_of o r ≡ [])
+IsClearanceTold o r (Some w) = (label_of o r ≡ []) × IsClearance o.edges r w
+
+-- the line is the row of a region that is not outer
+pub record IsInnerRow (o : Overlay) (r : ℕ) (line : List ℕ) : Type 0 where
+  pub inner : ¬ IsOuterRegion o.edges r
+  pub clearance : Option ℕ
+  pub told : IsClearanceTold o r clearance
+  pub row : line ≡ inner_row r (label_of o r) (region_area2 o r) clearance
 
 -- the line is the row of the region
 abbrev pub IsRow : Overlay → ℕ → List ℕ → Type 0
-IsRow o r line = (IsOuterRegion o.edges r × (line ≡ outer_row r)) ⊎ ((¬ IsOuterRegion o.edges r) × (line ≡ inner_row r (label_of o r) (region_area2 o r)))
+IsRow o r line = (IsOuterRegion o.edges r × (line ≡ outer_row r)) ⊎ IsInnerRow o r line
 
 -- the text has a row for each of the regions, in their order
 pub record AreRows (o : Overlay) (regions : List ℕ) (text : List ℕ) : Type 0 where

@@ -1,11 +1,12 @@
 ghost use Rattle.std.specs.Prelude.{◌≡◌, ◌≤◌, ◌++◌, ℕ, List, length, IfOk, IfErr, OnOk};
-ghost use Rattle.arrangement.specs.Overlay.{Overlay, region_numbers, IsRegion};
+ghost use Rattle.arrangement.specs.Overlay.{Overlay, region_numbers, IsRegion, label_of};
 ghost use Rattle.cov_types.specs.Coverage.{AllInRange};
 ghost use Rattle.geo_text.specs.declared.reader.TheConstants.{LONGEST_INPUT};
 ghost use Rattle.cover_cli.specs.Refusal.{IsRefusedFor};
-ghost use Rattle.cover_cli.specs.Regions.{IsRow, AreRows, IsRegionList};
+ghost use Rattle.cover_cli.specs.Regions.{IsClearanceTold, IsRow, AreRows, IsRegionList};
 ghost use Rattle.cover_cli.specs.Text.{IsReadAnd, RefusesText};
 ghost use Rattle.owner_label.specs.Labelled.{IsOverlay};
+ghost use Rattle.plane.specs.Region.{IsOuterRegion};
 
 use crate::making::Made;
 use crate::outcome::Outcome;
@@ -13,6 +14,7 @@ use crate::text::coverage_of;
 use cov_types::{Coverage, NoMemory, uses};
 use cov_write::{append_inner_row, append_outer_row};
 use face_walk::Regions;
+use gap_width::GapSearch;
 use half_edge::Arena;
 use owner_label::Labels;
 use snap_noder::{live, node};
@@ -29,10 +31,11 @@ fn rows_of(
     requires labels { labels.now.edges ≡ arena.now }
     ensures { IfOk result (λ text. (o : Overlay) → IsOverlay labels.now o → AreRows o (region_numbers o) text.items) }
 {
+    let mut gaps = GapSearch::build(alloc, arena, regions)?;
     let mut text = Vec::new(alloc);
     for side in 0..arena.len() {
         if regions.region_of(side) == side {
-            append_row(&mut text, regions, labels, side)?;
+            append_row(&mut text, regions, labels, &mut gaps, side)?;
         }
     }
     Ok(text)
@@ -43,22 +46,40 @@ fn append_row(
     text: &mut Vec<u8>,
     regions: &Regions,
     labels: &Labels,
+    gaps: &mut GapSearch,
     region: usize,
 ) -> Result<(), NoMemory>
     requires labels { labels.now.edges ≡ regions.now }
+    requires gaps { gaps.old ≡ regions.now }
     requires region { IsRegion regions.now region }
-    ensures { OnOk result ((o : Overlay) → IsOverlay labels.now o
+    ensures row { OnOk result ((o : Overlay) → IsOverlay labels.now o
         → (line : List ℕ) × (IsRow o region line × (text.new.items ≡ text.old.items ++ line))) }
+    ensures gaps { gaps.new ≡ gaps.old }
 {
     if regions.outer() == Some(region) {
         append_outer_row(text, region)
     } else {
-        append_inner_row(
-            text,
-            region,
-            labels.label(region),
-            labels.region_area2(region),
-        )
+        let label = labels.label(region);
+        let clearance = clearance_told(gaps, label, region)?;
+        append_inner_row(text, region, label, labels.region_area2(region), clearance)
+    }
+}
+
+// The clearance of a region that no member holds, by its label.
+fn clearance_told(
+    gaps: &mut GapSearch,
+    label: &[u32],
+    region: usize,
+) -> Result<Option<u32>, NoMemory>
+    requires region { IsRegion gaps.old region }
+    requires inner { ¬ IsOuterRegion gaps.old region }
+    ensures told { IfOk result (λ clearance. (o : Overlay) → o.edges ≡ gaps.old → label.now ≡ label_of o region → IsClearanceTold o region clearance) }
+    ensures gaps { gaps.new ≡ gaps.old }
+{
+    if label.is_empty() {
+        Ok(Some(gaps.clearance(region)?))
+    } else {
+        Ok(None)
     }
 }
 

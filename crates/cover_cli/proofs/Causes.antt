@@ -120,23 +120,23 @@ of_both (input ∷ []) P Q C follows first second = follows input first second
 of_both (input ∷ more ∷ rest) P Q C follows first second = absurd first
 
 pub one_refusal : (operation : Operation) (inputs : List (List ℕ)) (o p : Outcome) → Refuses operation inputs o → Refuses operation inputs p → o ≡ p
-one_refusal (Validate from to) inputs o p = of_both inputs _ _ (o ≡ p) (λ input. one_text_refusal input o p)
-one_refusal (Clean rule from to) inputs o p = of_both inputs _ _ (o ≡ p) (λ input. one_text_refusal input o p)
+one_refusal (Validate gap from to) inputs o p = of_both inputs _ _ (o ≡ p) (λ input. one_text_refusal input o p)
+one_refusal (Clean rule gap from to) inputs o p = of_both inputs _ _ (o ≡ p) (λ input. one_text_refusal input o p)
 one_refusal (Union from to) inputs o p = of_both inputs _ _ (o ≡ p) (λ input. one_union_refusal input o p)
 one_refusal (Node from to) inputs o p = of_both inputs _ _ (o ≡ p) (λ input. one_text_refusal input o p)
 one_refusal (Regions from to) inputs o p = of_both inputs _ _ (o ≡ p) (λ input. one_text_refusal input o p)
 
 pub refuses_refusal : (operation : Operation) (inputs : List (List ℕ)) (o : Outcome) → Refuses operation inputs o → IsTrue (is_refusal o)
-refuses_refusal (Validate from to) inputs o = of_one inputs _ (IsTrue (is_refusal o)) (λ input. text_refusal input o)
-refuses_refusal (Clean rule from to) inputs o = of_one inputs _ (IsTrue (is_refusal o)) (λ input. text_refusal input o)
+refuses_refusal (Validate gap from to) inputs o = of_one inputs _ (IsTrue (is_refusal o)) (λ input. text_refusal input o)
+refuses_refusal (Clean rule gap from to) inputs o = of_one inputs _ (IsTrue (is_refusal o)) (λ input. text_refusal input o)
 refuses_refusal (Union from to) inputs o = of_one inputs _ (IsTrue (is_refusal o)) (λ input. union_refusal input o)
 refuses_refusal (Node from to) inputs o = of_one inputs _ (IsTrue (is_refusal o)) (λ input. text_refusal input o)
 refuses_refusal (Regions from to) inputs o = of_one inputs _ (IsTrue (is_refusal o)) (λ input. text_refusal input o)
 
 -- of inputs that are refused no text is made
 pub not_both : (operation : Operation) (inputs : List (List ℕ)) (o p : Outcome) (text : List ℕ) → Makes operation inputs o text → Refuses operation inputs p → ⊥
-not_both (Validate from to) inputs o p text = of_both inputs _ _ ⊥ (λ input. not_read_and_refused input _ p)
-not_both (Clean rule from to) inputs o p text = of_both inputs _ _ ⊥ (λ input. not_read_and_refused input _ p)
+not_both (Validate gap from to) inputs o p text = of_both inputs _ _ ⊥ (λ input. not_read_and_refused input _ p)
+not_both (Clean rule gap from to) inputs o p text = of_both inputs _ _ ⊥ (λ input. not_read_and_refused input _ p)
 not_both (Union from to) inputs o p text = of_both inputs _ _ ⊥ (λ input. not_united_and_refused input o p text)
 not_both (Node from to) inputs o p text = of_both inputs _ _ ⊥ (λ input. not_read_and_refused input _ p)
 not_both (Regions from to) inputs o p text = of_both inputs _ _ ⊥ (λ input. not_read_and_refused input _ p)
@@ -147,16 +147,16 @@ marking_success (suc edges) = refl
 
 -- what an operation answers with a text is a success
 pub makes_success : (operation : Operation) (inputs : List (List ℕ)) (o : Outcome) (text : List ℕ) → Makes operation inputs o text → IsTrue (is_success o)
-makes_success (Validate from to) inputs o text = of_one inputs _ (IsTrue (is_success o)) (λ input makes. ap is_success makes.holds.counted ∙ marking_success _)
-makes_success (Clean rule from to) inputs o text = of_one inputs _ (IsTrue (is_success o)) (λ input makes. ap is_success makes.holds.done)
+makes_success (Validate gap from to) inputs o text = of_one inputs _ (IsTrue (is_success o)) (λ input makes. ap is_success makes.holds.counted ∙ marking_success _)
+makes_success (Clean rule gap from to) inputs o text = of_one inputs _ (IsTrue (is_success o)) (λ input makes. ap is_success makes.holds.done)
 makes_success (Union from to) inputs o text = of_one inputs _ (IsTrue (is_success o)) (λ input makes. ap is_success makes.holds.done)
 makes_success (Node from to) inputs o text = of_one inputs _ (IsTrue (is_success o)) (λ input makes. ap is_success makes.holds.done)
 makes_success (Regions from to) inputs o text = of_one inputs _ (IsTrue (is_success o)) (λ input makes. ap is_success makes.holds.done)
 
 -- only validate answers marks
 pub makes_marked : (operation : Operation) (inputs : List (List ℕ)) (o : Outcome) (text : List ℕ) → Makes operation inputs o text → IsTrue (is_marked o) → IsTrue (is_validate operation)
-makes_marked (Validate from to) inputs o text makes marks = refl
-makes_marked (Clean rule from to) inputs o text makes marks = of_one inputs _ (IsTrue false) (λ input cleaning. sym (ap is_marked cleaning.holds.done) ∙ marks) makes
+makes_marked (Validate gap from to) inputs o text makes marks = refl
+makes_marked (Clean rule gap from to) inputs o text makes marks = of_one inputs _ (IsTrue false) (λ input cleaning. sym (ap is_marked cleaning.holds.done) ∙ marks) makes
 makes_marked (Union from to) inputs o text makes marks = of_one inputs _ (IsTrue false) (λ input uniting. sym (ap is_marked uniting.holds.done) ∙ marks) makes
 makes_marked (Node from to) inputs o text makes marks = of_one inputs _ (IsTrue false) (λ input noding. sym (ap is_marked noding.holds.done) ∙ marks) makes
 makes_marked (Regions from to) inputs o text makes marks = of_one inputs _ (IsTrue false) (λ input listing. sym (ap is_marked listing.holds.done) ∙ marks) makes
@@ -167,8 +167,8 @@ marking_some (suc edges) h = cc
 
 -- and none answers that no segments are marked
 pub makes_some : (operation : Operation) (inputs : List (List ℕ)) (o : Outcome) (text : List ℕ) → Makes operation inputs o text → o ≢ Marked 0
-makes_some (Validate from to) inputs o text makes h = of_one inputs _ ⊥ (λ input valid. marking_some _ (sym valid.holds.counted ∙ h)) makes
-makes_some (Clean rule from to) inputs o text makes h = of_one inputs _ ⊥ (λ input cleaning. (let e : Done ≡ Marked 0 = sym cleaning.holds.done ∙ h in cc)) makes
+makes_some (Validate gap from to) inputs o text makes h = of_one inputs _ ⊥ (λ input valid. marking_some _ (sym valid.holds.counted ∙ h)) makes
+makes_some (Clean rule gap from to) inputs o text makes h = of_one inputs _ ⊥ (λ input cleaning. (let e : Done ≡ Marked 0 = sym cleaning.holds.done ∙ h in cc)) makes
 makes_some (Union from to) inputs o text makes h = of_one inputs _ ⊥ (λ input uniting. (let e : Done ≡ Marked 0 = sym uniting.holds.done ∙ h in cc)) makes
 makes_some (Node from to) inputs o text makes h = of_one inputs _ ⊥ (λ input noding. (let e : Done ≡ Marked 0 = sym noding.holds.done ∙ h in cc)) makes
 makes_some (Regions from to) inputs o text makes h = of_one inputs _ ⊥ (λ input listing. (let e : Done ≡ Marked 0 = sym listing.holds.done ∙ h in cc)) makes

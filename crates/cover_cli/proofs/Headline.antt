@@ -39,45 +39,45 @@ not_refused input (BadText f) faultless refuses = faultless f refuses
 not_refused input _ faultless refuses = absurd refuses
 
 -- what clean writes of a coverage that was read is a clean text
-clean_text : (rule : RuleName) (members : Members) (outcome : Outcome) (text : List ℕ) → IsFormed members → IsCleaning rule members outcome text → IsCleanText rule members text
-clean_text rule members outcome text formed cleaning = record {
+clean_text : (rule : RuleName) (gap : ℕ) (members : Members) (outcome : Outcome) (text : List ℕ) → IsFormed members → IsCleaning rule gap members outcome text → IsCleanText rule gap members text
+clean_text rule gap members outcome text formed cleaning = record {
   out = cleaning.out;
   lines = cleaning.lines;
   formed = cleaning.formed;
-  valid = cleaned_valid members formed.in_range (rule_of rule) no_state 0 cleaning.out cleaning.cleaned;
+  valid = cleaned_valid members formed.in_range (rule_of rule) no_state gap cleaning.out cleaning.cleaned;
   cleaned = cleaning.cleaned;
-  held = λ edges odd noded p off. held_by_label members formed.in_range (rule_of rule) (rule_lawful rule) no_state 0 cleaning.out cleaning.cleaned edges odd noded p off;
+  held = λ edges odd noded p off. held_by_label members formed.in_range (rule_of rule) (rule_lawful rule) no_state gap cleaning.out cleaning.cleaned edges odd noded p off;
 }
 
-module _ (rule : RuleName) (from to input : List ℕ) (members : Members) (old new : State) (answer : Outcome) (told : IsTrue old.tells_files)
+module _ (rule : RuleName) (gap : ℕ) (from to input : List ℕ) (members : Members) (old new : State) (answer : Outcome) (told : IsTrue old.tells_files)
     (file : old.files from ≡ Some input) (within : length input ≤ LONGEST_INPUT) (reads : Reads input members) (faultless : HasNoFault input)
-    (a : IsAnswer (Clean rule from to) old new answer) where
+    (a : IsAnswer (Clean rule gap from to) old new answer) where
   formed : IsFormed members
   formed = read_formed input members within reads faultless
 
   read : AreInputs old (from ∷ []) (input ∷ [])
   read = (record { file = file; within = within }, tt)
 
-  no_cause : HoldsNoCause (Clean rule from to) old
+  no_cause : HoldsNoCause (Clean rule gap from to) old
   no_cause = record { inputs = input ∷ []; read = read; none = λ refusal refuses. not_refused input refusal faultless refuses }
 
   -- what is written was made of the input
-  made : (h : HoldsText (Clean rule from to) old new answer) → IsReadAnd input (λ ms. IsCleaning rule ms answer h.text)
+  made : (h : HoldsText (Clean rule gap from to) old new answer) → IsReadAnd input (λ ms. IsCleaning rule gap ms answer h.text)
   made h =
       let same = same_inputs old (from ∷ []) h.writes.inputs (input ∷ []) h.writes.read read in
-      subst (λ inputs. Makes (Clean rule from to) inputs answer h.text) same h.writes.makes
+      subst (λ inputs. Makes (Clean rule gap from to) inputs answer h.text) same h.writes.makes
 
-  done : IsTrue (is_success answer) → (answer ≡ Done) × HoldsCleanText rule members to old new
+  done : IsTrue (is_success answer) → (answer ≡ Done) × HoldsCleanText rule gap members to old new
   done ok =
       let h = a.written told ok in
       let m = made h in
       let same = one_reading input m.members members m.reads reads in
-      let cleaning = subst (λ ms. IsCleaning rule ms answer h.text) same m.holds in
-      (cleaning.done, record { text = h.text; is_clean = clean_text rule members answer h.text formed cleaning; held = h.held })
+      let cleaning = subst (λ ms. IsCleaning rule gap ms answer h.text) same m.holds in
+      (cleaning.done, record { text = h.text; is_clean = clean_text rule gap members answer h.text formed cleaning; held = h.held })
 
-  by_cases : IsSuccessUnlessFault answer → ((answer ≡ Done) × HoldsCleanText rule members to old new) ⊎ IsFileFault answer
+  by_cases : IsSuccessUnlessFault answer → ((answer ≡ Done) × HoldsCleanText rule gap members to old new) ⊎ IsFileFault answer
   by_cases (inl ok) = inl (done ok)
   by_cases (inr fault) = inr fault
 
-  pub headline : ((answer ≡ Done) × HoldsCleanText rule members to old new) ⊎ IsFileFault answer
+  pub headline : ((answer ≡ Done) × HoldsCleanText rule gap members to old new) ⊎ IsFileFault answer
   headline = by_cases (a.good told no_cause)

@@ -42,9 +42,9 @@ use Rattle.merge_rule.specs.RuleState.{no_state}
 
 -- ---- what is made of a coverage
 
-one_validation : (members : List (List (List (List Coord)))) (o p : Outcome) (text other : List ℕ) → IsValidation members o text → IsValidation members p other → (o ≡ p) × (text ≡ other)
-one_validation members o p text other v w =
-    let same : v.marks ≡ w.marks = AreMarks-unique (uses_of members) (length members) 0 v.marks w.marks v.marked w.marked in
+one_validation : (gap : ℕ) (members : List (List (List (List Coord)))) (o p : Outcome) (text other : List ℕ) → IsValidation gap members o text → IsValidation gap members p other → (o ≡ p) × (text ≡ other)
+one_validation gap members o p text other v w =
+    let same : v.marks ≡ w.marks = AreMarks-unique (uses_of members) (length members) gap v.marks w.marks v.marked w.marked in
     let listing : List Mark → List ℕ = λ marks. lines_text (member_lists (marked_uses (uses_of members) marks) members) in
     (v.counted ∙ ap (λ (marks : List Mark). marking (length marks)) same ∙ sym w.counted, v.lines ∙ ap listing same ∙ sym w.lines)
 
@@ -54,9 +54,9 @@ one_node members o p text other in_range v w =
     let listing : List Seg → List OddUse → List ℕ = λ edges odd. lines_text (edges ∷ member_lists (odd_uses edges odd) members) in
     (v.done ∙ sym w.done, v.lines ∙ (λ i. listing (same.0 i) (same.1 i)) ∙ sym w.lines)
 
-one_cleaning : (rule : RuleName) (members : List (List (List (List Coord)))) (o p : Outcome) (text other : List ℕ) → AllInRange members → IsCleaning rule members o text → IsCleaning rule members p other → (o ≡ p) × (text ≡ other)
-one_cleaning rule members o p text other in_range v w =
-    let same : v.out ≡ w.out = one_cleaned members in_range (rule_of rule) no_state 0 v.out w.out v.cleaned w.cleaned in
+one_cleaning : (rule : RuleName) (gap : ℕ) (members : List (List (List (List Coord)))) (o p : Outcome) (text other : List ℕ) → AllInRange members → IsCleaning rule gap members o text → IsCleaning rule gap members p other → (o ≡ p) × (text ≡ other)
+one_cleaning rule gap members o p text other in_range v w =
+    let same : v.out ≡ w.out = one_cleaned members in_range (rule_of rule) no_state gap v.out w.out v.cleaned w.cleaned in
     (v.done ∙ sym w.done, v.lines ∙ ap coverage_text same ∙ sym w.lines)
 
 one_uniting : (members : List (List (List (List Coord)))) (o p : Outcome) (text other : List ℕ) → AllInRange members → IsUniting members o text → IsUniting members p other → (o ≡ p) × (text ≡ other)
@@ -114,10 +114,10 @@ of_inputs s names (input ∷ more ∷ rest) P Q C follows are first second = abs
 
 one_made : (operation : Operation) (s : State) (names inputs : List (List ℕ)) (o p : Outcome) (text other : List ℕ) → AreInputs s names inputs
     → Makes operation inputs o text → Makes operation inputs p other → (o ≡ p) × (text ≡ other)
-one_made (Validate from to) s names inputs o p text other =
-    of_inputs s names inputs _ _ ((o ≡ p) × (text ≡ other)) (of_reading _ _ ((o ≡ p) × (text ≡ other)) (λ members in_range. one_validation members o p text other))
-one_made (Clean rule from to) s names inputs o p text other =
-    of_inputs s names inputs _ _ ((o ≡ p) × (text ≡ other)) (of_reading _ _ ((o ≡ p) × (text ≡ other)) (λ members in_range. one_cleaning rule members o p text other in_range))
+one_made (Validate gap from to) s names inputs o p text other =
+    of_inputs s names inputs _ _ ((o ≡ p) × (text ≡ other)) (of_reading _ _ ((o ≡ p) × (text ≡ other)) (λ members in_range. one_validation gap members o p text other))
+one_made (Clean rule gap from to) s names inputs o p text other =
+    of_inputs s names inputs _ _ ((o ≡ p) × (text ≡ other)) (of_reading _ _ ((o ≡ p) × (text ≡ other)) (λ members in_range. one_cleaning rule gap members o p text other in_range))
 one_made (Union from to) s names inputs o p text other =
     of_inputs s names inputs _ _ ((o ≡ p) × (text ≡ other)) (of_reading _ _ ((o ≡ p) × (text ≡ other)) (λ members in_range. one_uniting members o p text other in_range))
 one_made (Node from to) s names inputs o p text other =

@@ -17,10 +17,10 @@ rule_of GreatestArea = rule_by greatest_area
 rule_of LeastArea = rule_by least_area
 rule_of LongestBorder = rule_by longest_border
 
--- it is done, and the text is that of the coverage, cleaned by the rule of the name
-pub record IsCleaning (name : RuleName) (members : Members) (outcome : Outcome) (text : List ℕ) : Type 0 where
+-- it is done, and the text is that of the coverage, cleaned by the rule of the name at the gap width
+pub record IsCleaning (name : RuleName) (gap : ℕ) (members : Members) (outcome : Outcome) (text : List ℕ) : Type 0 where
   pub done : outcome ≡ Done
   pub out : Members
-  pub cleaned : IsCleaned members (rule_of name) no_state 0 out
+  pub cleaned : IsCleaned members (rule_of name) no_state gap out
   pub formed : IsFormed out
   pub lines : text ≡ coverage_text out

@@ -25,21 +25,22 @@ use Rattle.cover_cli.specs.Clean.{rule_of}
 use Rattle.geo_text.specs.declared.reader.TheConstants.{LONGEST_INPUT}
 use Rattle.cover_cli.specs.Words.{Clean}
 
--- the text is that of a valid coverage, the members cleaned by the rule: each point off the noded edges lies in the one snapped member that
--- holds it, where several do in the one that the rule picks, and otherwise in none
-pub record IsCleanText (rule : RuleName) (members : Members) (text : List ℕ) : Type 0 where
+-- the text is that of a valid coverage, the members cleaned by the rule at the gap width: each point off the noded edges lies in the one snapped
+-- member that holds it, where several do in the one that the rule picks, and where none does in none or, within a narrow gap, in the neighbour of
+-- longest border
+pub record IsCleanText (rule : RuleName) (gap : ℕ) (members : Members) (text : List ℕ) : Type 0 where
   pub out : Members
   pub lines : text ≡ coverage_text out
   pub formed : IsFormed out
   pub valid : IsValid (uses_of out)
-  pub cleaned : IsCleaned members (rule_of rule) no_state 0 out
+  pub cleaned : IsCleaned members (rule_of rule) no_state gap out
   pub held : (edges : List Seg) (odd : List OddUse) (noded : IsNoded (uses_of members) edges odd) (p : Point) → IsOff edges p
-      → IsHeldByLabel (rule_of rule) no_state cleaned.overlay 0 out (label_at noded.snapped (length members) p) p
+      → IsHeldByLabel (rule_of rule) no_state cleaned.overlay gap out (label_at noded.snapped (length members) p) p
 
 -- the output is a clean text, and every other file is as it was
-pub record HoldsCleanText (rule : RuleName) (members : Members) (to : List ℕ) (old new : State) : Type 0 where
+pub record HoldsCleanText (rule : RuleName) (gap : ℕ) (members : Members) (to : List ℕ) (old new : State) : Type 0 where
   pub text : List ℕ
-  pub is_clean : IsCleanText rule members text
+  pub is_clean : IsCleanText rule gap members text
   pub held : HoldsNow to text old.files new.files
 
 -- a call on a file failed, or memory ran out
@@ -48,6 +49,6 @@ IsFileFault answer = (answer ≡ ReadFault) ⊎ ((answer ≡ WriteFault) ⊎ (an
 
 -- for every file in the grammar and range clean is done and the output is a clean text, want of memory and faults of files aside
 abbrev pub HeadlineLaw : Type 0
-HeadlineLaw = (rule : RuleName) (from to input : List ℕ) (members : Members) (old new : State) (answer : Outcome) → IsTrue old.tells_files
+HeadlineLaw = (rule : RuleName) (gap : ℕ) (from to input : List ℕ) (members : Members) (old new : State) (answer : Outcome) → IsTrue old.tells_files
     → old.files from ≡ Some input → length input ≤ LONGEST_INPUT → Reads input members → HasNoFault input
-    → IsAnswer (Clean rule from to) old new answer → ((answer ≡ Done) × HoldsCleanText rule members to old new) ⊎ IsFileFault answer
+    → IsAnswer (Clean rule gap from to) old new answer → ((answer ≡ Done) × HoldsCleanText rule gap members to old new) ⊎ IsFileFault answer

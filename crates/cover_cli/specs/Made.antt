@@ -17,16 +17,16 @@ IsOneAnd (input ∷ more ∷ rest) P = ⊥
 
 -- of these inputs the operation makes this text, and answers this success once it is written
 abbrev pub Makes : Operation → List (List ℕ) → Outcome → List ℕ → Type 0
-Makes (Validate from to) inputs outcome text = IsOneAnd inputs (λ input. IsReadAnd input (λ members. IsValidation members outcome text))
-Makes (Clean rule from to) inputs outcome text = IsOneAnd inputs (λ input. IsReadAnd input (λ members. IsCleaning rule members outcome text))
+Makes (Validate gap from to) inputs outcome text = IsOneAnd inputs (λ input. IsReadAnd input (λ members. IsValidation gap members outcome text))
+Makes (Clean rule gap from to) inputs outcome text = IsOneAnd inputs (λ input. IsReadAnd input (λ members. IsCleaning rule gap members outcome text))
 Makes (Union from to) inputs outcome text = IsOneAnd inputs (λ input. IsReadAnd input (λ members. IsUniting members outcome text))
 Makes (Node from to) inputs outcome text = IsOneAnd inputs (λ input. IsReadAnd input (λ members. IsNoding members outcome text))
 Makes (Regions from to) inputs outcome text = IsOneAnd inputs (λ input. IsReadAnd input (λ members. IsRegionList members outcome text))
 
 -- these inputs are a cause for the operation to refuse them with this outcome
 abbrev pub Refuses : Operation → List (List ℕ) → Outcome → Type 0
-Refuses (Validate from to) inputs outcome = IsOneAnd inputs (λ input. RefusesText input outcome)
-Refuses (Clean rule from to) inputs outcome = IsOneAnd inputs (λ input. RefusesText input outcome)
+Refuses (Validate gap from to) inputs outcome = IsOneAnd inputs (λ input. RefusesText input outcome)
+Refuses (Clean rule gap from to) inputs outcome = IsOneAnd inputs (λ input. RefusesText input outcome)
 Refuses (Union from to) inputs outcome = IsOneAnd inputs (λ input. RefusesUnion input outcome)
 Refuses (Node from to) inputs outcome = IsOneAnd inputs (λ input. RefusesText input outcome)
 Refuses (Regions from to) inputs outcome = IsOneAnd inputs (λ input. RefusesText input outcome)

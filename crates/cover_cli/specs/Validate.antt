@@ -14,9 +14,9 @@ abbrev pub marking : ℕ → Outcome
 marking zero = Done
 marking (suc edges) = Marked (suc edges)
 
--- the outcome tells how many segments of the coverage are marked, and the text lists them for each member
-pub record IsValidation (members : List (List (List (List Coord)))) (outcome : Outcome) (text : List ℕ) : Type 0 where
+-- the outcome tells how many segments of the coverage are marked at the gap width, and the text lists them for each member
+pub record IsValidation (gap : ℕ) (members : List (List (List (List Coord)))) (outcome : Outcome) (text : List ℕ) : Type 0 where
   pub marks : List Mark
-  pub marked : AreMarks (uses_of members) (length members) 0 marks
+  pub marked : AreMarks (uses_of members) (length members) gap marks
   pub counted : outcome ≡ marking (length marks)
   pub lines : text ≡ lines_text (member_lists (marked_uses (uses_of members) marks) members)

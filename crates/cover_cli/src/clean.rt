@@ -1,4 +1,4 @@
-ghost use Rattle.std.specs.Prelude.{◌≡◌, ◌≤◌, length, IfOk, IfErr};
+ghost use Rattle.std.specs.Prelude.{◌≡◌, ◌≤◌, ◌^◌, length, IfOk, IfErr};
 ghost use Rattle.cov_types.specs.Coverage.{AllInRange, IsFormed};
 ghost use Rattle.merge_rule.specs.RuleState.{no_state};
 ghost use Rattle.sound_polygons.specs.Cleaned.{IsCleaned};
@@ -17,26 +17,38 @@ use cov_write::text_of;
 use merge_rule::{GreatestArea, LeastArea, LeastIndex, LongestBorder};
 use std::alloc::Global;
 
-// The coverage, cleaned by the rule of the name.
-fn cleaned(alloc: Global, c: &Coverage, rule: RuleName) -> Result<Coverage, NoMemory>
-    requires { AllInRange c.now }
-    ensures cleaned { IfOk result (λ out. IsCleaned c.now (rule_of rule) no_state 0 out) }
+// The coverage, cleaned by the rule of the name at the gap width.
+fn cleaned(
+    alloc: Global,
+    c: &Coverage,
+    rule: RuleName,
+    gap: u32,
+) -> Result<Coverage, NoMemory>
+    requires in_range { AllInRange c.now }
+    requires gap { gap ≤ 2 ^ 30 }
+    ensures cleaned { IfOk result (λ out. IsCleaned c.now (rule_of rule) no_state gap out) }
     ensures formed { IfOk result IsFormed }
 {
     match rule {
-        RuleName::LeastIndex => clean(alloc, c, &mut LeastIndex, 0),
-        RuleName::GreatestArea => clean(alloc, c, &mut GreatestArea, 0),
-        RuleName::LeastArea => clean(alloc, c, &mut LeastArea, 0),
-        RuleName::LongestBorder => clean(alloc, c, &mut LongestBorder, 0),
+        RuleName::LeastIndex => clean(alloc, c, &mut LeastIndex, gap),
+        RuleName::GreatestArea => clean(alloc, c, &mut GreatestArea, gap),
+        RuleName::LeastArea => clean(alloc, c, &mut LeastArea, gap),
+        RuleName::LongestBorder => clean(alloc, c, &mut LongestBorder, gap),
     }
 }
 
 // The text of the cleaned coverage.
-fn cleaning(alloc: Global, c: &Coverage, rule: RuleName) -> Result<Made, NoMemory>
-    requires { AllInRange c.now }
-    ensures { IfOk result (λ made. IsCleaning rule c.now made.outcome made.text.items) }
+fn cleaning(
+    alloc: Global,
+    c: &Coverage,
+    rule: RuleName,
+    gap: u32,
+) -> Result<Made, NoMemory>
+    requires in_range { AllInRange c.now }
+    requires gap { gap ≤ 2 ^ 30 }
+    ensures { IfOk result (λ made. IsCleaning rule gap c.now made.outcome made.text.items) }
 {
-    let cleaned = cleaned(alloc, c, rule)?;
+    let cleaned = cleaned(alloc, c, rule, gap)?;
     let text = text_of(alloc, &cleaned)?;
     Ok(Made {
         outcome: Outcome::Done,
@@ -44,13 +56,19 @@ fn cleaning(alloc: Global, c: &Coverage, rule: RuleName) -> Result<Made, NoMemor
     })
 }
 
-/// Cleans the coverage that the input is read as, by the rule of the name.
-pub fn make(alloc: Global, rule: RuleName, input: Vec<u8>) -> Result<Made, Outcome>
-    requires { length input.items ≤ LONGEST_INPUT }
+/// Cleans the coverage that the input is read as, by the rule of the name at the gap width, in grid units.
+pub fn make(
+    alloc: Global,
+    rule: RuleName,
+    gap: u32,
+    input: Vec<u8>,
+) -> Result<Made, Outcome>
+    requires length { length input.items ≤ LONGEST_INPUT }
+    requires gap { gap ≤ 2 ^ 30 }
     ensures made { IfOk result (λ made.
-        IsReadAnd input.items (λ members. IsCleaning rule members made.outcome made.text.items)) }
+        IsReadAnd input.items (λ members. IsCleaning rule gap members made.outcome made.text.items)) }
     ensures refused { IfErr result (IsRefusedFor (RefusesText input.items)) }
 {
     let coverage = coverage_of(alloc, input)?;
-    Ok(cleaning(alloc, &coverage, rule)?)
+    Ok(cleaning(alloc, &coverage, rule, gap)?)
 }

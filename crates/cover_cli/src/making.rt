@@ -27,8 +27,8 @@ pub fn make(alloc: Global, operation: &Operation, mut inputs: Vec<Vec<u8>>) -> R
         (IsRefusedFor (Refuses (named operation.now) (map (λ i. i.items) inputs.items))) }
 {
     match operation {
-        Operation::Validate { .. } => validate::make(alloc, inputs.remove(0)),
-        Operation::Clean { rule, .. } => clean::make(alloc, *rule, inputs.remove(0)),
+        Operation::Validate { gap, .. } => validate::make(alloc, *gap, inputs.remove(0)),
+        Operation::Clean { rule, gap, .. } => clean::make(alloc, *rule, *gap, inputs.remove(0)),
         Operation::Union { .. } => union::make(alloc, inputs.remove(0)),
         Operation::Node { .. } => node::make(alloc, inputs.remove(0)),
         Operation::Regions { .. } => regions::make(alloc, inputs.remove(0)),

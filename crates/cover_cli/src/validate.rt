@@ -1,4 +1,4 @@
-ghost use Rattle.std.specs.Prelude.{◌≡◌, ◌≤◌, length, IfOk, IfErr};
+ghost use Rattle.std.specs.Prelude.{◌≡◌, ◌≤◌, ◌^◌, length, IfOk, IfErr};
 ghost use Rattle.cov_types.specs.Coverage.{AllInRange};
 ghost use Rattle.geo_text.specs.declared.reader.TheConstants.{LONGEST_INPUT};
 ghost use Rattle.cover_cli.specs.Refusal.{IsRefusedFor};
@@ -25,13 +25,14 @@ fn outcome_of(edges: u64) -> Outcome
     }
 }
 
-// The text of the marked segments of a coverage, and how many there are.
-fn validation(alloc: Global, c: &Coverage) -> Result<Made, NoMemory>
-    requires { AllInRange c.now }
-    ensures { IfOk result (λ made. IsValidation c.now made.outcome made.text.items) }
+// The text of the segments of a coverage that are marked at the gap width, and how many there are.
+fn validation(alloc: Global, c: &Coverage, gap: u32) -> Result<Made, NoMemory>
+    requires in_range { AllInRange c.now }
+    requires gap { gap ≤ 2 ^ 30 }
+    ensures { IfOk result (λ made. IsValidation gap c.now made.outcome made.text.items) }
 {
     let uses = uses(alloc, c)?;
-    let marks = marks(alloc, c, 0)?;
+    let marks = marks(alloc, c, gap)?;
     let marked = uses_at_marks(alloc, &uses, &marks)?;
     let lists = lists_by_member(alloc, &marked, c.members.len())?;
     let text = lines_of(alloc, &lists)?;
@@ -39,13 +40,14 @@ fn validation(alloc: Global, c: &Coverage) -> Result<Made, NoMemory>
     Ok(Made { outcome, text })
 }
 
-/// Validates the coverage that the input is read as.
-pub fn make(alloc: Global, input: Vec<u8>) -> Result<Made, Outcome>
-    requires { length input.items ≤ LONGEST_INPUT }
+/// Validates the coverage that the input is read as, at the gap width, in grid units.
+pub fn make(alloc: Global, gap: u32, input: Vec<u8>) -> Result<Made, Outcome>
+    requires length { length input.items ≤ LONGEST_INPUT }
+    requires gap { gap ≤ 2 ^ 30 }
     ensures made { IfOk result (λ made.
-        IsReadAnd input.items (λ members. IsValidation members made.outcome made.text.items)) }
+        IsReadAnd input.items (λ members. IsValidation gap members made.outcome made.text.items)) }
     ensures refused { IfErr result (IsRefusedFor (RefusesText input.items)) }
 {
     let coverage = coverage_of(alloc, input)?;
-    Ok(validation(alloc, &coverage)?)
+    Ok(validation(alloc, &coverage, gap)?)
 }

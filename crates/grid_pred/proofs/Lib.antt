@@ -11,3 +11,4 @@ mod Weighted
 mod MeetingPoint
 mod Heights
 mod Lengths
+pub mod Rooms

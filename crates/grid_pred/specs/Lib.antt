@@ -1,3 +1,4 @@
+pub mod Half
 pub mod Ray
 pub mod Along
 pub mod Sides

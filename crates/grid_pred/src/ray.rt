@@ -5,6 +5,7 @@ ghost use Rattle.plane.specs.Point.{Point, at_coord};
 ghost use Rattle.plane.specs.Segment.{midpoint, upper};
 ghost use Rattle.plane.specs.Ray.{is_over};
 ghost use Rattle.plane.specs.Below.{sweep_rise};
+ghost use Rattle.grid_pred.specs.Half.{IsHalfInRange};
 ghost use Rattle.grid_pred.specs.Ray.{IsSmallPoint, IsSmallVector, Writes};
 
 use crate::exact::{difference, product, sum};
@@ -52,6 +53,15 @@ pub fn over_upper(e: Seg, s: Seg) -> bool
     over_mid(e, s)
 }
 
+/// Whether the edge is over the point c/2 of the half grid: the ray from the point meets it.
+pub fn over_half(e: Seg, c: Coord) -> bool
+    requires edge_in_range { IsSegInRange e }
+    requires point { IsHalfInRange c }
+    ensures { (p : Point) → (p.x ≡ c.x) → (p.y ≡ c.y) → (p.d ≡ 2) → result ≡ is_over e p }
+{
+    over_point(e, half(c))
+}
+
 /// How much the sweep value grows along a segment.
 pub fn rise(s: Seg) -> i64
     requires { IsSegInRange s }
@@ -69,17 +79,32 @@ pub const SLOPE: i64 = 1 << 30;
 
 /// The point (x/d, y/d).
 #[derive(Clone, Copy)]
-struct RationalPoint {
-    x: i64,
-    y: i64,
-    d: i64,
+pub(crate) struct RationalPoint {
+    pub(crate) x: i64,
+    pub(crate) y: i64,
+    pub(crate) d: i64,
 }
 
 /// A difference of points, times a denominator.
 #[derive(Clone, Copy)]
-struct Vector {
-    x: i64,
-    y: i64,
+pub(crate) struct Vector {
+    pub(crate) x: i64,
+    pub(crate) y: i64,
+}
+
+/// The point c/2.
+pub(crate) fn half(c: Coord) -> RationalPoint
+    requires { IsHalfInRange c }
+    ensures x { result.x ≡ c.x }
+    ensures y { result.y ≡ c.y }
+    ensures d { result.d ≡ pos 2 }
+    ensures small { IsSmallPoint result }
+{
+    RationalPoint {
+        x: c.x as i64,
+        y: c.y as i64,
+        d: 2,
+    }
 }
 
 fn over_point(e: Seg, p: RationalPoint) -> bool
@@ -99,8 +124,8 @@ fn over_point(e: Seg, p: RationalPoint) -> bool
     side_of(e, from_lo) < 0
 }
 
-// From c to p.
-fn vector_from(c: Coord, p: RationalPoint) -> Vector
+/// From c to p.
+pub(crate) fn vector_from(c: Coord, p: RationalPoint) -> Vector
     requires in_range { IsInRange c }
     requires small { IsSmallPoint p }
     ensures x { result.x ≡ p.x -ℤ (c.x *ℤ p.d) }
@@ -132,8 +157,8 @@ fn rise_along(v: Vector) -> i64
     product(SLOPE, v.x) + v.y
 }
 
-// On which side of the edge v leads from its end lo.
-fn side_of(e: Seg, v: Vector) -> i64
+/// On which side of the edge v leads from its end lo.
+pub(crate) fn side_of(e: Seg, v: Vector) -> i64
     requires edge_in_range { IsSegInRange e }
     requires small { IsSmallVector v }
     ensures { result ≡ ((e.hi.x -ℤ e.lo.x) *ℤ v.y) -ℤ ((e.hi.y -ℤ e.lo.y) *ℤ v.x) }

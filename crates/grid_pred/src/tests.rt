@@ -2,8 +2,8 @@ ghost use Rattle.cov_types.specs.Range.{IsSegInRange};
 
 use crate::exact::{difference, product, sum, wide_product};
 use crate::{
-    Badness, Contact, below, crossing, edge_len, is_nearer, is_under, over, over_mid, over_upper,
-    relation, rise, root, turn, turn_in_range, turn_to,
+    Badness, Contact, at_least, below, crossing, edge_len, is_nearer, is_under, over, over_half,
+    over_mid, over_upper, reach, relation, rise, root, turn, turn_in_range, turn_to,
 };
 use cov_types::{Coord, LIMIT, Seg};
 use std::cmp::Ordering;
@@ -134,6 +134,62 @@ fn roots_and_lengths_are_rounded_down(rt: HostRuntime) {
     for (ends, want) in cases {
         assert_eq!(rt; edge_len(segment(&rt, ends)), want);
     }
+}
+
+#[test]
+fn room_is_twice_the_distance_to_the_nearest_point(rt: HostRuntime) {
+    let cases = [
+        ((0, 0), (3, 4, 3, 10), 10),
+        ((0, 0), (-6, -8, -3, -4), 10),
+        ((0, 0), (3, -9, 3, 9), 6),
+        ((10, 10), (9, 9, 9, 11), 2),
+        // 1.414.. times 2
+        ((0, 0), (0, 2, 2, 0), 2),
+        ((101, 50), (100, 0, 102, 50), 1),
+        ((5, 5), (0, 0, 9, 9), 0),
+    ];
+    for (point, ends, room) in cases {
+        let (x, y) = point;
+        let q = Coord { x, y };
+        assert!(rt; q.is_in_range() && room < 1073741824);
+        let s = segment(&rt, ends);
+        assert!(rt; at_least(q, s, room));
+        assert!(rt; !at_least(q, s, room + 1));
+    }
+    let right = segment(&rt, (LIMIT, -LIMIT, LIMIT, LIMIT));
+    assert!(rt; at_least(LEFT_BOTTOM, right, 1073741824));
+}
+
+#[test]
+fn reach_is_four_times_the_squared_distance(rt: HostRuntime) {
+    let s = segment(&rt, (3, 4, 3, 10));
+    // The points (0, 0), (1/2, 9/2), (7/2, 21/2).
+    assert_eq!(rt; reach(Coord { x: 0, y: 0 }, s), 100);
+    assert_eq!(rt; reach(Coord { x: 1, y: 9 }, s), 25);
+    assert_eq!(rt; reach(Coord { x: 7, y: 21 }, s), 2);
+    // 0.8, rounded down
+    let flat = segment(&rt, (0, 0, 2, 1));
+    assert_eq!(rt; reach(Coord { x: 2, y: 2 }, flat), 0);
+    let top = segment(&rt, (-LIMIT, LIMIT, LIMIT, LIMIT));
+    assert_eq!(rt;
+        reach(
+            Coord {
+                x: 0,
+                y: -536870912
+            },
+            top
+        ),
+        1152921504606846976
+    );
+}
+
+#[test]
+fn an_edge_is_over_a_point_of_the_half_grid(rt: HostRuntime) {
+    let rising = segment(&rt, (0, 0, 3, 1));
+    assert!(rt; over_half(rising, Coord { x: 3, y: 0 }));
+    assert!(rt; !over_half(rising, Coord { x: 3, y: 1 }));
+    assert!(rt; !over_half(rising, Coord { x: 3, y: 2 }));
+    assert!(rt; !over_half(rising, Coord { x: 7, y: 0 }));
 }
 
 #[test]

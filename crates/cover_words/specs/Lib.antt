@@ -1,0 +1,5 @@
+pub mod Commands
+pub mod Values
+pub mod Words
+pub mod Named
+pub mod Matched

@@ -3,3 +3,4 @@ pub mod Values
 pub mod Words
 pub mod Named
 pub mod Matched
+pub mod Accepted

@@ -10,6 +10,7 @@
 
 mod arguments;
 mod clean;
+mod laws;
 mod matched;
 mod node;
 mod operation;
@@ -21,6 +22,7 @@ mod validate;
 mod values;
 mod words;
 
+pub use laws::accepted_law;
 pub use operation::Operation;
 pub use rule_name::{RuleName, rule_named};
 pub use words::operation_named;

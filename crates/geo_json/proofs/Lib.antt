@@ -4,3 +4,4 @@ pub mod Points
 pub mod Objects
 pub mod Kept
 pub mod Document
+pub mod Formed

@@ -1,5 +1,5 @@
 -- What the reader has of the features that it read.
-use Rattle.std.specs.Prelude.{◌≡◌, ℕ, ◌+◌, List, [], length, map, Option, Some, None, unwrap_or}
+use Rattle.std.specs.Prelude.{◌≡◌, ℕ, ◌+◌, ◌<◌, ◌^◌, List, [], length, map, Option, Some, None, unwrap_or}
 use Rattle.serde_json.specs.Data.{Data}
 use Rattle.serde_json.specs.View.{view}
 use Rattle.geo_json.specs.Shape.{PolygonShape, FeatureShape}
@@ -33,6 +33,7 @@ pub record AreCollected (features : List FeatureShape) (c : Collected) : Type 0 
   pub properties : map view c.properties.items ≡ map (λ (f : FeatureShape). f.properties) features
   pub ids : map view c.ids.items ≡ map (λ (f : FeatureShape). f.id) features
   pub count : c.count ≡ length features
+  pub fits : length features < 2 ^ 32
 
 -- all of the features were read, and none has a fault
 pub record AreAllRead (document : List (Option FeatureShape)) (c : Collected) : Type 0 where

@@ -41,11 +41,11 @@ one_more all rest d c after f so_far read pushes rings =
     record {
       features = so_far.features ++ read.shape ∷ [];
       shaped = so_far.shaped ∙ ap (λ o. map Some so_far.features ++ o ∷ map feature_of rest) read.shaped
-      ∙ sym (append_assoc (map Some so_far.features) (Some read.shape ∷ []) (map feature_of rest))
-      ∙ ap (λ (l : List (Option FeatureShape)). l ++ map feature_of rest) (sym (map-append Some so_far.features (read.shape ∷ [])));
+          ∙ sym (append_assoc (map Some so_far.features) (Some read.shape ∷ []) (map feature_of rest))
+          ∙ ap (λ (l : List (Option FeatureShape)). l ++ map feature_of rest) (sym (map-append Some so_far.features (read.shape ∷ [])));
       collected = collected;
       faults = so_far.faults ∙ faultless_first (feature_faults c.count c.rings (feature_of d)) (faults_from (c.count + 1) (c.rings + ring_count (feature_of d)) (map feature_of rest)) read.faultless
-      ∙ (λ k. faults_from (count k) (sym (rings ∙ read.next_ring) k) (map feature_of rest));
+          ∙ (λ k. faults_from (count k) (sym (rings ∙ read.next_ring) k) (map feature_of rest));
     }
 
 pub ended : (all : List Data) (c : Collected) → IsReadSoFar all [] c → AreAllRead (map feature_of all) c

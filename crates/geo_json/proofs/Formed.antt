@@ -139,7 +139,7 @@ record IsClean (f : FeatureShape) : Type 0 where
   kept : AllByRecursion HasRing f.polygons
   long : AllByRecursion IsLong (rings_of f.polygons)
 
-no_parts : {A : Type 0} → (xs ys : List A) → xs ++ ys ≡ [] → (xs ≡ []) × (ys ≡ [])
+pub no_parts : {A : Type 0} → (xs ys : List A) → xs ++ ys ≡ [] → (xs ≡ []) × (ys ≡ [])
 no_parts [] ys e = (refl, e)
 no_parts (x ∷ xs) ys e = absurd (cc)
 

@@ -5,3 +5,4 @@ pub mod Objects
 pub mod Kept
 pub mod Document
 pub mod Formed
+pub mod OneAnswer

@@ -52,7 +52,7 @@ position_taken d ds before mid after p count is counted two all noted =
       read = ap (option_and_then if_position) (array_read as_number d ds all.item is all.read) ∙ at_least_two all.item (omega arith);
       value = all.value;
       noted = noted ∙ ap (λ (m : FirstFaults). noting (extra_faults m.feature count) [] [] 0 m) all.noted
-      ∙ ap (λ n. noting (extra_faults before.feature n) [] [] 0 (noting_numbers all.item before)) (counted ∙ sym same) ∙ noting_position all.item before;
+          ∙ ap (λ n. noting (extra_faults before.feature n) [] [] 0 (noting_numbers all.item before)) (counted ∙ sym same) ∙ noting_position all.item before;
     }
 
 less_than_two : (numbers : List Num) → length numbers < 2 → if_position numbers ≡ None
@@ -99,7 +99,7 @@ ring_taken d ds before mid after points without is all noted rest =
       read = array_read position_of d ds all.item is all.read;
       value = rest ∙ ap (λ n. take (n - 1) points) count ∙ ap (take (length all.item - 1)) all.value;
       noted = noted all.item all.value ∙ ap (λ (m : FirstFaults). noting [] [] (ring_faults m.rings all.item) 1 m) all.noted
-      ∙ ap (λ n. noting [] [] (ring_faults n all.item) 1 (noting_positions all.item before)) same ∙ noting_ring all.item before;
+          ∙ ap (λ n. noting [] [] (ring_faults n all.item) 1 (noting_positions all.item before)) same ∙ noting_ring all.item before;
     }
 
 -- ---- polygons

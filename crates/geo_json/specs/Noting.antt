@@ -16,7 +16,11 @@ fresh feature rings = record { feature = feature; planar = None; number = None; 
 -- with some faults more of each kind, and so many rings more
 abbrev pub noting : List JsonFault → List JsonFault → List JsonFault → ℕ → FirstFaults → FirstFaults
 noting planar number ring count f = record f {
-    planar = option_or f.planar (first planar); number = option_or f.number (first number); ring = option_or f.ring (first ring); rings = f.rings + count }
+  planar = option_or f.planar (first planar);
+  number = option_or f.number (first number);
+  ring = option_or f.ring (first ring);
+  rings = f.rings + count;
+}
 
 -- with those of some numbers
 abbrev pub noting_numbers : List Num → FirstFaults → FirstFaults

@@ -1,5 +1,6 @@
 -- What a document is read as.
 use Rattle.std.specs.Prelude.{◌≡◌, ℕ, ℤ, pos, neg_ℤ, ◌-◌, Bool, ◌&&◌, int_le, if◌then◌else◌, List, length, map, take, Option, Some, None, option_and_then, unwrap_or, slice_get, IsUtf8}
+use Rattle.cov_types.specs.Coverage.{Members}
 use Rattle.cov_types.specs.declared.coord.Coord.{Coord}
 use Rattle.cov_types.specs.declared.coord.TheConstants.{LIMIT}
 use Rattle.serde_json.specs.Data.{Num, Data}
@@ -51,16 +52,28 @@ polys_of_feature f = polys_of f.polygons
 abbrev pub StandsFor : List ℕ → Data → Type 0
 StandsFor bytes d = IsUtf8 bytes × (read bytes ≡ Some d)
 
--- the members are those of the features, with their properties and their ids
-pub record AreRead (features : List FeatureShape) (c : Features) : Type 0 where
-  pub members : c.coverage ≡ map polys_of_feature features
-  pub properties : map view c.properties.items ≡ map (λ (f : FeatureShape). f.properties) features
-  pub ids : map view c.ids.items ≡ map (λ (f : FeatureShape). f.id) features
+-- what is read: the members of a coverage, and beside each its properties and its id
+pub record Reading : Type 0 where
+  pub members : Members
+  pub properties : List Data
+  pub ids : List Data
 
--- the bytes stand for a document of these features
-pub record Reads (bytes : List ℕ) (c : Features) : Type 0 where
+-- that of some features
+abbrev pub reading_of : List FeatureShape → Reading
+reading_of features = record {
+  members = map polys_of_feature features;
+  properties = map (λ (f : FeatureShape). f.properties) features;
+  ids = map (λ (f : FeatureShape). f.id) features;
+}
+
+-- what `Features` hold
+abbrev pub held : Features → Reading
+held c = record { members = c.coverage; properties = map view c.properties.items; ids = map view c.ids.items }
+
+-- the bytes stand for a document of features that are read as this
+pub record Reads (bytes : List ℕ) (r : Reading) : Type 0 where
   pub value : Data
   pub features : List FeatureShape
   pub stands : StandsFor bytes value
   pub shapes : document_of value ≡ map Some features
-  pub read : AreRead features c
+  pub read : r ≡ reading_of features

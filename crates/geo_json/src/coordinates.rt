@@ -142,7 +142,11 @@ fn polygons(alloc: Global, list: &[Value], noted: &mut FirstFaults) -> Result<Ve
 }
 
 /// The coordinates of a MultiPolygon.
-pub(crate) fn multi_polygon(alloc: Global, value: &Value, noted: &mut FirstFaults) -> Result<Vec<Poly>, Stop>
+pub(crate) fn multi_polygon(
+    alloc: Global,
+    value: &Value,
+    noted: &mut FirstFaults,
+) -> Result<Vec<Poly>, Stop>
     ensures ok { IfOk result (λ v. IsMultiPolygonTaken (view value.now) noted.old v.items noted.new) }
     ensures bad { IsErrOf result Stop.BadShape → multi_polygon_of (view value.now) ≡ None }
 {

@@ -14,7 +14,9 @@ mod first_faults;
 mod geometry;
 mod object;
 mod reader;
+#[cfg(test)]
+mod tests;
 
 pub use error::{JsonError, JsonFault};
 pub use features::Features;
-pub use reader::read_json;
+pub use reader::{one_answer, read_json};

@@ -1,9 +1,9 @@
-ghost use Rattle.std.specs.Prelude.{◌≡◌, ◌≤◌, [], ◌∷◌, length, map, codes, Some, IsErrOf, IfOk, OnOk};
+ghost use Rattle.std.specs.Prelude.{◌≡◌, ◌⊎◌, ◌≤◌, ℕ, List, [], ◌∷◌, length, map, codes, Some, IsErrOf, IfOk, OnOk};
 ghost use Rattle.cov_types.specs.Coverage.{IsFormed};
 ghost use Rattle.serde_json.specs.Data.{Data, object};
 ghost use Rattle.serde_json.specs.View.{view, members_view};
 ghost use Rattle.geo_json.specs.Shape.{items_of, member_of, feature_of, lone_feature, collected, document_of};
-ghost use Rattle.geo_json.specs.Reading.{StandsFor, Reads};
+ghost use Rattle.geo_json.specs.Reading.{Reading, StandsFor, held, Reads};
 ghost use Rattle.geo_json.specs.Fault.{first, faults_from, fault_of, IsFault, HasNoFault};
 ghost use Rattle.geo_json.specs.Collecting.{AreAllRead};
 ghost use Rattle.geo_json.specs.declared.error.JsonFault.{JsonFault};
@@ -92,7 +92,7 @@ fn document(alloc: Global, value: Value) -> Result<Collected, JsonError>
 /// its id. Linear in time and memory; the properties and ids are those that were parsed, not copies.
 pub fn read_json(alloc: Global, bytes: &[u8]) -> Result<Features, JsonError>
     requires { length bytes.now ≤ 67108864 }
-    ensures read { IfOk result (λ c. Reads bytes.now c) }
+    ensures read { IfOk result (λ c. Reads bytes.now (held c)) }
     ensures faultless { OnOk result (HasNoFault bytes.now) }
     ensures formed { IfOk result (λ c. IsFormed c.coverage) }
     ensures fault { (fault : JsonFault) → IsErrOf result (JsonError.Fault fault) → IsFault bytes.now fault }
@@ -107,3 +107,12 @@ pub fn read_json(alloc: Global, bytes: &[u8]) -> Result<Features, JsonError>
         ids: all.ids,
     })
 }
+
+/// Laws of documents: bytes have at most one reading and at most one fault, and have a fault or are read without one.
+/// A call does nothing.
+pub fn one_answer()
+    ensures reading { (bytes : List ℕ) (r s : Reading) → Reads bytes r → Reads bytes s → r ≡ s }
+    ensures fault { (bytes : List ℕ) (e f : JsonFault) → IsFault bytes e → IsFault bytes f → e ≡ f }
+    ensures either { (bytes : List ℕ)
+        → ((r : Reading) × Reads bytes r × HasNoFault bytes) ⊎ ((fault : JsonFault) × IsFault bytes fault) }
+{}

@@ -18,6 +18,9 @@ pub loop-value-preserved : goal.loop-value-preserved
 loop-value-preserved c =
     let all = map view c.args.list.items in
     let P : List Value → Type 0 = λ vs. IsReadSoFar all (map view vs) c.loop-value.all in
-    let so_far = subst P c.in-Some.ensures.steps.0 c.loop-value.invariant.2 in
-    (tt, tt, one_more all (map view (into_iter_items c.next.new.self)) (view c.in-Some.value) c.loop-value.all c.push.new.self c.in_ok-read.read so_far c.in_ok-read.ensures.ok
-    c.in_ok-push.ensures.read c.in_ok-push.ensures.rings)
+    let so_far = subst P c.in-Some.ensures.steps.0 c.loop-value.invariant.2 in (
+      tt,
+      tt,
+      one_more all (map view (into_iter_items c.next.new.self)) (view c.in-Some.value) c.loop-value.all c.push.new.self c.in_ok-read.read so_far c.in_ok-read.ensures.ok
+          c.in_ok-push.ensures.read c.in_ok-push.ensures.rings,
+    )

@@ -1,5 +1,5 @@
 -- What is read of a document without a fault is formed.
-use Rattle.std.proofs.Common.{◌≡◌, ℕ, ◌+◌, ◌-◌, ◌<◌, ◌≤◌, ◌^◌, ℤ, pos, neg_ℤ, ◌≤ℤ◌, int_le, Bool, true, false, ◌&&◌, if◌then◌else◌, is_some, nat_lt, List, [], ◌∷◌, ◌++◌, length, map, take, get_or, Option, Some, None, option_map, option_and_then, unwrap_or, slice_get, refl, ap, ◌∙◌, sym, subst, arith, length-append, length-take, codes}
+use Rattle.std.proofs.Common.{◌≡◌, ℕ, ◌+◌, ◌-◌, ◌≤◌, ℤ, pos, neg_ℤ, ◌≤ℤ◌, int_le, Bool, true, false, if◌then◌else◌, is_some, nat_lt, List, [], ◌∷◌, ◌++◌, length, map, get_or, Option, Some, None, option_map, option_and_then, unwrap_or, slice_get, refl, ap, ◌∙◌, sym, subst, arith, length-take, codes}
 use Rattle.std.specs.Prelude.{⊤}
 use Rattle.std.specs.List.{AllByRecursion}
 use Rattle.std.proofs.lemmas.Bool.{and_parts}
@@ -9,15 +9,14 @@ use Rattle.std.proofs.lemmas.List.{length-map}
 use Rattle.std.proofs.lemmas.List.Elements.{All-from_recursion, All-take, All-map}
 use Rattle.cov_types.specs.Coverage.{IsFormed, IsRingFormed, IsPolyFormed, IsMemberFormed, IsRingInRange, IsPolyInRange, IsMemberInRange}
 use Rattle.cov_types.specs.Range.{IsInRange}
-use Rattle.cov_types.specs.declared.coord.Coord.{Coord}
 use Rattle.cov_types.specs.declared.coord.TheConstants.{LIMIT}
 use Rattle.serde_json.specs.Data.{Data, Num}
 use Rattle.serde_json.specs.View.{view}
 use Rattle.serde_json.specs.Find.{as_i64, as_null}
 use Rattle.geo_json.specs.Shape.{Position, RingShape, PolygonShape, FeatureShape, member_of, items_of, is_of_type, polygon_of, multi_polygon_of, with_rings, polygons_by, geometry_of, geometry_or_null, feature_with, feature_of, bare_feature, lone_feature, collected, document_of}
 use Rattle.geo_json.specs.Reading.{is_in_range, if_in_range, ordinate_of, point_of, points_of, poly_of, polys_of, polys_of_feature}
-use Rattle.geo_json.specs.Fault.{planar_faults, number_faults, ring_faults, faults_of_rings, rings_of, positions_of, numbers_of, feature_faults, ring_count, faults_from, is_closed}
-use Rattle.geo_json.specs.Collecting.{AreCollected, AreAllRead}
+use Rattle.geo_json.specs.Fault.{ring_faults, faults_of_rings, rings_of, feature_faults, ring_count, faults_from}
+use Rattle.geo_json.specs.Collecting.{AreAllRead}
 use Rattle.geo_json.specs.declared.error.JsonFault.{JsonFault}
 use Rattle.geo_json.specs.declared.error.JsonFault.TheVariants.{RingShort}
 use Rattle.geo_json.specs.declared.collected.Collected.{Collected}

@@ -1,9 +1,9 @@
 -- The geometry of an object, by its type and its coordinates.
-use Rattle.std.proofs.Common.{◌≡◌, ℕ, Bool, true, false, List, [], ◌∷◌, ◌++◌, Option, Some, None, option_map, unwrap_or, codes, map, refl, ap, ◌∙◌, sym}
+use Rattle.std.proofs.Common.{◌≡◌, true, false, List, [], ◌∷◌, ◌++◌, Some, option_map, unwrap_or, codes, refl, ap, ◌∙◌, sym}
 use Rattle.cov_types.specs.declared.coord.Coord.{Coord}
 use Rattle.serde_json.specs.Data.{Data, null}
 use Rattle.serde_json.specs.Find.{get}
-use Rattle.geo_json.specs.Shape.{RingShape, PolygonShape, is_of_type, with_rings, polygons_by, geometry_of}
+use Rattle.geo_json.specs.Shape.{RingShape, PolygonShape, is_of_type, with_rings, polygons_by}
 use Rattle.geo_json.specs.Fault.{rings_of}
 use Rattle.geo_json.specs.Noting.{noting_rings, IsMultiPolygonTaken, IsGeometryTaken}
 use Rattle.geo_json.specs.declared.first_faults.FirstFaults.{FirstFaults}

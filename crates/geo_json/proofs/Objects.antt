@@ -1,10 +1,10 @@
 -- Members that are taken out of an object.
-use Rattle.std.proofs.Common.{◌≡◌, ℕ, List, Vec, map, Option, Some, None, option_map, unwrap_or, cond, false, String, Global, BTreeMap, Ordering, string_bytes, string_cmp, nat_cmp, bytes_eq, refl, ap, ◌∙◌, sym, rules}
+use Rattle.std.proofs.Common.{◌≡◌, ℕ, List, Vec, map, Option, Some, None, option_map, unwrap_or, cond, false, String, Global, BTreeMap, string_bytes, string_cmp, nat_cmp, bytes_eq, refl, ap, ◌∙◌, sym, rules}
 use Rattle.std.specs.BTreeMap.{UpdatesBy, is_at, get_by_text}
 use Rattle.std.specs.Cmp.Lexicographic.{slice_cmp}
 use Rattle.std.specs.Map.{lookup}
 use Rattle.std.proofs.lemmas.Map.Text.{btree_map_updates_text}
-use Rattle.serde_json.specs.Data.{Data, null}
+use Rattle.serde_json.specs.Data.{null}
 use Rattle.serde_json.specs.Find.{get_member}
 use Rattle.serde_json.specs.View.{view, items_view, members_view}
 use Rattle.serde_json.specs.declared.value.Value.{Value, Null, Array, the_lemmas}

@@ -1,5 +1,5 @@
 -- Bytes have one reading or one fault.
-use Rattle.std.proofs.Common.{◌≡◌, ℕ, ◌+◌, Bool, true, false, List, [], ◌∷◌, ◌++◌, map, Option, Some, None, ◌⊎◌, inl, inr, ⊎_elim, refl, ap, ◌∙◌, sym}
+use Rattle.std.proofs.Common.{◌≡◌, ℕ, ◌+◌, Bool, true, false, List, [], ◌∷◌, map, Option, Some, None, ◌⊎◌, inl, inr, refl, ap, ◌∙◌, sym}
 use Rattle.std.proofs.lemmas.Bool.{false≢true}
 use Rattle.std.specs.Str.{is_utf8}
 use Rattle.std.proofs.lemmas.Option.{none-some, same_Some}
@@ -10,7 +10,7 @@ use Rattle.geo_json.specs.Shape.{FeatureShape, document_of}
 use Rattle.geo_json.specs.Reading.{Reading, reading_of, StandsFor, Reads}
 use Rattle.geo_json.specs.Fault.{first, feature_faults, ring_count, faults_from, fault_of, IsFault, HasNoFault}
 use Rattle.geo_json.specs.declared.error.JsonFault.{JsonFault}
-use Rattle.geo_json.specs.declared.error.JsonFault.TheVariants.{NotJson, BadShape}
+use Rattle.geo_json.specs.declared.error.JsonFault.TheVariants.{NotJson}
 use Rattle.geo_json.proofs.Formed.{no_parts}
 
 -- ---- one value, one reading

@@ -1,5 +1,5 @@
 -- The points of positions and of rings, and the faults of rings.
-use Rattle.std.proofs.Common.{◌≡◌, ℕ, ℤ, zero, suc, ◌+◌, ◌-◌, ◌<◌, ◌≤◌, pos, Bool, true, false, not, if◌then◌else◌, nat_lt, nat_le, List, [], ◌∷◌, ◌++◌, length, map, take, Option, Some, None, option_and_then, unwrap_or, refl, ap, ◌∙◌, sym, arith}
+use Rattle.std.proofs.Common.{◌≡◌, ℕ, ℤ, zero, suc, ◌+◌, ◌-◌, ◌<◌, ◌≤◌, pos, Bool, true, false, not, if◌then◌else◌, nat_lt, List, [], ◌∷◌, ◌++◌, length, map, take, Option, Some, None, option_and_then, unwrap_or, refl, ap, ◌∙◌, sym, arith}
 use Rattle.std.specs.Bool.{then_some}
 use Rattle.std.proofs.lemmas.List.{length-map, append-nil, map-append}
 use Rattle.std.proofs.lemmas.List.Elements.{filter-append}
@@ -7,10 +7,10 @@ use Rattle.std.proofs.lemmas.Bool.Decides.{nat_tests}
 use Rattle.cov_types.specs.declared.coord.Coord.{Coord}
 use Rattle.serde_json.specs.Data.{Data, Num}
 use Rattle.serde_json.specs.Find.{as_number}
-use Rattle.geo_json.specs.Shape.{items_of, each, array_of, Position, RingShape, PolygonShape, has_rings, with_rings, if_position, position_of, ring_of}
-use Rattle.geo_json.specs.Reading.{ordinate_of, point_of, points_of, poly_of}
-use Rattle.geo_json.specs.Fault.{first, extra_faults, planar_faults, ring_faults, is_closed}
-use Rattle.geo_json.specs.Noting.{placed, noting, noting_numbers, noting_positions, noting_rings, IsTaken, IsPositionTaken, IsRingTaken}
+use Rattle.geo_json.specs.Shape.{items_of, each, RingShape, PolygonShape, has_rings, with_rings, if_position, position_of}
+use Rattle.geo_json.specs.Reading.{ordinate_of, point_of, poly_of}
+use Rattle.geo_json.specs.Fault.{first, extra_faults, ring_faults, is_closed}
+use Rattle.geo_json.specs.Noting.{placed, noting, noting_numbers, noting_positions, IsTaken, IsPositionTaken, IsRingTaken}
 use Rattle.geo_json.specs.declared.error.JsonFault.{JsonFault}
 use Rattle.geo_json.specs.declared.error.JsonFault.TheVariants.{RingShort, RingOpen}
 use Rattle.geo_json.specs.declared.first_faults.FirstFaults.{FirstFaults}

@@ -1,6 +1,5 @@
 -- What the reader has of the features that it read.
-use Rattle.std.specs.Prelude.{◌≡◌, ℕ, ◌+◌, ◌<◌, ◌^◌, List, [], length, map, Option, Some, None, unwrap_or}
-use Rattle.serde_json.specs.Data.{Data}
+use Rattle.std.specs.Prelude.{◌≡◌, ℕ, ◌+◌, ◌<◌, ◌^◌, List, [], length, map, Option, Some}
 use Rattle.serde_json.specs.View.{view}
 use Rattle.geo_json.specs.Shape.{PolygonShape, FeatureShape}
 use Rattle.geo_json.specs.Reading.{polys_of, polys_of_feature}

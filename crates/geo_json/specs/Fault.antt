@@ -1,6 +1,6 @@
 -- The one fault of a document: the first of its faults, feature by feature, and of one feature first that of its shape,
 -- then those of positions, of numbers and of rings, each in the order of the feature's coordinates.
-use Rattle.std.specs.Prelude.{◌≡◌, ◌⊎◌, ℕ, ◌+◌, ◌-◌, Bool, true, false, if◌then◌else◌, is_some, nat_lt, List, [], ◌∷◌, ◌++◌, length, map, flat_map, get_or, Option, Some, None, option_map, unwrap_or}
+use Rattle.std.specs.Prelude.{◌≡◌, ◌⊎◌, ℕ, ◌+◌, ◌-◌, Bool, if◌then◌else◌, is_some, nat_lt, List, [], ◌∷◌, ◌++◌, length, flat_map, get_or, Option, Some, None, option_map, unwrap_or}
 use Rattle.cov_types.specs.Coord.{is_same_coord}
 use Rattle.serde_json.specs.Data.{Num, Data}
 use Rattle.serde_json.specs.Find.{is_float}

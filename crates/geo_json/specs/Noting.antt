@@ -2,7 +2,7 @@
 use Rattle.std.specs.Prelude.{◌≡◌, ℕ, ℤ, ◌+◌, ◌==◌, if◌then◌else◌, List, [], ◌∷◌, length, map, flat_map, Option, Some, None}
 use Rattle.std.specs.Option.{option_or}
 use Rattle.serde_json.specs.Data.{Num, Data}
-use Rattle.geo_json.specs.Shape.{Position, RingShape, PolygonShape, each, with_rings, position_of, ring_of, polygon_of, multi_polygon_of, geometry_of}
+use Rattle.geo_json.specs.Shape.{Position, RingShape, each, with_rings, position_of, ring_of, polygon_of, multi_polygon_of, geometry_of}
 use Rattle.geo_json.specs.Fault.{first, rings_of, planar_faults, number_faults, faults_of_rings, positions_of, numbers_of}
 use Rattle.geo_json.specs.Reading.{point_of, points_of, poly_of, polys_of}
 use Rattle.cov_types.specs.declared.coord.Coord.{Coord}

@@ -1,6 +1,6 @@
 -- The shapes of GeoJSON (RFC 7946) that are read, in values as serde_json has them: positions, rings, the coordinates
 -- of a Polygon and of a MultiPolygon, geometries, features and documents.
-use Rattle.std.specs.Prelude.{◌≡◌, ℕ, Bool, true, false, if◌then◌else◌, is_some, nat_le, List, [], ◌∷◌, length, map, filter, Option, Some, None, option_map, option_and_then, unwrap_or, codes, bytes_eq}
+use Rattle.std.specs.Prelude.{ℕ, Bool, true, false, if◌then◌else◌, is_some, nat_le, List, [], ◌∷◌, length, map, filter, Option, Some, None, option_map, option_and_then, unwrap_or, codes, bytes_eq}
 use Rattle.serde_json.specs.Data.{Num, Data, null, Items, no_items, item}
 use Rattle.serde_json.specs.Find.{get, as_null, as_str, as_number, as_array}
 

@@ -1,4 +1,4 @@
-use Rattle.std.proofs.Common.{◌≡◌, ◌∙◌, ap, sym, rules, [], ◌∷◌}
+use Rattle.std.proofs.Common.{◌≡◌, ◌∙◌, sym, rules, [], ◌∷◌}
 use Rattle.serde_json.specs.Find.{as_number}
 use Rattle.serde_json.specs.View.{number_view}
 use Rattle.geo_json.specs.Reading.{point_of}

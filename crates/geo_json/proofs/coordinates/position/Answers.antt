@@ -1,4 +1,4 @@
-use Rattle.std.proofs.Common.{◌≡◌, ◌<◌, length, map, sym, arith}
+use Rattle.std.proofs.Common.{length, map, sym, arith}
 use Rattle.std.proofs.lemmas.List.{length-map}
 use Rattle.serde_json.specs.View.{view}
 use Rattle.geo_json.proofs.Points.{position_taken, no_position}

@@ -1,4 +1,4 @@
-use Rattle.std.proofs.Common.{◌≡◌, ◌∙◌, ◌-◌, length, map, ap, take, rules}
+use Rattle.std.proofs.Common.{◌≡◌, ◌∙◌, ◌-◌, length, map, take, rules}
 use Rattle.serde_json.specs.View.{view}
 use Rattle.geo_json.proofs.Points.{ring_taken}
 use Rattle.geo_json.proofs.coordinates.ring.Goals as goal

@@ -1,4 +1,3 @@
-use Rattle.std.proofs.Common.{arith}
 use Rattle.geo_json.proofs.Points.{long_ring}
 use Rattle.geo_json.proofs.first_faults.ring_fault.Goals as goal
 

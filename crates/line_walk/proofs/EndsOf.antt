@@ -1,19 +1,19 @@
 -- The ends of edges, as a list: one more edge, which ends there are, and how many at a vertex.
 use mathlib.Core.List.{[], ◌∷◌, ◌++◌}
-use Rattle.std.proofs.Common.{◌≡◌, ◌≢◌, ◌⊎◌, refl, sym, ◌∙◌, ap, subst, ℕ, zero, suc, ◌+◌, ◌-◌, ◌<◌, ◌≤◌, ◌&&◌, ◌||◌, ◌==◌, eqb, not, Bool, true, false, cond, List, length, get_or, take, Some, inl, inr, arith}
-use Rattle.std.specs.Prelude.{Contains, slice_get, count_by, AllPairs, IsPermutation}
-use Rattle.std.proofs.lemmas.Bool.{cases_order, cases_lt, true≢false, false≢true, and_parts, false_from_ne_true}
+use Rattle.std.proofs.Common.{◌≡◌, ◌≢◌, refl, sym, ◌∙◌, ap, subst, ℕ, zero, suc, ◌+◌, ◌<◌, ◌≤◌, ◌&&◌, ◌||◌, eqb, Bool, true, false, cond, List, length, get_or, take, Some, inl, inr, arith}
+use Rattle.std.specs.Prelude.{Contains, slice_get, count_by, IsPermutation}
+use Rattle.std.proofs.lemmas.Bool.{cases_order, false≢true, and_parts, false_from_ne_true}
 use Rattle.std.proofs.lemmas.Bool.Decides.{Decides-eqb}
 use Rattle.std.proofs.lemmas.List.{take_more, length-take-le}
 use Rattle.std.proofs.lemmas.List.Sums.{sum_by-cons}
-use Rattle.std.proofs.lemmas.List.Sorted.{sum_by-IsPermutation, Contains-permutation, sorted_far, ranks_by}
-use Rattle.std.proofs.lemmas.Option.{slice_get_within, slice_get-get_or, get_or_from_slice_get, same_Some, none-some}
+use Rattle.std.proofs.lemmas.List.Sorted.{sum_by-IsPermutation, sorted_far, ranks_by}
+use Rattle.std.proofs.lemmas.Option.{slice_get_within, get_or_from_slice_get, same_Some, none-some}
 use Rattle.std.specs.Cmp.{IsStrictWeakOrder}
-use Rattle.std.specs.List.Sorted.{IsSortedBy, IsSortedByKey}
+use Rattle.std.specs.List.Sorted.{IsSortedByKey}
 use Rattle.std.specs.Ordering.{is_lt}
 use Rattle.cov_types.specs.declared.coord.Coord.{Coord}
 use Rattle.cov_types.specs.declared.seg.Seg.{Seg}
-use Rattle.cov_types.specs.Coord.{is_before, is_same_coord, coord_cmp}
+use Rattle.cov_types.specs.Coord.{is_same_coord, coord_cmp}
 use Rattle.cov_types.proofs.Equal.{Decides-same_coords}
 use Rattle.cov_types.proofs.SegOrder.{coord_cmp_total, is_lt-coord_cmp}
 use Rattle.greedy_run.specs.Lines.{degree}
@@ -21,7 +21,7 @@ use Rattle.greedy_run.proofs.Threads.{no_loop}
 use Rattle.greedy_run.proofs.Trails.{contains_here, contains_there}
 use Rattle.line_walk.specs.declared.edge_end.EdgeEnd.{EdgeEnd}
 use Rattle.line_walk.specs.Ends.{AreTogether, ends_from, ends_at_vertex}
-use Rattle.line_walk.specs.Partners.{HasEnd, HasEndAt}
+use Rattle.line_walk.specs.Partners.{HasEnd}
 
 -- ---- one more edge
 

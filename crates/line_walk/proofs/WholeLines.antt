@@ -1,6 +1,5 @@
 -- Walks along whole lines.
-use mathlib.Core.List.{[], ◌∷◌, ◌++◌}
-use Rattle.std.proofs.Common.{◌≡◌, ◌≢◌, ◌⊎◌, refl, sym, ◌∙◌, ap, subst, ℕ, zero, suc, ◌+◌, ◌-◌, ◌<◌, ◌≤◌, ◌↔◌, true, false, List, length, get_or, IsTrue, Some, inl, inr, arith}
+use Rattle.std.proofs.Common.{◌≡◌, ◌≢◌, ◌⊎◌, refl, sym, ◌∙◌, ap, subst, ℕ, suc, ◌+◌, ◌-◌, ◌<◌, ◌≤◌, ◌↔◌, false, List, length, get_or, IsTrue, Some, inl, inr, arith}
 use Rattle.std.specs.Prelude.{All, Contains, reverse, slice_get}
 use Rattle.std.specs.Ordering.{is_le}
 use Rattle.std.proofs.lemmas.Bool.{cases_order, true≢false, false_from_ne_true}
@@ -14,7 +13,7 @@ use Rattle.cov_types.proofs.Order.{is_before-irrefl, is_before-trans, is_before-
 use Rattle.cov_types.proofs.SegOrder.{cases_seg_before}
 use Rattle.plane.specs.Snapping.{chain_edges}
 use Rattle.arrangement.specs.Noding.{IsAscending}
-use Rattle.greedy_run.specs.Lines.{degree, IsNode, IsLine, IsTrail, EndsAt}
+use Rattle.greedy_run.specs.Lines.{degree, IsNode, IsLine}
 use Rattle.greedy_run.proofs.Ended.{open_thread, back_to_node}
 use Rattle.greedy_run.proofs.Listed.{from_place, length-from_place, at_whole, walk, point_is, has_edge, line_in, turned, line_of}
 use Rattle.greedy_run.proofs.Loops.{IsLeastAt, least_at, IsLoopBy, loop_thread, has_step, g_low}
@@ -23,7 +22,7 @@ use Rattle.greedy_run.proofs.Threads.{IsThread, turned_thread, seg_turned}
 use Rattle.greedy_run.proofs.Trails.{IsTrailBy}
 use Rattle.greedy_run.proofs.Walks.{trail_by}
 use Rattle.line_walk.specs.declared.walk.Walk.{Walk}
-use Rattle.line_walk.specs.Line.{IsFirstOfLine, IsLesserWay, IsLineWith, IsWholeWalk}
+use Rattle.line_walk.specs.Line.{IsFirstOfLine, IsLesserWay, IsWholeWalk}
 use Rattle.line_walk.specs.Walk.{IsEdgeWalk, IsPlaced}
 use Rattle.line_walk.proofs.LesserWays.{some_lesser}
 use Rattle.line_walk.proofs.Pushed.{slice_get_among}
@@ -251,52 +250,52 @@ module _ (edges : List Seg) (ascending : IsAscending edges) (from : Coord) (firs
 module _ (edges : List Seg) (ascending : IsAscending edges) (from : Coord) (first : ℕ) (there : Walk) (h : IsEdgeWalk edges from first there) (apart : there.to ≢ from)
     (back : Walk) (t : IsEdgeWalk edges there.to there.last back) (e : Seg) (at_first : slice_get edges first ≡ Some e)
   where
-  abbrev m : ℕ
-  m = length back.points.items - 1
+    abbrev m : ℕ
+    m = length back.points.items - 1
 
-  abbrev r : ℕ → Coord
-  r k = get_or back.points.items k there.to
+    abbrev r : ℕ → Coord
+    r k = get_or back.points.items k there.to
 
-  other : degree edges there.to ≢ 2
-  other = ended_other edges ascending from first there h apart
+    other : degree edges there.to ≢ 2
+    other = ended_other edges ascending from first there h apart
 
-  back_other : degree edges back.to ≢ 2
-  back_other = elim t.done [ inl same ↦ subst (λ q. degree edges q ≢ 2) (sym same) other | inr it ↦ it ]
+    back_other : degree edges back.to ≢ 2
+    back_other = elim t.done [ inl same ↦ subst (λ q. degree edges q ≢ 2) (sym same) other | inr it ↦ it ]
 
-  thread_back : IsThread edges m r
-  thread_back =
-      open_thread edges m r (trail_here edges ascending there.to there.last back t) (subst (λ q. degree edges q ≢ 2) (sym (first_is edges ascending there.to there.last back t)) other)
-      (subst (λ q. degree edges q ≢ 2) (sym (last_is edges ascending there.to there.last back t)) back_other)
+    thread_back : IsThread edges m r
+    thread_back =
+        open_thread edges m r (trail_here edges ascending there.to there.last back t) (subst (λ q. degree edges q ≢ 2) (sym (first_is edges ascending there.to there.last back t)) other)
+        (subst (λ q. degree edges q ≢ 2) (sym (last_is edges ascending there.to there.last back t)) back_other)
 
-  back_trail : IsTrailBy edges m r
-  back_trail = trail_here edges ascending there.to there.last back t
+    back_trail : IsTrailBy edges m r
+    back_trail = trail_here edges ascending there.to there.last back t
 
-  -- the line of the walk back has the first edge
-  first_on : Contains (chain_edges back.points.items) e
-  first_on =
-      let k = length there.points.items - 1 in
-      let q = λ (i : ℕ). get_or there.points.items i from in
-      let trail = trail_here edges ascending from first there h in
-      let some = trail.some in
-      let end = back_to_node edges (edges_apart edges ascending) k q trail (subst (λ p. degree edges p ≢ 2) (sym (last_is edges ascending from first there h)) other) in
-      let line = line_of edges end.0 _ end.1.thread in
-      let far = end.1.further in
-      let (last, has_last) = h.last in
-      let place : length there.points.items - 2 ≡ k - 1 = omega arith in
-      let next : suc (k - 1) ≡ k = omega arith in
-      let last_step : IsSegBetween (q (k - 1)) (q k) last = subst (λ i. IsSegBetween (q (k - 1)) (q i) last) next
-      (edge_by edges ascending from first there h (k - 1) last (omega arith) (subst (λ i. slice_get (chain_edges there.points.items) i ≡ Some last) place (h.along_last last has_last.0))) in
-      let first_step : IsSegBetween (q 0) (q 1) e = edge_by edges ascending from first there h 0 e (omega arith) (h.along_first e at_first) in
-      let has_e = line.1.has (k - 1) e (omega arith) (between_same (q 1) (q 0) _ _ e end.1.here end.1.next (seg_turned (q 0) (q 1) e first_step)) in
-      let has_it = line.1.has 0 last (omega arith) (seg_turned (q (k - 1)) (q k) last last_step) in
-      let lesser = some_lesser (from_place r 0 m) in
-      let over = line_over edges m r thread_back lesser.0 lesser.1 in
-      let of_back = back_trail.some in
-      let begins : IsSegBetween (r 0) (r 1) last = edge_by edges ascending there.to there.last back t 0 last (omega arith) (t.along_first last has_last.0) in
-      let same = common_edge edges line.0 lesser.0 line.1.line over.line last has_it ((over.chain last).1 (has_edge edges m r thread_back.step thread_back.distinct 0 last (omega arith) begins)) in
-      subst (λ qs. Contains (chain_edges qs) e) (points_listed edges ascending there.to there.last back t) ((over.chain e).0 (subst (λ qs. Contains (chain_edges qs) e) same has_e))
+    -- the line of the walk back has the first edge
+    first_on : Contains (chain_edges back.points.items) e
+    first_on =
+        let k = length there.points.items - 1 in
+        let q = λ (i : ℕ). get_or there.points.items i from in
+        let trail = trail_here edges ascending from first there h in
+        let some = trail.some in
+        let end = back_to_node edges (edges_apart edges ascending) k q trail (subst (λ p. degree edges p ≢ 2) (sym (last_is edges ascending from first there h)) other) in
+        let line = line_of edges end.0 _ end.1.thread in
+        let far = end.1.further in
+        let (last, has_last) = h.last in
+        let place : length there.points.items - 2 ≡ k - 1 = omega arith in
+        let next : suc (k - 1) ≡ k = omega arith in
+        let last_step : IsSegBetween (q (k - 1)) (q k) last = subst (λ i. IsSegBetween (q (k - 1)) (q i) last) next
+        (edge_by edges ascending from first there h (k - 1) last (omega arith) (subst (λ i. slice_get (chain_edges there.points.items) i ≡ Some last) place (h.along_last last has_last.0))) in
+        let first_step : IsSegBetween (q 0) (q 1) e = edge_by edges ascending from first there h 0 e (omega arith) (h.along_first e at_first) in
+        let has_e = line.1.has (k - 1) e (omega arith) (between_same (q 1) (q 0) _ _ e end.1.here end.1.next (seg_turned (q 0) (q 1) e first_step)) in
+        let has_it = line.1.has 0 last (omega arith) (seg_turned (q (k - 1)) (q k) last last_step) in
+        let lesser = some_lesser (from_place r 0 m) in
+        let over = line_over edges m r thread_back lesser.0 lesser.1 in
+        let of_back = back_trail.some in
+        let begins : IsSegBetween (r 0) (r 1) last = edge_by edges ascending there.to there.last back t 0 last (omega arith) (t.along_first last has_last.0) in
+        let same = common_edge edges line.0 lesser.0 line.1.line over.line last has_it ((over.chain last).1 (has_edge edges m r thread_back.step thread_back.distinct 0 last (omega arith) begins)) in
+        subst (λ qs. Contains (chain_edges qs) e) (points_listed edges ascending there.to there.last back t) ((over.chain e).0 (subst (λ qs. Contains (chain_edges qs) e) same has_e))
 
-  pub whole_there_and_back : IsWholeWalk edges first back.points.items back.edges.items
-  whole_there_and_back =
-      whole_by edges m r thread_back back.points.items (points_listed edges ascending there.to there.last back t) back.edges.items t.passed t.within first
-      (placed_at edges ascending there.to there.last back t first e at_first first_on)
+    pub whole_there_and_back : IsWholeWalk edges first back.points.items back.edges.items
+    whole_there_and_back =
+        whole_by edges m r thread_back back.points.items (points_listed edges ascending there.to there.last back t) back.edges.items t.passed t.within first
+        (placed_at edges ascending there.to there.last back t first e at_first first_on)

@@ -1,3 +1,6 @@
+ghost use Rattle.std.specs.Prelude.{IsTrue};
+ghost use Rattle.arrangement.specs.Noding.{IsAscending};
+
 use crate::lines_of;
 use cov_types::{Coord, Seg};
 use std::alloc::{AllocError, Global};
@@ -71,4 +74,26 @@ fn expect_lines(
         assert!(rt; same);
     }
     Ok(())
+}
+
+// Whether the edges ascend strictly.
+fn are_ascending(edges: &[Seg]) -> bool
+    ensures { IsTrue result → IsAscending edges.now }
+{
+    for i in 1..edges.len() {
+        if edges[i - 1].cmp(&edges[i]).is_ge() {
+            return false;
+        }
+    }
+    true
+}
+
+fn edges_of(alloc: Global, ends: &[(i32, i32, i32, i32)]) -> Result<Vec<Seg>, AllocError> {
+    let mut edges = Vec::new(alloc);
+    for (a, b, c, d) in ends {
+        if let Some(edge) = Seg::between(Coord { x: *a, y: *b }, Coord { x: *c, y: *d }) {
+            edges.push(edge)?;
+        }
+    }
+    Ok(edges)
 }

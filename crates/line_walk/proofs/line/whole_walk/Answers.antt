@@ -1,8 +1,7 @@
-use Rattle.std.proofs.Common.{◌≡◌, ◌≢◌, ◌∙◌, ap, sym, subst, refl, length, inl, Some, slice_get}
+use Rattle.std.proofs.Common.{◌∙◌, ap, sym, refl, length, inl}
 use Rattle.std.proofs.lemmas.Bool.{false≢true}
-use Rattle.std.proofs.lemmas.Option.{slice_get_read, slice_get-get_or}
+use Rattle.std.proofs.lemmas.Option.{slice_get_read}
 use Rattle.std.proofs.lemmas.Result.{IfOk-weaker}
-use Rattle.cov_types.specs.declared.coord.Coord.{Coord}
 use Rattle.cov_types.specs.declared.seg.Seg.{Seg}
 use Rattle.cov_types.proofs.Equal.{Decides-same_coords}
 use Rattle.line_walk.proofs.WholeLines.{whole_back, whole_there_and_back}
@@ -26,5 +25,4 @@ pub returns-else-eq : goal.returns-else-eq
 returns-else-eq c =
     let e = c.index-edges-first.result in
     let at = slice_get_read c.args.edges.now (length c.args.edges.now) c.args.first e refl c.requires.within c.index-edges-first.is in
-
     IfOk-weaker c.walk_from-else-eq.result _ _ (λ w h. whole_there_and_back c.args.edges.now c.requires.ascending _ c.args.first c.in_ok-there.there c.in_ok-there.ensures (λ same. false≢true (sym c.if-eq.false ∙ c.eq.ensures ∙ (Decides-same_coords c.in_ok-there.there.to _).1 same)) w h e at) c.walk_from-else-eq.ensures

@@ -1,4 +1,4 @@
-use Rattle.std.proofs.Common.{sym, subst, rules, Vec, Global, List}
+use Rattle.std.proofs.Common.{rules, Vec, Global}
 use Rattle.std.specs.Ordering.{is_lt}
 use Rattle.std.proofs.lemmas.List.Sorted.{answers_always}
 use Rattle.cov_types.specs.declared.coord.Coord.{Coord}

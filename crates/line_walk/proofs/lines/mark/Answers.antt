@@ -1,4 +1,4 @@
-use Rattle.std.proofs.Common.{◌≡◌, sym, subst, ◌∷◌, ◌++◌, [], take, get_or, set, true, List, ℕ}
+use Rattle.std.proofs.Common.{sym, subst, take, get_or, set, true, List, ℕ}
 use Rattle.std.proofs.lemmas.List.{take_more, take_all}
 use Rattle.line_walk.specs.Line.{IsMarkedBy}
 use Rattle.line_walk.proofs.Pushed.{marked_none, marked_more}

@@ -1,4 +1,4 @@
-use Rattle.std.proofs.Common.{◌≡◌, ◌≢◌, ◌∙◌, refl, ap, sym, subst, length, replicate, arith, ◌+◌, ◌<◌, Vec, Global, List, ℕ, Bool, true, false, Some, slice_get, All, ◌∷◌, ◌++◌, []}
+use Rattle.std.proofs.Common.{◌≡◌, ◌≢◌, ◌∙◌, refl, ap, sym, subst, length, arith, ◌+◌, ◌<◌, Vec, Global, List, ℕ, Bool, true, false, Some, slice_get, All, ◌∷◌, ◌++◌, []}
 use Rattle.std.proofs.lemmas.Bool.{false≢true}
 use Rattle.std.proofs.lemmas.List.{with_items_is}
 use Rattle.std.proofs.lemmas.Option.{slice_get_read, same_Some}
@@ -48,9 +48,9 @@ loop-first-preserved c =
           (lines_more edges c.requires.ascending first seen lines c.loop-first.invariant c.loop-first-test.true (not_marked seen first c.index.result.now at w.if-not-index.true) w.in_ok-line.line.points.items w.in_ok-line.line.edges.items
           w.in_ok-line.ensures after marked)))
       | else-not-index w ↦
-        subst (λ (bs : List Bool). AreLinesTo edges (first + 1) bs (plain_lists c.if-not-index.lines.items)) (ap (λ (v : Vec Bool Global). v.items) (sym w.seen-is))
-        (subst (AreLinesTo edges (first + 1) seen) (ap (λ (v : Vec (Vec Coord Global) Global). plain_lists v.items) (sym w.lines-is))
-        (lines_same edges c.requires.ascending first seen lines c.loop-first.invariant c.loop-first-test.true (at ∙ ap Some w.if-not-index.false)))
+          subst (λ (bs : List Bool). AreLinesTo edges (first + 1) bs (plain_lists c.if-not-index.lines.items)) (ap (λ (v : Vec Bool Global). v.items) (sym w.seen-is))
+          (subst (AreLinesTo edges (first + 1) seen) (ap (λ (v : Vec (Vec Coord Global) Global). plain_lists v.items) (sym w.lines-is))
+          (lines_same edges c.requires.ascending first seen lines c.loop-first.invariant c.loop-first-test.true (at ∙ ap Some w.if-not-index.false)))
     ]
 
 pub returns : goal.returns

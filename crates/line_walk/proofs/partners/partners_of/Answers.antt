@@ -1,6 +1,5 @@
-use Rattle.std.proofs.Common.{◌≡◌, ◌∙◌, ap, sym, subst, refl, length, get_or, set, arith, rules, pos, ◌+◌, ◌<◌, Some, slice_get, List, IsPermutation}
+use Rattle.std.proofs.Common.{◌≡◌, ◌∙◌, sym, subst, refl, length, get_or, set, arith, rules, pos, ◌+◌, ◌<◌, Some, slice_get, List, IsPermutation}
 use Rattle.std.proofs.lemmas.Option.{slice_get_read, slice_get-get_or}
-use Rattle.cov_types.specs.declared.seg.Seg.{Seg}
 use Rattle.line_walk.specs.declared.edge_end.EdgeEnd.{EdgeEnd}
 use Rattle.line_walk.specs.declared.partners.Partners.{Partners}
 use Rattle.line_walk.specs.Ends.{ends_from, IsOtherOfTwo}

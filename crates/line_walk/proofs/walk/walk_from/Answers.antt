@@ -3,9 +3,8 @@ use Rattle.std.proofs.lemmas.List.{length-append}
 use Rattle.std.proofs.lemmas.Option.{slice_get_read, slice_get_within, same_Some}
 use Rattle.cov_types.specs.declared.coord.Coord.{Coord}
 use Rattle.cov_types.specs.declared.seg.Seg.{Seg}
-use Rattle.cov_types.specs.Seg.{IsSegBetween}
 use Rattle.greedy_run.specs.Lines.{degree}
-use Rattle.line_walk.specs.Partners.{HasEnd, HasEndAt, IsPartner}
+use Rattle.line_walk.specs.Partners.{HasEnd, HasEndAt}
 use Rattle.line_walk.specs.Walk.{IsOnwardFrom}
 use Rattle.line_walk.proofs.Walking.{IsWalking, walk_one, walk_more, walk_bound, walk_ended, ends_at_to}
 use Rattle.line_walk.proofs.walk.walk_from.Goals as goal

@@ -1,7 +1,7 @@
 -- The points that are left in slots: by their places, and after one slot was emptied.
 use mathlib.Core.List.{[], ◌∷◌}
-use Rattle.std.proofs.Common.{◌≡◌, refl, sym, ◌∙◌, ap, subst, ℕ, zero, suc, ◌+◌, ◌<◌, List, ◌++◌, length, map, All, Option, Some, None, inl, inr, Bool, true, false, not, cond, true≢false, IsPermutation, length-append, arith}
-use Rattle.std.specs.Prelude.{Contains, filter, slice_get, slice_set, option_to_list}
+use Rattle.std.proofs.Common.{◌≡◌, refl, sym, ◌∙◌, ap, subst, ℕ, zero, suc, ◌+◌, List, ◌++◌, length, map, All, Option, Some, None, inl, inr, Bool, true, false, not, cond, true≢false, length-append, arith}
+use Rattle.std.specs.Prelude.{Contains, slice_get, slice_set, option_to_list}
 use Rattle.std.specs.List.{list_any}
 use Rattle.std.proofs.lemmas.Option.{none-some, same_Some, slice_get-map, slice_get_within, slice_get-get_or}
 use Rattle.std.proofs.lemmas.List.Concat.{flat_map-cons}

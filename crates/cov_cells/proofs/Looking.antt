@@ -1,6 +1,6 @@
 -- A search among slots for the least wanted point: what its boxes rule out, and what one more slot adds.
 use mathlib.Core.List.{[], ◌∷◌}
-use Rattle.std.proofs.Common.{◌≡◌, refl, sym, ◌∙◌, ap, subst, ℕ, List, Option, Some, None, slice_get, inl, inr, Bool, true, false, ◌||◌, true≢false}
+use Rattle.std.proofs.Common.{◌≡◌, refl, sym, ◌∙◌, subst, ℕ, List, Option, Some, None, slice_get, inl, inr, Bool, true, false, ◌||◌, true≢false}
 use Rattle.std.specs.Prelude.{Contains}
 use Rattle.std.proofs.lemmas.Bool.{or_cases, or_left, or_right}
 use Rattle.std.proofs.lemmas.Option.{none-some, same_Some}
@@ -13,7 +13,7 @@ use Rattle.box_tree.specs.declared.rect.Rect.{Rect}
 use Rattle.box_tree.proofs.Touching.{is_touching-is, touch_upward}
 use Rattle.greedy_run.specs.Run.{Triangle, IsInTriangle, current}
 use Rattle.cov_cells.specs.Way.{IsInWay, IsFirstInWay}
-use Rattle.cov_cells.specs.Slots.{StandsIn, AreCells, IsWantedInRange, IsWanted, IsRound, IsHeld, IsReached, IsSlotSettled, IsEarlier, IsFirstWanted, living}
+use Rattle.cov_cells.specs.Slots.{StandsIn, AreCells, IsWanted, IsRound, IsHeld, IsReached, IsSlotSettled, IsEarlier, IsFirstWanted, living}
 use Rattle.cov_cells.specs.declared.wanted.Wanted.{Wanted}
 use Rattle.cov_cells.specs.declared.wanted.Wanted.TheVariants.{At, InWay}
 use Rattle.cov_cells.specs.declared.found.Found.{Found}

@@ -1,6 +1,6 @@
 -- The closed triangle of grid points, by the turns of its three sides, and by the order of coordinates where it is flat.
 use mathlib.Core.List.{[], ◌∷◌}
-use Rattle.std.proofs.Common.{◌≡◌, ◌⊎◌, inl, inr, refl, sym, ◌∙◌, ap, subst, ◌+◌, ◌≤◌, ◌^◌, List, ℤ, pos, negsuc, neg_ℤ, ◌+ℤ◌, ◌-ℤ◌, ◌*ℤ◌, ◌<ℤ◌, ◌≤ℤ◌, Bool, true, false, ◌&&◌, ◌||◌, not, int_le, IsTrue, ◌↔◌, arith}
+use Rattle.std.proofs.Common.{◌≡◌, inl, inr, refl, sym, ap, subst, ◌+◌, ◌^◌, List, ℤ, pos, negsuc, neg_ℤ, ◌+ℤ◌, ◌-ℤ◌, ◌*ℤ◌, ◌<ℤ◌, ◌≤ℤ◌, Bool, true, false, ◌&&◌, ◌||◌, not, int_le, IsTrue, ◌↔◌, arith}
 use Rattle.std.proofs.lemmas.Bool.{and_parts, and_from, or_cases, or_left, or_right}
 use Rattle.integer_laws.proofs.Ring.{lin, by_ring, by_one, by_two, by_equations, Term, Var, Lit, ◌⊕◌, ◌⊖◌, ◌⊗◌, Neg, mul_comm, one_mul, minus_one_mul, zero_mul}
 use Rattle.integer_laws.proofs.Compare.{lt_or_ge, le_of_eq, int_le_is}
@@ -211,12 +211,12 @@ mean_of_means r m n u v w u' v' w' x y z p q one one' is is' h =
     by_equations (r ∷ m ∷ n ∷ u ∷ v ∷ w ∷ u' ∷ v' ∷ w' ∷ x ∷ y ∷ z ∷ p ∷ q ∷ [])
     (Var 0 ⊗ ((i ⊕ j) ⊕ k)) ((i ⊗ Var 9 ⊕ j ⊗ Var 10) ⊕ k ⊗ Var 11)
     (
-      (Var 0 ⊗ Var 1, (Var 3 ⊕ Var 4) ⊕ Var 5, Lit (pos 1))
-      ∷ (Var 0 ⊗ Var 2, (Var 6 ⊕ Var 7) ⊕ Var 8, Lit (pos 1))
-      ∷ (Var 1, Var 12, (Var 3 ⊗ Var 9 ⊕ Var 4 ⊗ Var 10) ⊕ Var 5 ⊗ Var 11)
-      ∷ (Var 2, Var 13, (Var 6 ⊗ Var 9 ⊕ Var 7 ⊗ Var 10) ⊕ Var 8 ⊗ Var 11)
-      ∷ (Lit (pos 1), Var 0 ⊗ (Var 1 ⊕ Var 2), Var 1 ⊗ Var 12 ⊕ Var 2 ⊗ Var 13)
-      ∷ [])
+    (Var 0 ⊗ Var 1, (Var 3 ⊕ Var 4) ⊕ Var 5, Lit (pos 1))
+    ∷ (Var 0 ⊗ Var 2, (Var 6 ⊕ Var 7) ⊕ Var 8, Lit (pos 1))
+    ∷ (Var 1, Var 12, (Var 3 ⊗ Var 9 ⊕ Var 4 ⊗ Var 10) ⊕ Var 5 ⊗ Var 11)
+    ∷ (Var 2, Var 13, (Var 6 ⊗ Var 9 ⊕ Var 7 ⊗ Var 10) ⊕ Var 8 ⊗ Var 11)
+    ∷ (Lit (pos 1), Var 0 ⊗ (Var 1 ⊕ Var 2), Var 1 ⊗ Var 12 ⊕ Var 2 ⊗ Var 13)
+    ∷ [])
     refl (one, (one', (is, (is', (h, tt)))))
 
 sum_of_means : (m n u v w u' v' w' : ℤ) → (u +ℤ v) +ℤ w ≡ pos 1 → (u' +ℤ v') +ℤ w' ≡ pos 1
@@ -368,17 +368,17 @@ module _ (t : Triangle) (p : Coord) (ra : IsInRange t.a) (rb : IsInRange t.b) (r
   amid_of h =
       and_from _ _
       (some_of (is_before p t.a) (is_before p t.b) (is_before p t.c) (λ a b c. (
-          let la = sweep-before p t.a rp ra a in
-          let lb = sweep-before p t.b rp rb b in
-          let lc = sweep-before p t.c rp rc c in
-          let above = sweep_at_least (s p +ℤ pos 1) t p h (omega (arith, lin)) (omega (arith, lin)) (omega (arith, lin)) in
-          omega (arith, lin))))
+      let la = sweep-before p t.a rp ra a in
+      let lb = sweep-before p t.b rp rb b in
+      let lc = sweep-before p t.c rp rc c in
+      let above = sweep_at_least (s p +ℤ pos 1) t p h (omega (arith, lin)) (omega (arith, lin)) (omega (arith, lin)) in
+      omega (arith, lin))))
       (some_of (is_before t.a p) (is_before t.b p) (is_before t.c p) (λ a b c. (
-          let la = sweep-before t.a p ra rp a in
-          let lb = sweep-before t.b p rb rp b in
-          let lc = sweep-before t.c p rc rp c in
-          let below = sweep_at_most (s p -ℤ pos 1) t p h (omega (arith, lin)) (omega (arith, lin)) (omega (arith, lin)) in
-          omega (arith, lin))))
+      let la = sweep-before t.a p ra rp a in
+      let lb = sweep-before t.b p rb rp b in
+      let lc = sweep-before t.c p rc rp c in
+      let below = sweep_at_most (s p -ℤ pos 1) t p h (omega (arith, lin)) (omega (arith, lin)) (omega (arith, lin)) in
+      omega (arith, lin))))
 
   -- ---- the signs of the turns
 

@@ -1,9 +1,8 @@
 -- The slots of cells: a point, or nothing where it has gone; and what a search among them knows.
-use Rattle.std.specs.Prelude.{◌≡◌, ◌⊎◌, ℕ, ◌<◌, false, List, length, flat_map, option_to_list, Option, Some, None, slice_get}
+use Rattle.std.specs.Prelude.{◌≡◌, ◌⊎◌, ℕ, false, List, length, flat_map, option_to_list, Option, Some, None, slice_get}
 use Rattle.cov_types.specs.declared.coord.Coord.{Coord}
 use Rattle.cov_types.specs.Coord.{is_before}
 use Rattle.cov_types.specs.Range.{IsInRange}
-use Rattle.greedy_run.specs.Run.{Triangle}
 use Rattle.box_tree.specs.Rect.{IsInside, box_of_point}
 use Rattle.box_tree.specs.declared.rect.Rect.{Rect}
 use Rattle.cov_cells.specs.Way.{IsInWay}

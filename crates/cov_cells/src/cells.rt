@@ -48,9 +48,11 @@ impl Cells {
     pub fn remove(&mut self, p: Coord)
         ensures { self.new ≡ current (p ∷ []) self.old }
     {
-        while let Some(found) =
-            first_wanted::<Brand>(self.slots.as_slice(), &self.tree, Wanted::At(p))
-        {
+        while let Some(found) = first_wanted::<Brand>(
+            self.slots.as_slice(),
+            &self.tree,
+            Wanted::At(p),
+        ) {
             self.slots[found.place] = None;
         }
     }

@@ -1,4 +1,4 @@
-use Rattle.std.proofs.Common.{◌≡◌, ◌∙◌, sym, subst, ap, ℤ, Bool, ◌&&◌, IsTrue, ◌↔◌, FitsSigned, rules}
+use Rattle.std.proofs.Common.{◌≡◌, ◌∙◌, sym, subst, Bool, ◌&&◌, IsTrue, ◌↔◌, FitsSigned, rules}
 use Rattle.std.proofs.lemmas.Int.{to_z-of_z}
 use mir.Syntax.{w64}
 use Rattle.plane.specs.Segment.{turn_of}

@@ -1,4 +1,4 @@
-use Rattle.std.proofs.Common.{sym, ◌∙◌, ap, refl}
+use Rattle.std.proofs.Common.{◌∙◌, ap}
 use Rattle.cov_cells.specs.Slots.{living}
 use Rattle.cov_cells.proofs.Looking.{first_found, none_found}
 use Rattle.cov_cells.proofs.cells.Cells.first_in.Goals as goal

@@ -1,4 +1,3 @@
-use Rattle.cov_cells.specs.declared.wanted.Wanted.TheVariants.{At, InWay}
 use Rattle.cov_cells.proofs.cells.Cells.first_in.Given as goal
 
 abbrev pub ghosts-first_wanted : goal.ghosts-first_wanted

@@ -1,7 +1,6 @@
 use Rattle.std.proofs.Common.{◌≡◌, [], ◌∷◌, length}
 use Rattle.greedy_run.specs.Run.{current}
 use Rattle.cov_cells.specs.Slots.{living, AreCells}
-use Rattle.cov_cells.specs.declared.wanted.Wanted.TheVariants.{At}
 use Rattle.cov_cells.proofs.cells.Cells.remove.Given as goal
 
 abbrev pub invariant-loop-found : goal.invariant-loop-found

@@ -1,0 +1,7 @@
+//! How wide a gap is, exactly.
+#![tactic(auto)]
+
+mod near;
+mod own;
+mod search;
+mod square;

@@ -1,18 +1,17 @@
 -- What the room of a centre says of a square.
 use mathlib.Core.List.{[], ◌∷◌}
-use Rattle.std.proofs.Common.{◌≡◌, refl, sym, ◌∙◌, ap, subst, ℕ, ◌+◌, ◌*◌, ◌<◌, ◌≤◌, Bool, true, false, List, length, filter, nat_lt, Contains, IsTrue, ◌⊎◌, Result, Ok, Err, IfOk, inl, inr, ℤ, pos, ◌+ℤ◌, ◌-ℤ◌, ◌*ℤ◌, ◌≤ℤ◌, arith}
+use Rattle.std.proofs.Common.{◌≡◌, refl, sym, ◌∙◌, subst, ℕ, ◌+◌, ◌*◌, ◌<◌, ◌≤◌, Bool, true, false, not, List, length, filter, nat_lt, Contains, IsTrue, ◌⊎◌, Result, Ok, Err, IfOk, inl, inr, ℤ, pos, ◌+ℤ◌, ◌-ℤ◌, ◌*ℤ◌, ◌≤ℤ◌, arith}
 use Rattle.std.proofs.Math.Nat.{mul-le-mul}
 use Rattle.std.proofs.lemmas.Bool.{cases_lt, ltb-false}
 use Rattle.std.proofs.lemmas.List.{length-map}
-use Rattle.std.proofs.lemmas.Bool.Decides.{nat_tests}
 use Rattle.cov_types.specs.declared.coord.Coord.{Coord}
 use Rattle.cov_types.specs.declared.seg.Seg.{Seg}
-use Rattle.integer_laws.proofs.Ring.{lin, by_ring, Term, Var, Lit, ◌⊕◌, ◌⊖◌, ◌⊗◌}
-use Rattle.integer_laws.proofs.Cast.{pos_mul, pos_le, pos_positive}
+use Rattle.integer_laws.proofs.Ring.{lin, by_ring, Var, Lit, ◌⊕◌, ◌⊖◌, ◌⊗◌}
+use Rattle.integer_laws.proofs.Cast.{pos_positive}
 use Rattle.integer_laws.proofs.Sign.{positive_times_positive, square_nonneg}
-use Rattle.plane.specs.Point.{Point, at_coord}
+use Rattle.plane.specs.Point.{at_coord}
 use Rattle.plane.specs.Segment.{IsOn}
-use Rattle.plane.specs.Region.{IsRegionOf, IsOuterRegion}
+use Rattle.plane.specs.Region.{IsRegionOf}
 use Rattle.arrangement.proofs.Labels.{mapped}
 use Rattle.arrangement.proofs.LiveOverlays.{kept, kept_is}
 use Rattle.crossing_laws.specs.Crossing.{crossing_sum}
@@ -25,7 +24,7 @@ use Rattle.region_owners.proofs.NearestOwn.{room_by_own}
 use Rattle.clearance_laws.specs.Inside.{half_point, IsOffOwn}
 use Rattle.clearance_laws.specs.Near.{IsNear}
 use Rattle.clearance_laws.specs.Quarter.{IsInSquare, centre, quarter}
-use Rattle.clearance_laws.proofs.Near.{is_near-sym, less_room, room_bound, handed_down}
+use Rattle.clearance_laws.proofs.Near.{is_near-sym, room_bound, handed_down}
 use Rattle.clearance_laws.proofs.Outside.{room_to_outside, stays_inside, half_region}
 use Rattle.clearance_laws.proofs.Quarters.{covered, in_whole, near_centre}
 use Rattle.gap_width.specs.declared.own.OwnEdge.{OwnEdge}
@@ -213,7 +212,14 @@ in_quarter s t east north is k half q in_k =
     let same : k ≡ t.side = (let is_half = is.half in omega (arith, half)) in
     subst (λ a. IsInSquare a t.side q) (sym is.corner) (subst (λ n. IsInSquare (quarter s.corner n east north) n q) same in_k)
 
-module _ (edges : List Seg) (r enough : ℕ) (s a b c d : Square) (is_a : IsQuarter s a false false) (is_b : IsQuarter s b true false) (is_c : IsQuarter s c false true) (is_d : IsQuarter s d true true) where
+same_or_other : (x y : Bool) → (x ≡ y) ⊎ (x ≡ not y)
+same_or_other true true = inl refl
+same_or_other true false = inr refl
+same_or_other false true = inr refl
+same_or_other false false = inl refl
+
+module _ (edges : List Seg) (r enough : ℕ) (s a b c d : Square) (e n : Bool)
+    (is_a : IsQuarter s a e n) (is_b : IsQuarter s b (not e) n) (is_c : IsQuarter s c e (not n)) (is_d : IsQuarter s d (not e) (not n)) where
   -- the best of the four quarters, one after the other, is that of the square
   pub four_is : (best first second third fourth : ℕ) → IsBest edges r enough a best first → IsBest edges r enough b first second → IsBest edges r enough c second third → IsBest edges r enough d third fourth
       → IsBest edges r enough s best fourth
@@ -244,20 +250,29 @@ module _ (edges : List Seg) (r enough : ℕ) (s a b c d : Square) (is_a : IsQuar
 
       at_most : fourth < enough → (q : Coord) (w : ℕ) → IsRegionOf edges (at_coord q) r → ((e : Seg) → IsEdgeOf edges r e → HasRoom q w e)
           → (east north : Bool) → IsInSquare (quarter s.corner a.side east north) a.side (doubled q) → w ≤ fourth
-      at_most less q w within all east north in_q = (
+      at_most less q w within all east north in_q =
           let lb = of_b.no_less in
           let lc = of_c.no_less in
           let ld = of_d.no_less in
-          by east north in_q lb lc ld
-          )
+          elim (same_or_other east e) [
+            | inl x ↦ elim (same_or_other north n) [
+              | inl y ↦ (let le = of_a.greatest (omega (arith, less, lb, lc, ld)) q w (in_quarter s a e n is_a a.side is_a.half (doubled q) (moved e n x y)) within all in omega (arith, le, lb, lc, ld))
+              | inr y ↦ (let le = of_c.greatest (omega (arith, less, ld)) q w (in_quarter s c e (not n) is_c a.side is_a.half (doubled q) (moved e (not n) x y)) within all in omega (arith, le, ld))
+            ]
+            | inr x ↦ elim (same_or_other north n) [
+              | inl y ↦ (let le = of_b.greatest (omega (arith, less, lc, ld)) q w (in_quarter s b (not e) n is_b a.side is_a.half (doubled q) (moved (not e) n x y)) within all in omega (arith, le, lc, ld))
+              | inr y ↦ of_d.greatest less q w (in_quarter s d (not e) (not n) is_d a.side is_a.half (doubled q) (moved (not e) (not n) x y)) within all
+            ]
+          ]
         where
-          by : (east north : Bool) → IsInSquare (quarter s.corner a.side east north) a.side (doubled q) → first ≤ second → second ≤ third → third ≤ fourth → w ≤ fourth
-          by false false in_q lb lc ld = (let le = of_a.greatest (omega (arith, less, lb, lc, ld)) q w (in_quarter s a false false is_a a.side is_a.half (doubled q) in_q) within all in omega (arith, le, lb, lc, ld))
-          by true false in_q lb lc ld = (let le = of_b.greatest (omega (arith, less, lc, ld)) q w (in_quarter s b true false is_b a.side is_a.half (doubled q) in_q) within all in omega (arith, le, lc, ld))
-          by false true in_q lb lc ld = (let le = of_c.greatest (omega (arith, less, ld)) q w (in_quarter s c false true is_c a.side is_a.half (doubled q) in_q) within all in omega (arith, le, ld))
-          by true true in_q lb lc ld = of_d.greatest less q w (in_quarter s d true true is_d a.side is_a.half (doubled q) in_q) within all
+          moved : (x y : Bool) → east ≡ x → north ≡ y → IsInSquare (quarter s.corner a.side x y) a.side (doubled q)
+          moved x y is_x is_y = subst (λ b. IsInSquare (quarter s.corner a.side b y) a.side (doubled q)) is_x (subst (λ b. IsInSquare (quarter s.corner a.side east b) a.side (doubled q)) is_y in_q)
 
 -- what holds of a value where there is one
 pub if_ok : {X E : Type 0} (P Q : X → Type 0) (r : Result X E) → IfOk r P → ((x : X) → P x → Q x) → IfOk r Q
 if_ok P Q (Ok x) h more = more x h
 if_ok P Q (Err e) h more = tt
+
+pub if_ok_both : {X E : Type 0} (P Q R : X → Type 0) (r : Result X E) → IfOk r P → IfOk r Q → ((x : X) → P x → Q x → R x) → IfOk r R
+if_ok_both P Q R (Ok x) h k more = more x h k
+if_ok_both P Q R (Err e) h k more = tt

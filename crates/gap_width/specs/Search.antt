@@ -1,5 +1,5 @@
 -- What a search by squares knows.
-use Rattle.std.specs.Prelude.{◌≡◌, ℕ, ◌+◌, ◌*◌, ◌^◌, ◌≤◌, ◌<◌, List, Bool, IsTrue, Contains, Some, slice_get, pos, neg_ℤ, ◌+ℤ◌, ◌≤ℤ◌}
+use Rattle.std.specs.Prelude.{◌≡◌, ℕ, ◌+◌, ◌^◌, ◌≤◌, ◌<◌, List, IsTrue, Contains, pos, neg_ℤ, ◌+ℤ◌, ◌≤ℤ◌}
 use Rattle.cov_types.specs.declared.coord.Coord.{Coord}
 use Rattle.cov_types.specs.declared.coord.TheConstants.{LIMIT}
 use Rattle.cov_types.specs.declared.seg.Seg.{Seg}
@@ -12,7 +12,7 @@ use Rattle.clearance_laws.specs.Inside.{half_point}
 use Rattle.clearance_laws.specs.Quarter.{IsInSquare}
 use Rattle.gap_width.specs.declared.own.OwnEdge.{OwnEdge}
 use Rattle.gap_width.specs.declared.square.Square.{Square}
-use Rattle.gap_width.specs.Own.{edges_in, AreOwn}
+use Rattle.gap_width.specs.Own.{edges_in}
 
 -- the square has a power of two of grid points on a side, at most 2^29, and all of them are in range
 pub record IsSquare (s : Square) : Type 0 where
@@ -55,3 +55,9 @@ pub record IsBest (edges : List Seg) (r enough : ℕ) (s : Square) (best found :
   pub reached : best < found → HasRoomWithin edges r found
   pub greatest : found < enough → (q : Coord) (w : ℕ) → IsWithinSquare s (doubled q) → IsRegionOf edges (at_coord q) r
       → ((e : Seg) → IsEdgeOf edges r e → HasRoom q w e) → w ≤ found
+
+-- the greater of best and the room of the region's grid points, or enough or more of that
+pub record IsMost (edges : List Seg) (r enough best found : ℕ) : Type 0 where
+  pub no_less : best ≤ found
+  pub reached : best < found → HasRoomWithin edges r found
+  pub greatest : found < enough → (w : ℕ) → HasRoomWithin edges r w → w ≤ found

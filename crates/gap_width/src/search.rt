@@ -50,10 +50,34 @@ pub fn most_room(
     }
     let near = edges_within(alloc, near, centre, room as u64 + 1 + 2 * far as u64)?;
     let known = Square { inside, ..square };
-    let best = most_room(alloc, own, &near, known.quarter(false, false), best, enough)?;
-    let best = most_room(alloc, own, &near, known.quarter(true, false), best, enough)?;
-    let best = most_room(alloc, own, &near, known.quarter(false, true), best, enough)?;
-    most_room(alloc, own, &near, known.quarter(true, true), best, enough)
+    let (east, north) = roomiest(&near, known);
+    let best = most_room(alloc, own, &near, known.quarter(east, north), best, enough)?;
+    let best = most_room(alloc, own, &near, known.quarter(!east, north), best, enough)?;
+    let best = most_room(alloc, own, &near, known.quarter(east, !north), best, enough)?;
+    most_room(alloc, own, &near, known.quarter(!east, !north), best, enough)
+}
+
+// The quarter whose centre has the most room, to be searched first: whether it is an eastern one, and a northern one.
+fn roomiest(near: &[OwnEdge], square: Square) -> (bool, bool)
+    requires near { All IsSmallEdge near.now }
+    requires some { 0 < length near.now }
+    requires square { IsSquare square }
+    requires several { 1 < square.side }
+{
+    let mut found = (true, true);
+    // Of two points on a side the order does not matter.
+    if square.side == 2 {
+        return found;
+    }
+    let mut most = 0;
+    for (east, north) in [(false, false), (true, false), (false, true), (true, true)] {
+        let here = room(near, square.quarter(east, north).centre());
+        if here > most {
+            most = here;
+            found = (east, north);
+        }
+    }
+    found
 }
 
 // Whether the square is known to be in the region: it was, or its centre is further from all edges than the square reaches, and in it.

@@ -1,10 +1,14 @@
-ghost use Rattle.std.specs.Prelude.{◌≡◌, ℕ, ◌+◌, ◌*◌, ◌^◌, ◌≤◌, ◌<◌, ◌+ℤ◌, ◌-ℤ◌, ◌*ℤ◌, ◌≤ℤ◌, pos, Bool, cond};
+ghost use Rattle.std.specs.Prelude.{◌≡◌, ℕ, ◌+◌, ◌*◌, ◌^◌, ◌≤◌, ◌<◌, ◌+ℤ◌, ◌-ℤ◌, ◌*ℤ◌, ◌≤ℤ◌, ◌<ℤ◌, pos, Bool, false, cond};
 ghost use Rattle.integer_laws.specs.Bound.{IsWithin};
-ghost use Rattle.clearance_laws.specs.Quarter.{centre, quarter};
+ghost use Rattle.cov_types.specs.Range.{IsInRange};
+ghost use Rattle.cov_types.specs.declared.coord.Coord.{Coord};
+ghost use Rattle.cov_types.specs.declared.coord.TheConstants.{LIMIT};
+ghost use Rattle.distance_laws.specs.Room.{doubled};
+ghost use Rattle.clearance_laws.specs.Quarter.{IsInSquare, centre, quarter};
 ghost use Rattle.grid_pred.specs.Half.{IsHalfInRange};
 ghost use Rattle.gap_width.specs.Search.{IsSquare};
 
-use cov_types::Coord;
+use cov_types::{Coord, LIMIT};
 use grid_pred::root;
 
 /// A square of grid points: its least corner, how many there are on a side, and whether it is known to be inside the region.
@@ -62,6 +66,22 @@ impl Square {
             side,
             inside: self.inside,
         }
+    }
+}
+
+/// A square of all grid points in range but those in the last column and the last row.
+pub fn whole_range() -> Square
+    ensures square { IsSquare result }
+    ensures unknown { result.inside ≡ false }
+    ensures wide { (q : Coord) → IsInRange q → (q.x <ℤ LIMIT) → (q.y <ℤ LIMIT) → IsInSquare result.corner result.side (doubled q) }
+{
+    Square {
+        corner: Coord {
+            x: -LIMIT,
+            y: -LIMIT,
+        },
+        side: 536_870_912,
+        inside: false,
     }
 }
 

@@ -1,4 +1,4 @@
-use Rattle.std.proofs.Common.{◌≡◌, ◌∙◌, ◌≤◌, ◌*◌, ◌^◌, sym, subst, arith}
+use Rattle.std.proofs.Common.{◌≤◌, ◌*◌, ◌^◌, sym, subst, arith}
 use Rattle.gap_width.proofs.Steps.{root_at_most, room_is}
 use Rattle.gap_width.specs.Search.{IsRoom}
 use Rattle.gap_width.proofs.near.room.Goals as goal

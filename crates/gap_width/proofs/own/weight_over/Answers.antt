@@ -1,5 +1,4 @@
-use mir.Syntax.{w64}
-use Rattle.std.proofs.Common.{◌≡◌, ◌∙◌, ◌+◌, ◌<◌, ◌^◌, ◌+ℤ◌, ℤ, ap, sym, refl, subst, to_z, arith}
+use Rattle.std.proofs.Common.{◌∙◌, ◌+◌, ◌<◌, ◌^◌, ap, sym, refl, subst, arith}
 use Rattle.integer_laws.proofs.Bound.{IsWithin, within_sum, within_more}
 use Rattle.clearance_laws.specs.Inside.{half_point}
 use Rattle.gap_width.proofs.Steps.{sum_over, sum_not_over, weight_more}

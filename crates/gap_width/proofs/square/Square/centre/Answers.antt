@@ -1,4 +1,4 @@
-use Rattle.std.proofs.Common.{◌≤◌, subst, sym, ◌^◌}
+use Rattle.std.proofs.Common.{◌≤◌, subst, sym}
 use Rattle.gap_width.proofs.Steps.{some_points, centre_read}
 use Rattle.gap_width.proofs.square.Square.centre.Goals as goal
 

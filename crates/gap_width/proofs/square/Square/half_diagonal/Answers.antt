@@ -1,4 +1,4 @@
-use Rattle.std.proofs.Common.{◌≡◌, ◌≤◌, ◌-◌, ◌*◌, ◌^◌, subst, sym, arith}
+use Rattle.std.proofs.Common.{◌≤◌, ◌-◌, ◌^◌, subst, sym, arith}
 use Rattle.gap_width.proofs.Steps.{some_points, diagonal_reaches, diagonal_small}
 use Rattle.gap_width.proofs.square.Square.half_diagonal.Goals as goal
 

@@ -1,6 +1,4 @@
 use Rattle.std.proofs.Common.{◌/◌, arith}
-use Rattle.std.proofs.lemmas.Int.{ints}
-use Rattle.integer_laws.proofs.Ring.{lin}
 use Rattle.gap_width.proofs.Steps.{half_power, further_in}
 use Rattle.gap_width.proofs.square.Square.quarter.Goals as goal
 

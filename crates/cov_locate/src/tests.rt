@@ -91,7 +91,6 @@ fn the_first_faulty_line(rt: HostRuntime) {
     let far = PointsFault::OutOfRange { line: 0 };
     assert_eq!(rt; fault_of(&rt, alloc, b"3 268435457"), far);
     assert_eq!(rt; fault_of(&rt, alloc, b"-99999999999999999999 3\n1 x"), far);
-    Ok(())
 }
 
 // A member of squares, by their lower left and upper right corners.

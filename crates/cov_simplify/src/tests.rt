@@ -21,14 +21,8 @@ fn member(alloc: Global, numbers: &[(i32, i32)]) -> Result<Member, AllocError> {
 /// Two squares with a common side that is bent at (11, 5).
 fn neighbours(alloc: Global) -> Result<Coverage, AllocError> {
     let mut members = Vec::new(alloc);
-    members.push(member(
-        alloc,
-        &[(0, 0), (10, 0), (11, 5), (10, 10), (0, 10)],
-    )?)?;
-    members.push(member(
-        alloc,
-        &[(10, 0), (20, 0), (20, 10), (10, 10), (11, 5)],
-    )?)?;
+    members.push(member(alloc, &[(0, 0), (10, 0), (11, 5), (10, 10), (0, 10)])?)?;
+    members.push(member(alloc, &[(10, 0), (20, 0), (20, 10), (10, 10), (11, 5)])?)?;
     Ok(Coverage { members })
 }
 
@@ -46,13 +40,15 @@ fn neighbours_have_three_lines(rt: HostRuntime) -> Result<(), Fail> {
     let alloc = rt.alloc();
     let lines = lines(alloc, &admitted(alloc, &rt, neighbours(alloc)?)?)?;
     assert_eq!(rt; lines.len(), 3);
-    let sizes = [4, 3, 4];
-    let left = [None, Some(0), Some(1)];
-    let right = [Some(0), Some(1), None];
-    for (i, line) in lines.iter().enumerate() {
-        assert_eq!(rt; line.points.len(), sizes[i]);
-        assert_eq!(rt; line.left, left[i]);
-        assert_eq!(rt; line.right, right[i]);
+    let expected = [
+        (4, None, Some(0)),
+        (3, Some(0), Some(1)),
+        (4, Some(1), None),
+    ];
+    for (line, (size, left, right)) in lines.iter().zip(expected.iter()) {
+        assert_eq!(rt; line.points.len(), *size);
+        assert_eq!(rt; line.left, *left);
+        assert_eq!(rt; line.right, *right);
     }
     Ok(())
 }

@@ -9,7 +9,5 @@
 mod coverage_lines;
 mod edges;
 mod side_holder;
-#[cfg(test)]
-mod tests;
 
 pub use coverage_lines::{Line, lines};

@@ -12,8 +12,9 @@ use std::alloc::Global;
 /// A list of uses, asked by the segment of each and by others of the same layout: what differs from a scan.
 pub fn columns_case(alloc: Global, random: &mut Random) -> Result<Option<String>, NoMemory> {
     let layout = random_layout(random);
-    let most = random.below(101);
-    let uses = random_uses(alloc, layout, most, random)?;
+    let most = if random.one_in(20) { 401 } else { 101 };
+    let count = random.below(most);
+    let uses = random_uses(alloc, layout, count, random)?;
     let columns = Columns::build(alloc, &uses)?;
     for u in &uses {
         let difference = near_difference(alloc, &columns, &uses, u.seg)?;
@@ -61,7 +62,5 @@ fn near_difference(
         return Ok(None);
     }
     let count = uses.len();
-    Ok(Some(
-        format!(in alloc; "{count} uses, {s:?}: near {near:?}, scan {scanned:?}")?,
-    ))
+    Ok(Some(format!(in alloc; "{count} uses, {s:?}: near {near:?}, scan {scanned:?}")?))
 }

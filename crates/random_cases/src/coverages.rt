@@ -1,85 +1,87 @@
 //! Coverages that random numbers make.
 
-ghost use Rattle.std.specs.Prelude.{◌<◌, ◌≤◌};
+ghost use Rattle.std.specs.Prelude.{◌<◌, ◌≤◌, All, IfOk};
+ghost use Rattle.cov_types.specs.Coverage.{AllInRange};
+ghost use Rattle.cov_types.specs.Range.{IsSegInRange};
 
+use crate::points::{Grid, any_point, random_grid};
 use crate::random::Random;
-use cov_types::{Coord, Coverage, Member, NoMemory, Poly, Ring};
+use cov_types::{Coord, Coverage, EdgeUse, Member, NoMemory, Poly, Ring, in_range, uses};
 use std::alloc::Global;
 
-/// A coverage of up to about a hundred segments, on a few units, so that much of it touches.
-pub fn random_coverage(alloc: Global, random: &mut Random) -> Result<Coverage, NoMemory> {
-    match random.below(3) {
-        0 => any_rings(alloc, random),
-        1 => rectangles(alloc, random),
-        _ => cells(alloc, random),
+/// A coverage of few to some hundreds of segments, much of which touches.
+pub fn random_coverage(alloc: Global, random: &mut Random) -> Result<Coverage, NoMemory>
+    ensures { IfOk result AllInRange }
+{
+    let coverage = match random.below(4) {
+        0 => any_rings(alloc, random)?,
+        1 => rectangles(alloc, random)?,
+        2 => cells(alloc, random)?,
+        _ => bands(alloc, random)?,
+    };
+    // They all are; this test has it said.
+    if in_range(&coverage) {
+        Ok(coverage)
+    } else {
+        Ok(Coverage {
+            members: Vec::new(alloc),
+        })
     }
+}
+
+/// The uses of such a coverage.
+pub fn coverage_uses(alloc: Global, random: &mut Random) -> Result<Vec<EdgeUse>, NoMemory>
+    ensures { IfOk result (λ uses. All (λ u. IsSegInRange u.seg) uses.items) }
+{
+    let coverage = random_coverage(alloc, random)?;
+    uses(alloc, &coverage)
 }
 
 // ---- any rings
 
-// Members of up to two polygons of up to two rings between any points of a few units.
+// Members of up to two polygons of up to two rings between any points of a grid.
 fn any_rings(alloc: Global, random: &mut Random) -> Result<Coverage, NoMemory> {
-    let size = 3 + random.below(8);
+    let grid = random_grid(random);
     let mut members = Vec::new(alloc);
     for _ in 0..random.below(7) {
-        members.push(any_member(alloc, size, random)?)?;
+        members.push(any_member(alloc, grid, random)?)?;
     }
     Ok(Coverage { members })
 }
 
-fn any_member(alloc: Global, size: u32, random: &mut Random) -> Result<Member, NoMemory>
-    requires some { 0 < size }
-    requires few { size ≤ 16 }
-{
+fn any_member(alloc: Global, grid: Grid, random: &mut Random) -> Result<Member, NoMemory> {
     let mut polys = Vec::new(alloc);
     for _ in 0..random.below(3) {
-        polys.push(any_polygon(alloc, size, random)?)?;
+        polys.push(any_polygon(alloc, grid, random)?)?;
     }
     Ok(Member { polys })
 }
 
-fn any_polygon(alloc: Global, size: u32, random: &mut Random) -> Result<Poly, NoMemory>
-    requires some { 0 < size }
-    requires few { size ≤ 16 }
-{
+fn any_polygon(alloc: Global, grid: Grid, random: &mut Random) -> Result<Poly, NoMemory> {
     let mut rings = Vec::new(alloc);
     for _ in 0..1 + random.below(2) {
-        rings.push(any_ring(alloc, size, random)?)?;
+        rings.push(any_ring(alloc, grid, random)?)?;
     }
     Ok(Poly { rings })
 }
 
-fn any_ring(alloc: Global, size: u32, random: &mut Random) -> Result<Ring, NoMemory>
-    requires some { 0 < size }
-    requires few { size ≤ 16 }
-{
+fn any_ring(alloc: Global, grid: Grid, random: &mut Random) -> Result<Ring, NoMemory> {
     let mut points = Vec::new(alloc);
     for _ in 0..3 + random.below(4) {
-        points.push(any_point(size, random))?;
+        points.push(any_point(grid, random))?;
     }
     Ok(Ring { points })
-}
-
-fn any_point(size: u32, random: &mut Random) -> Coord
-    requires some { 0 < size }
-    requires few { size ≤ 16 }
-{
-    Coord {
-        x: random.below(size) as i32,
-        y: random.below(size) as i32,
-    }
 }
 
 // ---- rectangles
 
 // Members of one rectangle each, which overlap, hold one another and touch.
 fn rectangles(alloc: Global, random: &mut Random) -> Result<Coverage, NoMemory> {
-    let size = 3 + random.below(8);
+    let grid = random_grid(random);
     let mut members = Vec::new(alloc);
     for _ in 0..random.below(20) {
-        let lo = any_point(size, random);
-        let hi = any_point(size, random);
-        members.push(member_of(alloc, rectangle(alloc, lo, hi)?)?)?;
+        let ring = rectangle(alloc, any_point(grid, random), any_point(grid, random))?;
+        members.push(member_of(alloc, ring)?)?;
     }
     Ok(Coverage { members })
 }
@@ -109,10 +111,10 @@ fn rectangle(alloc: Global, a: Coord, b: Coord) -> Result<Ring, NoMemory> {
 fn cells(alloc: Global, random: &mut Random) -> Result<Coverage, NoMemory> {
     let wide = 1 + random.below(5);
     let high = 1 + random.below(5);
-    let mut members: Vec<Member> = Vec::new(alloc);
-    for y in 0..high {
-        for x in 0..wide {
-            add_cell(alloc, &mut members, x, y, random)?;
+    let mut members = Vec::new(alloc);
+    for k in 0..wide * high {
+        if !random.one_in(10) {
+            add_cell(alloc, &mut members, k % wide, k / wide, random)?;
         }
     }
     Ok(Coverage { members })
@@ -125,12 +127,9 @@ fn add_cell(
     y: u32,
     random: &mut Random,
 ) -> Result<(), NoMemory>
-    requires left { x < 16 }
-    requires low { y < 16 }
+    requires left { x < 100 }
+    requires low { y < 100 }
 {
-    if random.one_in(10) {
-        return Ok(());
-    }
     let mut member = member_of(alloc, cell(alloc, x, y, random)?)?;
     if random.one_in(10) {
         if let Some(before) = members.pop() {
@@ -153,8 +152,8 @@ fn both(member: Member, other: Member) -> Result<Member, NoMemory> {
 
 // The square in this column and row, four units wide.
 fn cell(alloc: Global, x: u32, y: u32, random: &mut Random) -> Result<Ring, NoMemory>
-    requires left { x < 16 }
-    requires low { y < 16 }
+    requires left { x < 100 }
+    requires low { y < 100 }
 {
     let lo = Coord {
         x: 4 * x as i32,
@@ -173,4 +172,54 @@ fn cell(alloc: Global, x: u32, y: u32, random: &mut Random) -> Result<Ring, NoMe
         })?;
     }
     Ok(ring)
+}
+
+// ---- bands
+
+// Members that lie one above the other, each between two lines of many points. Neighbours have a line in common, and where it is
+// steep it may cross the next one.
+fn bands(alloc: Global, random: &mut Random) -> Result<Coverage, NoMemory> {
+    let length = if random.one_in(10) { 100 } else { 20 };
+    let count = 1 + random.below(length);
+    let steep = 1 + random.below(8);
+    let mut lower = line(alloc, 0, count, steep, random)?;
+    let mut members = Vec::new(alloc);
+    for k in 1..2 + random.below(3) {
+        let upper = line(alloc, k, count, steep, random)?;
+        members.push(member_of(alloc, band(alloc, &lower, &upper)?)?)?;
+        lower = upper;
+    }
+    Ok(Coverage { members })
+}
+
+// So many points from left to right near a height.
+fn line(
+    alloc: Global,
+    k: u32,
+    count: u32,
+    steep: u32,
+    random: &mut Random,
+) -> Result<Vec<Coord>, NoMemory>
+    requires low { k < 100 }
+    requires few { count < 1000 }
+    requires some { 0 < steep }
+    requires flat { steep ≤ 100 }
+{
+    let mut points = Vec::new(alloc);
+    for i in 0..count {
+        points.push(Coord {
+            x: 3 * i as i32,
+            y: 6 * k as i32 + random.below(steep) as i32,
+        })?;
+    }
+    Ok(points)
+}
+
+// The ring along the lower line and back along the upper one.
+fn band(alloc: Global, lower: &[Coord], upper: &[Coord]) -> Result<Ring, NoMemory> {
+    let mut points = Vec::from_slice(alloc, lower)?;
+    for p in upper.iter().rev() {
+        points.push(*p)?;
+    }
+    Ok(Ring { points })
 }

@@ -9,6 +9,7 @@ mod columns;
 mod coverages;
 mod marks;
 mod node;
+mod points;
 mod random;
 mod segments;
 mod tree;
@@ -95,9 +96,9 @@ fn first_difference(alloc: Global, trial: Trial) -> Result<Option<String>, NoMem
         let seed = trial.seed.wrapping_add(k);
         let mut random = Random::of_seed(seed);
         if let Some(difference) = trial.what.case(alloc, &mut random)? {
-            return Ok(Some(
-                format!(in alloc; "case {k}, which is case 0 of seed {seed}: {difference}")?,
-            ));
+            return Ok(Some(format!(in alloc;
+                "case {k}, which is case 0 of seed {seed}: {difference}"
+            )?));
         }
     }
     Ok(None)

@@ -5,7 +5,7 @@ ghost use Rattle.cov_types.specs.Range.{IsSegInRange};
 
 use crate::coverages::random_coverage;
 use crate::random::Random;
-use cov_types::{Coverage, EdgeUse, NoMemory, Seg, in_range, uses};
+use cov_types::{Coverage, EdgeUse, NoMemory, Seg, uses};
 use cov_valid::{Kind, Mark, marks};
 use grid_pred::{Contact, over_mid, over_upper, relation};
 use std::alloc::Global;
@@ -13,9 +13,6 @@ use std::alloc::Global;
 /// A coverage: where its marks differ from the plain ones.
 pub fn marks_case(alloc: Global, random: &mut Random) -> Result<Option<String>, NoMemory> {
     let coverage = random_coverage(alloc, random)?;
-    if !in_range(&coverage) {
-        return Ok(Some(String::from_str(alloc, "a coverage out of range")?));
-    }
     let found = marks(alloc, &coverage, 0)?;
     let list = uses(alloc, &coverage)?;
     let plain = plain_marks(alloc, &list, members_of(&coverage))?;

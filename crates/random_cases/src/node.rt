@@ -1,10 +1,11 @@
 //! Noding against plain snap rounding, by all pairs of segments and all hot pixels.
 
-ghost use Rattle.std.specs.Prelude.{◌≤◌, All, length};
+ghost use Rattle.std.specs.Prelude.{◌≤◌, All, IfOk, length};
 ghost use Rattle.cov_types.specs.Range.{IsSegInRange};
 
+use crate::coverages::coverage_uses;
 use crate::random::Random;
-use crate::segments::{MEMBERS, random_layout, random_uses};
+use crate::segments::{random_layout, random_uses};
 use cov_types::{Coord, EdgeUse, NoMemory, Seg};
 use grid_pred::crossing;
 use hot_pixel::{before, meets, pixel_of};
@@ -13,26 +14,33 @@ use std::alloc::Global;
 
 /// A list of uses: where its noded edges or its odd uses differ from the plain ones.
 pub fn node_case(alloc: Global, random: &mut Random) -> Result<Option<String>, NoMemory> {
-    let layout = random_layout(random);
-    let count = random.below(41);
-    let uses = random_uses(alloc, layout, count, random)?;
+    let uses = if random.one_in(3) {
+        coverage_uses(alloc, random)?
+    } else {
+        any_uses(alloc, random)?
+    };
     let noded = node(alloc, &uses)?;
     let snapped = plain_snapped(alloc, &uses)?;
     let edges = plain_edges(alloc, &snapped)?;
     if noded.edges.as_slice() != edges.as_slice() {
         let found = noded.edges.as_slice();
-        return Ok(Some(
-            format!(in alloc; "edges of {uses:?}: node {found:?}, plain {edges:?}")?,
-        ));
+        return Ok(Some(format!(in alloc; "edges of {uses:?}: node {found:?}, plain {edges:?}")?));
     }
     let odd = plain_odd(alloc, &edges, &snapped)?;
     if noded.odd.as_slice() != odd.as_slice() {
         let found = noded.odd.as_slice();
-        return Ok(Some(
-            format!(in alloc; "odd uses of {uses:?}: node {found:?}, plain {odd:?}")?,
-        ));
+        return Ok(Some(format!(in alloc; "odd uses of {uses:?}: node {found:?}, plain {odd:?}")?));
     }
     Ok(None)
+}
+
+fn any_uses(alloc: Global, random: &mut Random) -> Result<Vec<EdgeUse>, NoMemory>
+    ensures { IfOk result (λ uses. All (λ u. IsSegInRange u.seg) uses.items) }
+{
+    let layout = random_layout(random);
+    let most = if random.one_in(20) { 161 } else { 41 };
+    let count = random.below(most);
+    random_uses(alloc, layout, count, random)
 }
 
 // ---- the plain form
@@ -139,13 +147,9 @@ fn plain_edges(alloc: Global, snapped: &[EdgeUse]) -> Result<Vec<Seg>, NoMemory>
 }
 
 // Of each member, the edges that it uses an odd number of times.
-fn plain_odd(
-    alloc: Global,
-    edges: &[Seg],
-    snapped: &[EdgeUse],
-) -> Result<Vec<OddUse>, NoMemory> {
+fn plain_odd(alloc: Global, edges: &[Seg], snapped: &[EdgeUse]) -> Result<Vec<OddUse>, NoMemory> {
     let mut odd = Vec::new(alloc);
-    for member in 0..MEMBERS {
+    for member in members_of(alloc, snapped)? {
         for (edge, seg) in edges.iter().enumerate() {
             let times = times(snapped, EdgeUse { member, seg: *seg });
             if times % 2 == 1 {
@@ -154,6 +158,17 @@ fn plain_odd(
         }
     }
     Ok(odd)
+}
+
+// The members of the uses, each once, ascending.
+fn members_of(alloc: Global, list: &[EdgeUse]) -> Result<Vec<u32>, NoMemory> {
+    let mut members = Vec::new(alloc);
+    for u in list {
+        members.push(u.member)?;
+    }
+    members.sort_unstable();
+    members.dedup();
+    Ok(members)
 }
 
 // How often the use stands in the list.

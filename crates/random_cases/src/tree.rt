@@ -3,8 +3,9 @@
 ghost use Rattle.std.specs.Prelude.{◌<◌, ◌≤◌};
 ghost use Rattle.box_tree.specs.Probe.{IsProbeInRange};
 
+use crate::points::in_range;
 use crate::random::Random;
-use crate::segments::{in_range, segment};
+use crate::segments::segment;
 use box_tree::{BoxTree, Probe, Rect, curve, narrow_into};
 use cov_types::{Coord, LIMIT, NoMemory};
 use std::alloc::Global;
@@ -85,9 +86,7 @@ fn meeting_difference(
         return Ok(None);
     }
     let count = boxes.len();
-    Ok(Some(
-        format!(in alloc; "{count} boxes, {probe:?}: meeting {found:?}, scan {scanned:?}")?,
-    ))
+    Ok(Some(format!(in alloc; "{count} boxes, {probe:?}: meeting {found:?}, scan {scanned:?}")?))
 }
 
 fn narrow_difference(
@@ -106,9 +105,9 @@ fn narrow_difference(
         return Ok(None);
     }
     let count = boxes.len();
-    Ok(Some(
-        format!(in alloc; "{count} boxes, {own:?} in {round:?}: narrow_into {found:?}, scan {scanned:?}")?,
-    ))
+    Ok(Some(format!(in alloc;
+        "{count} boxes, {own:?} in {round:?}: narrow_into {found:?}, scan {scanned:?}"
+    )?))
 }
 
 // ---- probes

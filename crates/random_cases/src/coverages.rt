@@ -13,13 +13,20 @@ use std::alloc::Global;
 pub fn random_coverage(alloc: Global, random: &mut Random) -> Result<Coverage, NoMemory>
     ensures { IfOk result AllInRange }
 {
+    let grid = random_grid(random);
     let coverage = match random.below(4) {
-        0 => any_rings(alloc, random)?,
-        1 => rectangles(alloc, random)?,
+        0 => any_rings(alloc, grid, random)?,
+        1 => rectangles(alloc, grid, random)?,
         2 => cells(alloc, random)?,
         _ => bands(alloc, random)?,
     };
-    // They all are; this test has it said.
+    if_in_range(alloc, coverage)
+}
+
+// The coverage, or an empty one where it is out of range: none of these is, and so it is said.
+fn if_in_range(alloc: Global, coverage: Coverage) -> Result<Coverage, NoMemory>
+    ensures { IfOk result AllInRange }
+{
     if in_range(&coverage) {
         Ok(coverage)
     } else {
@@ -40,8 +47,7 @@ pub fn coverage_uses(alloc: Global, random: &mut Random) -> Result<Vec<EdgeUse>,
 // ---- any rings
 
 // Members of up to two polygons of up to two rings between any points of a grid.
-fn any_rings(alloc: Global, random: &mut Random) -> Result<Coverage, NoMemory> {
-    let grid = random_grid(random);
+fn any_rings(alloc: Global, grid: Grid, random: &mut Random) -> Result<Coverage, NoMemory> {
     let mut members = Vec::new(alloc);
     for _ in 0..random.below(7) {
         members.push(any_member(alloc, grid, random)?)?;
@@ -76,8 +82,7 @@ fn any_ring(alloc: Global, grid: Grid, random: &mut Random) -> Result<Ring, NoMe
 // ---- rectangles
 
 // Members of one rectangle each, which overlap, hold one another and touch.
-fn rectangles(alloc: Global, random: &mut Random) -> Result<Coverage, NoMemory> {
-    let grid = random_grid(random);
+fn rectangles(alloc: Global, grid: Grid, random: &mut Random) -> Result<Coverage, NoMemory> {
     let mut members = Vec::new(alloc);
     for _ in 0..random.below(20) {
         let ring = rectangle(alloc, any_point(grid, random), any_point(grid, random))?;

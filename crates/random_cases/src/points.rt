@@ -12,6 +12,8 @@ pub enum Grid {
     Narrow,
     /// Of a square of a few units more.
     Wide,
+    /// Of a square with room for points off the lines.
+    Roomy,
     /// Of the border lines of the range, the axes, and the lines beside them.
     Borders,
     /// Of the whole range.
@@ -20,10 +22,11 @@ pub enum Grid {
 
 /// Some grid.
 pub fn random_grid(random: &mut Random) -> Grid {
-    match random.below(8) {
+    match random.below(10) {
         0 | 1 | 2 => Grid::Narrow,
         3 | 4 | 5 => Grid::Wide,
-        6 => Grid::Borders,
+        6 | 7 => Grid::Roomy,
+        8 => Grid::Borders,
         _ => Grid::Whole,
     }
 }
@@ -51,6 +54,7 @@ fn any_coordinate(grid: Grid, random: &mut Random) -> i64 {
     match grid {
         Grid::Narrow => random.below(5) as i64,
         Grid::Wide => random.below(10) as i64,
+        Grid::Roomy => random.below(40) as i64,
         Grid::Borders => {
             let line = random.below(3) as i64 * LIMIT as i64;
             line - LIMIT as i64 + random.below(3) as i64 - 1

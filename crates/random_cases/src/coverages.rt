@@ -14,10 +14,11 @@ pub fn random_coverage(alloc: Global, random: &mut Random) -> Result<Coverage, N
     ensures { IfOk result AllInRange }
 {
     let grid = random_grid(random);
-    let coverage = match random.below(4) {
+    let coverage = match random.below(5) {
         0 => any_rings(alloc, grid, random)?,
         1 => rectangles(alloc, grid, random)?,
-        2 => cells(alloc, random)?,
+        2 => nests(alloc, random)?,
+        3 => cells(alloc, random)?,
         _ => bands(alloc, random)?,
     };
     if_in_range(alloc, coverage)
@@ -92,11 +93,15 @@ fn rectangles(alloc: Global, grid: Grid, random: &mut Random) -> Result<Coverage
 }
 
 fn member_of(alloc: Global, ring: Ring) -> Result<Member, NoMemory> {
+    let mut polys = Vec::new(alloc);
+    polys.push(polygon_of(alloc, ring)?)?;
+    Ok(Member { polys })
+}
+
+fn polygon_of(alloc: Global, ring: Ring) -> Result<Poly, NoMemory> {
     let mut rings = Vec::new(alloc);
     rings.push(ring)?;
-    let mut polys = Vec::new(alloc);
-    polys.push(Poly { rings })?;
-    Ok(Member { polys })
+    Ok(Poly { rings })
 }
 
 // The ring round the box of two points.
@@ -107,6 +112,33 @@ fn rectangle(alloc: Global, a: Coord, b: Coord) -> Result<Ring, NoMemory> {
     points.push(b)?;
     points.push(Coord { x: a.x, y: b.y })?;
     Ok(Ring { points })
+}
+
+// ---- nests
+
+// Members that have some each of the same squares, which lie one within the other.
+fn nests(alloc: Global, random: &mut Random) -> Result<Coverage, NoMemory> {
+    let count = 1 + random.below(8);
+    let mut members = Vec::new(alloc);
+    for _ in 0..1 + random.below(4) {
+        members.push(nest(alloc, count, random)?)?;
+    }
+    Ok(Coverage { members })
+}
+
+fn nest(alloc: Global, count: u32, random: &mut Random) -> Result<Member, NoMemory>
+    requires { count ≤ 10 }
+{
+    let mut polys = Vec::new(alloc);
+    for k in 0..count {
+        if random.one_in(2) {
+            let lo = k as i32;
+            let hi = 20 - lo;
+            let ring = rectangle(alloc, Coord { x: lo, y: lo }, Coord { x: hi, y: hi })?;
+            polys.push(polygon_of(alloc, ring)?)?;
+        }
+    }
+    Ok(Member { polys })
 }
 
 // ---- cells

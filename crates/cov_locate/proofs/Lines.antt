@@ -1,14 +1,13 @@
 -- The lines of a points file, one after the other.
-use Rattle.std.proofs.Common.{◌≡◌, refl, sym, ◌∙◌, ap, subst, ℕ, ◌+◌, ◌<◌, ◌≤◌, ◌==◌, Bool, true, false, cond, List, [], ◌∷◌, ◌++◌, length, get_or, take, drop, All, arith, inl, inr, append_assoc, append-nil, length-drop}
-use Rattle.std.specs.Prelude.{flat_map, Option, Some, None}
+use Rattle.std.proofs.Common.{◌≡◌, refl, sym, ◌∙◌, ap, subst, ℕ, ◌+◌, ◌<◌, ◌≤◌, ◌==◌, Bool, cond, List, [], ◌∷◌, ◌++◌, length, arith, inl, inr, append_assoc, append-nil, length-drop}
+use Rattle.std.specs.Prelude.{Option, Some}
 use Rattle.std.specs.List.{slice_split, position_or_len, before_first, after_first}
 use Rattle.std.proofs.lemmas.Bool.{cases_lt, ne_eqb}
 use Rattle.std.proofs.lemmas.List.{take_all, drop_all}
 use Rattle.std.proofs.lemmas.List.Splits.{slice_split_first, slice_split_none}
 use Rattle.std.proofs.lemmas.List.Sums.{fails_before_first}
-use Rattle.cov_locate.specs.Points.{lines_of, without_empty_end, line_of, points_of, point_of, fault_from, fault_or, ArePoints, IsFaultOf}
+use Rattle.cov_locate.specs.Points.{lines_of, without_empty_end, line_of, points_of, point_of, fault_from, fault_or, ArePoints}
 use Rattle.cov_locate.specs.declared.line.Line.{Line}
-use Rattle.cov_locate.specs.declared.line.Line.TheVariants.{Blank, Point, Syntax, OutOfRange}
 use Rattle.cov_locate.specs.declared.points.PointsFault.{PointsFault}
 use Rattle.cov_types.specs.declared.coord.Coord.{Coord}
 

@@ -1,5 +1,5 @@
 -- Points files: lines of two numbers each.
-use Rattle.std.specs.Prelude.{◌≡◌, ℕ, ◌+◌, Bool, ◌&&◌, ◌||◌, ◌==◌, cond, nat_lt, List, [], ◌∷◌, length, drop, filter, flat_map, Option, Some, None, ℤ, pos, neg_ℤ, int_le, slice_index, if◌then◌else◌}
+use Rattle.std.specs.Prelude.{◌≡◌, ℕ, ◌+◌, Bool, ◌&&◌, ◌||◌, ◌==◌, nat_lt, List, [], ◌∷◌, length, filter, flat_map, Option, Some, None, ℤ, neg_ℤ, int_le, slice_index, if◌then◌else◌}
 use Rattle.std.specs.List.{list_all, slice_split}
 use Rattle.cov_locate.specs.declared.line.Line.{Line}
 use Rattle.cov_locate.specs.declared.line.Line.TheVariants.{Blank, Point, Syntax, OutOfRange}

@@ -1,7 +1,7 @@
-use Rattle.std.proofs.Common.{◌≡◌, ◌<◌, ◌∙◌, List, [], ◌∷◌, ◌++◌, All, length, sym, ap, subst, refl, append-nil, arith}
+use Rattle.std.proofs.Common.{◌≡◌, ◌<◌, ◌∙◌, [], ◌∷◌, ◌++◌, All, length, sym, ap, subst, refl, append-nil, arith}
 use Rattle.std.proofs.lemmas.Bool.{eqb-false}
 use Rattle.std.proofs.lemmas.List.Elements.{All-push}
-use Rattle.cov_locate.proofs.Lines.{IsReadTo, read_more, fault_found}
+use Rattle.cov_locate.proofs.Lines.{read_more, fault_found}
 use Rattle.cov_locate.proofs.points.read_points.Goals as goal
 use Rattle.cov_locate.proofs.points.read_points.Goals.{in-Blank, in-Point+in_ok-push-in-Point}
 use Rattle.cov_locate.specs.Points.{line_of, IsLineInRange}

@@ -1,5 +1,5 @@
 -- From the search in the whole range to clearances and widths.
-use Rattle.std.proofs.Common.{◌≡◌, sym, ◌∙◌, subst, ℕ, ◌+◌, ◌-◌, ◌*◌, ◌<◌, ◌≤◌, ◌^◌, ◌↔◌, Bool, true, false, List, length, All, Contains, Some, slice_get, nat_lt, IsTrue, inl, inr, ℤ, pos, neg_ℤ, ◌*ℤ◌, ◌<ℤ◌, ◌≤ℤ◌, ◌⊎◌, ◌==◌, get_or, arith}
+use Rattle.std.proofs.Common.{◌≡◌, sym, ◌∙◌, subst, ℕ, ◌+◌, ◌-◌, ◌*◌, ◌<◌, ◌≤◌, ◌^◌, ◌↔◌, Bool, true, false, List, length, All, Contains, Option, Some, IfSome, slice_get, nat_lt, IsTrue, inl, inr, ℤ, pos, neg_ℤ, ◌*ℤ◌, ◌<ℤ◌, ◌≤ℤ◌, ◌⊎◌, ◌==◌, get_or, arith}
 use Rattle.std.proofs.lemmas.Bool.{cases_lt, ltb-true, lt-ltb}
 use Rattle.std.proofs.lemmas.List.{length-map}
 use Rattle.std.proofs.lemmas.List.Elements.{All-contains, Contains-get_or}
@@ -9,9 +9,10 @@ use Rattle.cov_types.specs.declared.coord.TheConstants.{LIMIT}
 use Rattle.cov_types.specs.declared.seg.Seg.{Seg}
 use Rattle.cov_types.specs.Range.{IsInRange, IsSegInRange}
 use Rattle.plane.specs.Label.{numbers_below}
-use Rattle.plane.specs.Point.{at_coord}
+use Rattle.plane.specs.Point.{Point, at_coord}
 use Rattle.plane.specs.Segment.{upper, lower}
-use Rattle.plane.specs.Region.{IsOuterRegion, IsRegionOf}
+use Rattle.plane.specs.Region.{IsSide, IsOuterRegion, IsRegionOf}
+use Rattle.crossing_laws.proofs.Located.{side_at, region-joined}
 use Rattle.sector_laws.specs.Sector.{HalfEdge, left, AreDistinct, IsPlanar}
 use Rattle.region_laws.proofs.Numbered.{side_half_edge}
 use Rattle.arrangement.specs.Overlay.{IsRegion}
@@ -108,3 +109,17 @@ has_edge edges r is =
 
 pub some_of : (own : List OwnEdge) (e : Seg) → Contains (edges_in own) e → 0 < length own
 some_of own e (k, below, _) = omega (arith, below, length-map own (λ o. o.edge))
+
+-- the region of a side is a region
+pub region_from : (edges : List Seg) (side r : ℕ) → side < 2 * length edges → ((p : Point) → IsSide edges side p → IsRegionOf edges p r) → IsRegion edges r
+region_from edges side r below is =
+    let (p, at) = side_at edges side below in
+    let its = is p at in
+    record { at = its.joined.at; side = its.joined.side; own = region-joined edges p its.joined.at r its.joined.joined its }
+
+-- one region is outer
+pub one_outer : (edges : List Seg) (r s : ℕ) → IsOuterRegion edges r → IsOuterRegion edges s → r ≡ s
+one_outer edges r s a b = (let first = a.least s b.outer in let second = b.least r a.outer in omega (arith, first, second))
+
+pub outer_at : (P : ℕ → Type 0) (o : Option ℕ) (n : ℕ) → o ≡ Some n → IfSome o P → P n
+outer_at P o n is h = subst (λ x. IfSome x P) is h

@@ -32,42 +32,14 @@ use Rattle.gap_width.specs.Search.{IsBest, IsMost}
 
 -- ---- the points of a region
 
-corner_in_range : (edges : List Seg) (r : ℕ) (c : Coord) → IsPlanar edges → IsCornerOf edges r c → IsInRange c
-corner_in_range edges r c planar corner =
-    let range = All-contains IsSegInRange edges corner.edge planar.in_range corner.of.among in
-    elim corner.is [ inl lo ↦ subst IsInRange (sym lo) range.lo | inr hi ↦ subst IsInRange (sym hi) range.hi ]
-
-less_one : (q c : ℤ) → q <ℤ (c *ℤ pos 1) → c ≤ℤ LIMIT → q <ℤ LIMIT
-less_one q c less small = omega (arith, lin, mul_one c)
-
-more_one : (q c : ℤ) → (c *ℤ pos 1) <ℤ q → (neg_ℤ LIMIT) ≤ℤ c → (neg_ℤ LIMIT) ≤ℤ q
-more_one q c more small = omega (arith, lin, mul_one c)
-
 module _ (edges : List Seg) (planar : IsPlanar edges) (distinct : AreDistinct edges) (r : ℕ) (inner : ¬ IsOuterRegion edges r) where
-  -- what the search finds in a square that has all grid points within the range is the most room
-  pub most_is : (enough best found : ℕ) (s : Square) → ((q : Coord) → IsInRange q → q.x <ℤ LIMIT → q.y <ℤ LIMIT → IsInSquare s.corner s.side (doubled q))
+  -- what the search finds in a square that has all grid points inside the box of the region is the most room
+  pub most_is : (enough best found : ℕ) (s : Square) → ((q : Coord) → IsInBoxOf edges r (at_coord q) → IsInSquare s.corner s.side (doubled q))
       → IsBest edges r enough s best found → IsMost edges r enough best found
   most_is enough best found s wide is = record {
     no_less = is.no_less;
     reached = is.reached;
-    greatest = λ less w has.
-        let q = has.at in
-        let box = in_box edges planar distinct r inner (at_coord q) has.within in
-        let left = box.left in
-        let right = box.right in
-        let bottom = box.bottom in
-        let top = box.top in
-        let right_range = corner_in_range edges r right.0 planar right.1.0 in
-        let top_range = corner_in_range edges r top.0 planar top.1.0 in
-        let x = less_one q.x right.0.x right.1.1 right_range.right in
-        let y = less_one q.y top.0.y top.1.1 top_range.top in
-        let range : IsInRange q = record {
-          left = more_one q.x left.0.x left.1.1 (corner_in_range edges r left.0 planar left.1.0).left;
-          right = omega (arith, lin, x);
-          bottom = more_one q.y bottom.0.y bottom.1.1 (corner_in_range edges r bottom.0 planar bottom.1.0).bottom;
-          top = omega (arith, lin, y);
-        } in
-        is.greatest less q w (wide q range x y) has.within (λ e of. has.room e of.among);
+    greatest = λ less w has. is.greatest less has.at w (wide has.at (in_box edges planar distinct r inner (at_coord has.at) has.within)) has.within (λ e of. has.room e of.among);
   }
 
 -- ---- clearances and widths

@@ -1,27 +1,24 @@
 -- From the search in the whole range to clearances and widths.
-use Rattle.std.proofs.Common.{◌≡◌, sym, ◌∙◌, subst, ℕ, ◌+◌, ◌-◌, ◌*◌, ◌<◌, ◌≤◌, ◌^◌, ◌↔◌, Bool, true, false, List, length, All, Contains, Option, Some, IfSome, slice_get, nat_lt, IsTrue, inl, inr, ℤ, pos, neg_ℤ, ◌*ℤ◌, ◌<ℤ◌, ◌≤ℤ◌, ◌⊎◌, ◌==◌, get_or, arith}
+use Rattle.std.proofs.Common.{◌≡◌, sym, subst, ℕ, ◌-◌, ◌*◌, ◌<◌, ◌≤◌, ◌↔◌, Bool, true, false, List, length, All, Contains, Option, Some, IfSome, nat_lt, IsTrue, inl, inr, ◌⊎◌, ◌==◌, get_or, arith}
 use Rattle.std.proofs.lemmas.Bool.{cases_lt, ltb-true, lt-ltb}
 use Rattle.std.proofs.lemmas.List.{length-map}
-use Rattle.std.proofs.lemmas.List.Elements.{All-contains, Contains-get_or}
-use Rattle.integer_laws.proofs.Ring.{lin, mul_one}
+use Rattle.std.proofs.lemmas.List.Elements.{Contains-get_or}
 use Rattle.cov_types.specs.declared.coord.Coord.{Coord}
-use Rattle.cov_types.specs.declared.coord.TheConstants.{LIMIT}
 use Rattle.cov_types.specs.declared.seg.Seg.{Seg}
-use Rattle.cov_types.specs.Range.{IsInRange, IsSegInRange}
 use Rattle.plane.specs.Label.{numbers_below}
 use Rattle.plane.specs.Point.{Point, at_coord}
 use Rattle.plane.specs.Segment.{upper, lower}
 use Rattle.plane.specs.Region.{IsSide, IsOuterRegion, IsRegionOf}
 use Rattle.crossing_laws.proofs.Located.{side_at, region-joined}
-use Rattle.sector_laws.specs.Sector.{HalfEdge, left, AreDistinct, IsPlanar}
+use Rattle.sector_laws.specs.Sector.{left, AreDistinct, IsPlanar}
 use Rattle.region_laws.proofs.Numbered.{side_half_edge}
 use Rattle.arrangement.specs.Overlay.{IsRegion}
 use Rattle.arrangement.proofs.LiveOverlays.{kept_is, below_number}
 use Rattle.counting_sort.specs.Grouped.{places_of}
-use Rattle.distance_laws.specs.Room.{HasRoom, doubled}
+use Rattle.distance_laws.specs.Room.{doubled}
 use Rattle.distance_laws.proofs.Reach.{doubled_room}
-use Rattle.region_owners.specs.Box.{IsEdgeOf, IsCornerOf, IsInBoxOf}
-use Rattle.region_owners.specs.Gap.{HasRoomWithin, IsClearance, IsNarrow}
+use Rattle.region_owners.specs.Box.{IsEdgeOf, IsInBoxOf}
+use Rattle.region_owners.specs.Gap.{IsClearance, IsNarrow}
 use Rattle.region_owners.proofs.RegionBox.{in_box}
 use Rattle.clearance_laws.specs.Quarter.{IsInSquare}
 use Rattle.clearance_laws.proofs.Near.{less_room}

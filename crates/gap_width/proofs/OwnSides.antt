@@ -1,6 +1,6 @@
 -- The own edges of a region by its sides.
 use mathlib.Core.List.{[], ◌∷◌}
-use Rattle.std.proofs.Common.{◌≡◌, refl, sym, ◌∙◌, ap, subst, ℕ, suc, ◌+◌, ◌*◌, ◌/◌, ◌%◌, ◌<◌, ◌==◌, ◌↔◌, Bool, true, false, cond, List, ◌++◌, length, map, filter, All, Contains, Some, slice_get, inl, inr, IsTrue, ℤ, pos, neg_ℤ, ◌+ℤ◌, ◌-ℤ◌, arith}
+use Rattle.std.proofs.Common.{◌≡◌, refl, sym, ◌∙◌, ap, subst, ℕ, suc, ◌+◌, ◌*◌, ◌/◌, ◌%◌, ◌<◌, ◌==◌, ◌↔◌, Bool, true, false, cond, List, ◌++◌, length, filter, All, Contains, Some, slice_get, inl, inr, ℤ, pos, neg_ℤ, ◌+ℤ◌, ◌-ℤ◌, arith}
 use Rattle.std.specs.Prelude.{slice_index}
 use Rattle.std.proofs.lemmas.Bool.{ne_eqb, true≢false}
 use Rattle.std.proofs.lemmas.Bool.Decides.{Decides-eqb}
@@ -14,7 +14,6 @@ use Rattle.cov_types.specs.Range.{IsSegInRange}
 use Rattle.plane.specs.Label.{numbers_below}
 use Rattle.plane.specs.Point.{Point}
 use Rattle.plane.specs.Ray.{is_over}
-use Rattle.plane.specs.Segment.{upper, lower}
 use Rattle.plane.specs.Region.{IsOuterRegion, IsRegionOf, AreRegions}
 use Rattle.plane.proofs.Same.{same_tests}
 use Rattle.crossing_laws.specs.Crossing.{crossing_sum, int_sum_by}
@@ -22,11 +21,11 @@ use Rattle.crossing_laws.proofs.Located.{one_region, side_within}
 use Rattle.sector_laws.specs.Sector.{HalfEdge, left, IsHalfEdge, AreDistinct, IsPlanar}
 use Rattle.sector_laws.proofs.Numbers.{half_edge_side, half_edge_among, forwards_number, back_number, half_edge_at}
 use Rattle.region_laws.specs.Weights.{side_weight, weigh_sides}
-use Rattle.arrangement.proofs.LiveOverlays.{kept, kept_is, number_below, below_number}
+use Rattle.arrangement.proofs.LiveOverlays.{kept, kept_is, number_below}
 use Rattle.counting_sort.specs.Grouped.{places_of}
 use Rattle.region_owners.specs.Box.{IsEdgeOf}
 use Rattle.region_owners.proofs.OwnEdges.{passes, own_passes, passes_own}
-use Rattle.clearance_laws.specs.Inside.{TellsSides, IsOffOwn}
+use Rattle.clearance_laws.specs.Inside.{TellsSides}
 use Rattle.clearance_laws.proofs.Inside.{inside_is}
 use Rattle.gap_width.specs.declared.own.OwnEdge.{OwnEdge}
 use Rattle.gap_width.specs.Own.{edges_in, weighed, IsSmallEdge, AreOwn, AreOfSides, weight_of_side, weight_by}

@@ -1,8 +1,8 @@
-use Rattle.std.proofs.Common.{◌≡◌, ◌∙◌, sym, subst, ℕ, ◌*◌, ◌<◌, List, length, All, false, Some, slice_get, true≢false, arith}
+use Rattle.std.proofs.Common.{◌≡◌, ◌∙◌, sym, subst, ◌*◌, ◌<◌, length, true≢false, arith}
 use Rattle.std.proofs.lemmas.Option.{same_Some}
 use Rattle.crossing_laws.proofs.Located.{side_within}
 use Rattle.counting_sort.specs.Grouped.{places_of}
-use Rattle.gap_width.specs.Own.{AreSides, AreOwn, AreOfSides}
+use Rattle.gap_width.specs.Own.{AreOwn}
 use Rattle.gap_width.specs.Search.{StandFor, IsBest, IsMost}
 use Rattle.gap_width.proofs.OwnSides.{are_own}
 use Rattle.gap_width.proofs.Squares.{if_ok}

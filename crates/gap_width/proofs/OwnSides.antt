@@ -28,6 +28,7 @@ use Rattle.region_owners.proofs.OwnEdges.{passes, own_passes, passes_own}
 use Rattle.clearance_laws.specs.Inside.{TellsSides}
 use Rattle.clearance_laws.proofs.Inside.{inside_is}
 use Rattle.gap_width.specs.declared.own.OwnEdge.{OwnEdge}
+use Rattle.gap_width.proofs.Steps.{sum-append}
 use Rattle.gap_width.specs.Own.{edges_in, weighed, IsSmallEdge, AreOwn, AreOfSides, weight_of_side, weight_by}
 
 -- ---- sums over lists
@@ -55,10 +56,6 @@ two_more g i =
     ap (λ n. int_sum_by g (numbers_below n)) twice ∙ omega (arith, lin)
 
 -- ---- one more side
-
-sum-append : (xs : List OwnEdge) (o : OwnEdge) (p : Point) → crossing_sum (weighed (xs ++ o ∷ [])) p ≡ crossing_sum (weighed xs) p +ℤ cond (is_over o.edge p) o.weight (pos 0)
-sum-append [] o p = omega (arith, lin)
-sum-append (x ∷ xs) o p = let rest = sum-append xs o p in omega (arith, lin)
 
 one_within : (n : ℕ) (w : ℤ) → w ≡ weight_of_side n → IsWithin 1 w
 one_within n w is = by (n % 2 == 0) is

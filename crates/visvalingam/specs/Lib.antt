@@ -1,0 +1,4 @@
+pub mod Queue
+pub mod Waiting
+pub mod Segments
+pub mod Ready

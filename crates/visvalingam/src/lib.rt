@@ -1,0 +1,25 @@
+//! The greedy run of Visvalingam and Whyatt over the lines of a coverage: which points go.
+//!
+//! Its promise: `removed_points` gives the state in which the run of the definition ends (`IsFinalState` of `greedy_run`).
+//!
+//! A spot is entered in a queue where its triangle is small. The least spot of the queue is taken out: it is stale where its point has
+//! gone or its triangle is no longer of that size; where a vertex is in its triangle, it waits until that vertex goes; where its third
+//! side is a current segment, it is dropped, since that segment stays until a neighbour goes and enters the spot anew. Else its point
+//! goes, and its neighbours and all that waited for it are entered again.
+//!
+//! The files: `spot`, a spot of the queue; `corner`, a point between its neighbours; `queue`; `waiting`; `segments`, the current
+//! segments; `chains`, who is whose neighbour; `run`.
+#![tactic(auto)]
+
+mod chains;
+mod corner;
+mod queue;
+mod run;
+mod segments;
+mod spot;
+mod waiting;
+
+pub use run::removed_points;
+
+#[cfg(test)]
+mod tests;

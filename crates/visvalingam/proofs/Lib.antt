@@ -1,2 +1,5 @@
 pub mod Ready
 pub mod Queues
+pub mod Chained
+pub mod Joining
+pub mod Spots

@@ -1,6 +1,6 @@
 -- A heap of turned spots as a queue.
 use mathlib.Core.List.{[], ◌∷◌}
-use Rattle.std.proofs.Common.{◌≡◌, refl, sym, ◌∙◌, ap, subst, ℕ, zero, suc, List, map, All, Bool, true, false, IsTrue, IsPermutation, arith}
+use Rattle.std.proofs.Common.{◌≡◌, refl, sym, ◌∙◌, ap, subst, ℕ, zero, suc, ◌<◌, length, get_or, List, map, All, Bool, true, false, IsTrue, IsPermutation, arith}
 use Rattle.std.specs.List.{AllByRecursion}
 use Rattle.std.specs.Ordering.{is_lt, is_le, nat_cmp, ordering_then, ordering_reverse}
 use Rattle.std.specs.declared.cmp.Ordering.{Ordering}
@@ -9,7 +9,6 @@ use Rattle.std.specs.declared.cmp.Reverse.{Reverse}
 use Rattle.std.specs.BinaryHeap.{IsUpperBound}
 use Rattle.std.proofs.lemmas.Cmp.{nat_cmp_total}
 use Rattle.std.proofs.lemmas.List.Sorted.{IsPermutation-map}
-use Rattle.std.proofs.lemmas.List.Elements.{All-nil}
 use Rattle.greedy_run.specs.Run.{spot_cmp}
 use Rattle.visvalingam.specs.Queue.{at_spot, IsNoLater, spots_of}
 use Rattle.visvalingam.specs.declared.spot.QueuedSpot.{QueuedSpot}
@@ -35,10 +34,14 @@ no_later p q h = subst (λ o. IsTrue (is_le o)) (sym (spots_reverse p q)) (by (s
     by Equal e = refl
     by Greater e = refl
 
+least_at : (p : QueuedSpot) (items : List (Reverse QueuedSpot)) → IsUpperBound (λ (x y : Reverse QueuedSpot). spot_cmp (at_spot y.0) (at_spot x.0)) (record { 0 = p }) items
+    → (k : ℕ) (d : QueuedSpot) → k < length (spots_of items) → IsNoLater p (get_or (spots_of items) k d)
+least_at p [] h k d below = absurd (omega (arith, below))
+least_at p (r ∷ items) h zero d below = no_later p r.0 h.0
+least_at p (r ∷ items) h (suc k) d below = least_at p items h.1 k d (omega (arith, below))
+
 pub least_of : (p : QueuedSpot) (items : List (Reverse QueuedSpot)) → IsUpperBound (λ (x y : Reverse QueuedSpot). spot_cmp (at_spot y.0) (at_spot x.0)) (record { 0 = p }) items → All (IsNoLater p) (spots_of items)
-least_of p [] h = All-nil (IsNoLater p)
-least_of p (r ∷ items) h zero d below = no_later p r.0 h.0
-least_of p (r ∷ items) h (suc k) d below = least_of p items h.1 k d (omega arith)
+least_of p items h k d below = least_at p items h k d below
 
 pub spots_moved : (xs ys : List (Reverse QueuedSpot)) → IsPermutation xs ys → IsPermutation (spots_of xs) (spots_of ys)
 spots_moved xs ys h = IsPermutation-map (λ (r : Reverse QueuedSpot). r.0) xs ys h

@@ -33,7 +33,10 @@ first_or_later : {X : Type 0} (x : X) (xs : List X) (y : X) → Contains (x ∷ 
 first_or_later x xs y (zero, inside, is) = inl is
 first_or_later x xs y (suc k, inside, is) = inr (k, omega arith, is)
 
-there : {X : Type 0} (x : X) (xs : List X) (y : X) → Contains xs y → Contains (x ∷ xs) y
+pub here_first : {X : Type 0} (x : X) (xs : List X) (y : X) → x ≡ y → Contains (x ∷ xs) y
+here_first x xs y is = (0, omega arith, is)
+
+pub there : {X : Type 0} (x : X) (xs : List X) (y : X) → Contains xs y → Contains (x ∷ xs) y
 there x xs y (k, inside, is) = (suc k, omega arith, is)
 
 -- ---- a removable spot is open, and free
@@ -41,7 +44,7 @@ there x xs y (k, inside, is) = (suc k, omega arith, is)
 open_of : (s : Simplification) (removed : List Coord) (spot : Spot) → IsRemovable s removed spot → IsOpen s removed spot
 open_of s removed spot h = record { t = h.t; triangle = h.triangle; sized = h.sized; small = h.small; inner = h.inner }
 
-pub removable_of : (s : Simplification) (removed : List Coord) (spot : Spot) (h : IsOpen s removed spot) → ((p : Coord) → Contains (current_points s.lines removed) p → ¬ IsInWay h.t p) → ¬ IsSpanned s removed h.t → IsRemovable s removed spot
+unfoldable pub removable_of : (s : Simplification) (removed : List Coord) (spot : Spot) (h : IsOpen s removed spot) → ((p : Coord) → Contains (current_points s.lines removed) p → ¬ IsInWay h.t p) → ¬ IsSpanned s removed h.t → IsRemovable s removed spot
 removable_of s removed spot h free apart = record {
   t = h.t;
   triangle = h.triangle;

@@ -2,3 +2,5 @@ pub mod Queue
 pub mod Waiting
 pub mod Segments
 pub mod Ready
+pub mod Chains
+pub mod State

@@ -11,12 +11,15 @@
 //! segments; `chains`, who is whose neighbour; `run`.
 #![tactic(auto)]
 
+mod begin;
 mod chains;
 mod corner;
 mod queue;
 mod run;
 mod segments;
 mod spot;
+mod state;
+mod task;
 mod waiting;
 
 pub use run::removed_points;

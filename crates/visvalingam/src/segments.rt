@@ -1,6 +1,6 @@
-ghost use Rattle.std.specs.Prelude.{◌≡◌, ◌&&◌, ◌||◌, true, false, not, OnOk};
+ghost use Rattle.std.specs.Prelude.{◌≡◌, ◌↔◌, IsTrue, false, OnOk};
 ghost use Rattle.cov_types.specs.declared.seg.Seg.{Seg};
-ghost use Rattle.visvalingam.specs.Segments.{joins, is_among};
+ghost use Rattle.visvalingam.specs.Segments.{is_among, IsJoined, AreAdded, AreLeft};
 
 use cov_types::{Coord, NoMemory, Seg};
 use std::alloc::Global;
@@ -25,8 +25,7 @@ impl Segments {
 
     /// Whether the segment between the two points is there.
     pub(crate) fn joins(&self, a: Coord, b: Coord) -> bool
-        ensures there { (e : Seg) → joins a b e ≡ true → result ≡ is_among self.now.ends e }
-        ensures apart { a ≡ b → result ≡ false }
+        ensures { IsTrue result ↔ IsJoined self.now.ends a b }
     {
         match Seg::between(a, b) {
             Some(e) => self.ends.contains(&(e.lo, e.hi)),
@@ -36,7 +35,7 @@ impl Segments {
 
     /// Adds the segment between two points, where they differ.
     pub(crate) fn add(&mut self, a: Coord, b: Coord) -> Result<(), NoMemory>
-        ensures { OnOk result ((e : Seg) → is_among self.new.ends e ≡ (is_among self.old.ends e || joins a b e)) }
+        ensures { OnOk result (AreAdded self.old.ends self.new.ends a b) }
     {
         if let Some(e) = Seg::between(a, b) {
             self.ends.insert((e.lo, e.hi))?;
@@ -46,10 +45,18 @@ impl Segments {
 
     /// Takes the segment between two points out.
     pub(crate) fn remove(&mut self, a: Coord, b: Coord)
-        ensures { (e : Seg) → is_among self.new.ends e ≡ (is_among self.old.ends e && not (joins a b e)) }
+        ensures { AreLeft self.old.ends self.new.ends a b }
     {
         if let Some(e) = Seg::between(a, b) {
             self.ends.remove(&(e.lo, e.hi));
         }
+    }
+
+    /// Adds the segments between neighbours of a list.
+    pub(crate) fn add_chain(&mut self, points: &[Coord]) -> Result<(), NoMemory> {
+        for i in 1..points.len() {
+            self.add(points[i - 1], points[i])?;
+        }
+        Ok(())
     }
 }

@@ -3,7 +3,7 @@ use Rattle.std.specs.Prelude.{◌≡◌, ℕ, ◌*◌, ◌^◌, ◌≤◌, ◌�
 use Rattle.std.specs.Global.{Global}
 use Rattle.cov_types.specs.declared.coord.Coord.{Coord}
 use Rattle.cov_types.specs.declared.seg.Seg.{Seg}
-use Rattle.greedy_run.specs.Run.{Simplification, IsRemovable, IsInner, current_points, current_edges, IsRunState}
+use Rattle.greedy_run.specs.Run.{Simplification, Spot, IsRemovable, IsNextPoint, IsInner, current_points, current_edges, IsRunState}
 use Rattle.visvalingam.specs.Chains.{AreAllLinked}
 use Rattle.cov_types.specs.Range.{IsInRange}
 use Rattle.visvalingam.specs.Segments.{is_among}
@@ -73,3 +73,14 @@ pub record IsGoing (s : Simplification) (removed : List Coord) (q : QueuedSpot) 
 abbrev pub IsSettledSo : Simplification → State → (Coord → List QueuedSpot) → QueuedSpot → Option Corner → Type 0
 IsSettledSo s state waiting q (Some corner) = IsGoing s (gone state) q corner × (waiting ≡ waiting_at state.waiting.spots)
 IsSettledSo s state waiting q None = IsReady s (gone state) state.queue waiting
+
+-- what is found next: the next point of the run, whose spot left the queue; or nothing is removable
+abbrev pub IsFoundSo : Simplification → State → State → Option (QueuedSpot × Corner) → Type 0
+IsFoundSo s old new (Some (q, corner)) = IsGoing s (gone old) q corner × IsNextPoint s (gone old) corner.b × IsReady s (gone old) (q ∷ new.queue) (waiting_at new.waiting.spots)
+IsFoundSo s old new None = (spot : Spot) → ¬ IsRemovable s (gone old) spot
+
+-- the state after a removal
+pub record IsAfter (s : Simplification) (task : Task) (old new : State) (b : Coord) : Type 0 where
+  pub gone_is : gone new ≡ b ∷ gone old
+  pub tables : AreTables s task new
+  pub ready : IsReady s (gone new) new.queue (waiting_at new.waiting.spots)

@@ -1,5 +1,6 @@
-ghost use Rattle.std.specs.Prelude.{◌≡◌, ◌∷◌, [], All, IfSome, IfNone, OnOk, IsPermutation};
+ghost use Rattle.std.specs.Prelude.{◌≡◌, ◌∷◌, [], All, IfSome, IfNone, OnOk, Contains, IsPermutation};
 ghost use Rattle.visvalingam.specs.Queue.{IsNoLater};
+ghost use Rattle.visvalingam.specs.declared.spot.QueuedSpot.{QueuedSpot};
 
 use crate::spot::QueuedSpot;
 use cov_types::NoMemory;
@@ -42,6 +43,17 @@ impl Queue {
         ensures { OnOk result (IsPermutation (spot ∷ self.old) self.new) }
     {
         self.heap.push(Reverse(spot))?;
+        Ok(())
+    }
+
+    /// Enters all these spots.
+    pub(crate) fn push_all(&mut self, spots: &[QueuedSpot]) -> Result<(), NoMemory>
+        ensures kept { OnOk result ((q : QueuedSpot) → Contains self.old q → Contains self.new q) }
+        ensures entered { OnOk result ((q : QueuedSpot) → Contains spots.now q → Contains self.new q) }
+    {
+        for spot in spots {
+            self.push(*spot)?;
+        }
         Ok(())
     }
 

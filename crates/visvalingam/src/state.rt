@@ -1,10 +1,11 @@
-ghost use Rattle.std.specs.Prelude.{◌≡◌, ◌<◌, ◌∷◌, ◌++◌, [], ℕ, List, IfOk, IfSome, OnOk, IsTrue, ◌↔◌, Contains, MatchOption, All};
+ghost use Rattle.std.specs.Prelude.{◌≡◌, ◌<◌, ◌∷◌, ◌++◌, [], ℕ, cond, List, IfOk, IfSome, OnOk, IsTrue, ◌↔◌, Contains, MatchOption, All};
 ghost use Rattle.cov_types.specs.declared.coord.Coord.{Coord};
+ghost use Rattle.cov_types.specs.Coord.{is_same_coord};
 ghost use Rattle.greedy_run.specs.Run.{Simplification, IsNextPoint, IsRemovable, IsRunState};
 ghost use Rattle.visvalingam.specs.Queue.{IsNoLater, at_spot};
 ghost use Rattle.visvalingam.specs.Ready.{IsOpen, IsReady};
 ghost use Rattle.visvalingam.specs.Chains.{IsCornerInRange, IsStandingIn, AreAllLinked, IsAnswerIn, count_left};
-ghost use Rattle.visvalingam.specs.State.{IsTaskOf, IsTaskInRange, IsStateOf, AreTables, IsAllowed, IsGoing, IsSettledSo, gone};
+ghost use Rattle.visvalingam.specs.State.{IsTaskOf, IsTaskInRange, IsStateOf, AreTables, IsAllowed, IsGoing, IsSettledSo, IsFoundSo, IsAfter, gone};
 ghost use Rattle.visvalingam.specs.Waiting.{waiting_at};
 ghost use Rattle.visvalingam.specs.declared.spot.QueuedSpot.{QueuedSpot};
 
@@ -96,9 +97,11 @@ impl State {
         task: &Task,
     ) -> Result<Option<(QueuedSpot, Corner)>, NoMemory>
         requires { IsTaskInRange task.now }
-        ensures links { OnOk result (self.new.links ≡ self.old.links) }
+        ensures same { OnOk result (self.new ≡ record self.old { queue = self.new.queue; waiting = self.new.waiting }) }
+        ensures standing { IfOk result (λ answer. IfSome answer (λ next. IsStandingIn self.old.links.items next.0.line next.0.place next.1)) }
+        ensures found { IfOk result (λ answer. (s : Simplification) → IsTaskOf s task.now → AreTables s task.now self.old → IsReady s (gone self.old) self.old.queue (waiting_at self.old.waiting.spots) → IsFoundSo s self.old self.new answer) }
     {
-        while let Some(spot) = self.queue.pop() {
+        'spots: while let Some(spot) = self.queue.pop() {
             if let Some(corner) = self.removable(task, spot)? {
                 return Ok(Some((spot, corner)));
             }
@@ -144,6 +147,7 @@ impl State {
         requires in_range { IsTaskInRange task.now }
         requires standing { IsStandingIn self.old.links.items spot.line spot.place corner }
         ensures fewer { OnOk result (count_left self.new.links.items < count_left self.old.links.items) }
+        ensures after { OnOk result ((s : Simplification) → IsTaskOf s task.now → AreTables s task.now self.old → IsGoing s (gone self.old) spot corner → IsReady s (gone self.old) (spot ∷ self.old.queue) (waiting_at self.old.waiting.spots) → IsAfter s task.now self.old self.new corner.b) }
     {
         Links::unlink(
             self.links[spot.line].as_mut_slice(),
@@ -162,13 +166,18 @@ impl State {
     // Enters the spots of the neighbours of a point that went, and all that waited for it.
     fn enter_again(&mut self, task: &Task, line: usize, corner: Corner) -> Result<(), NoMemory>
         requires { IsTaskInRange task.now }
+        ensures same { OnOk result (self.new ≡ record self.old { queue = self.new.queue; waiting = self.new.waiting }) }
+        ensures kept { OnOk result ((q : QueuedSpot) → Contains self.old.queue q → Contains self.new.queue q) }
+        ensures before { OnOk result ((s : Simplification) (removed : List Coord) (q : QueuedSpot) → IsTaskOf s task.now → AreAllLinked removed task.now.lines.now self.old.links.items → q.line ≡ line → q.place ≡ corner.before → IsOpen s removed (at_spot q) → Contains self.new.queue q) }
+        ensures after { OnOk result ((s : Simplification) (removed : List Coord) (q : QueuedSpot) → IsTaskOf s task.now → AreAllLinked removed task.now.lines.now self.old.links.items → q.line ≡ line → q.place ≡ corner.after → IsOpen s removed (at_spot q) → Contains self.new.queue q) }
+        ensures woken { OnOk result ((q : QueuedSpot) → Contains (waiting_at self.old.waiting.spots corner.b) q → Contains self.new.queue q) }
+        ensures left { OnOk result ((p : Coord) → waiting_at self.new.waiting.spots p ≡ cond (is_same_coord corner.b p) [] (waiting_at self.old.waiting.spots p)) }
     {
         let links = self.links.as_slice();
         enter(task, links, &mut self.queue, line, corner.before)?;
         enter(task, links, &mut self.queue, line, corner.after)?;
-        for spot in self.waiting.take(corner.b) {
-            self.queue.push(spot)?;
-        }
+        let woken = self.waiting.take(corner.b);
+        self.queue.push_all(woken.as_slice())?;
         Ok(())
     }
 }

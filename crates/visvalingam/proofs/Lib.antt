@@ -3,3 +3,4 @@ pub mod Queues
 pub mod Chained
 pub mod Joining
 pub mod Spots
+pub mod Stepping

@@ -4,3 +4,4 @@ pub mod Chained
 pub mod Joining
 pub mod Spots
 pub mod Stepping
+pub mod Removing

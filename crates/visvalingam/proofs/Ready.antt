@@ -29,7 +29,7 @@ use Rattle.visvalingam.specs.declared.spot.QueuedSpot.{QueuedSpot}
 
 -- ---- elements
 
-first_or_later : {X : Type 0} (x : X) (xs : List X) (y : X) → Contains (x ∷ xs) y → (x ≡ y) ⊎ Contains xs y
+pub first_or_later : {X : Type 0} (x : X) (xs : List X) (y : X) → Contains (x ∷ xs) y → (x ≡ y) ⊎ Contains xs y
 first_or_later x xs y (zero, inside, is) = inl is
 first_or_later x xs y (suc k, inside, is) = inr (k, omega arith, is)
 
@@ -193,7 +193,7 @@ still_there removed b y apart h = by (is_same_coord y b) (λ e. apart ((Decides-
     by false n = h
 
 -- a vertex that is left stays, but for b
-kept_point : (b : Coord) (removed points : List Coord) (p : Coord) → p ≢ b → Contains (current removed points) p → Contains (current (b ∷ removed) points) p
+pub kept_point : (b : Coord) (removed points : List Coord) (p : Coord) → p ≢ b → Contains (current removed points) p → Contains (current (b ∷ removed) points) p
 kept_point b removed [] p apart has = absurd (omega (arith, has.1))
 kept_point b removed (x ∷ points) p apart has = by (kept_point b removed points p apart) (is_removed removed x) refl has
   where

@@ -7,8 +7,13 @@
 //! side is a current segment, it is dropped, since that segment stays until a neighbour goes and enters the spot anew. Else its point
 //! goes, and its neighbours and all that waited for it are entered again.
 //!
-//! The files: `spot`, a spot of the queue; `corner`, a point between its neighbours; `queue`; `waiting`; `segments`, the current
-//! segments; `chains`, who is whose neighbour; `run`.
+//! The files of `src/`: `spot`, a spot of the queue; `corner`, a point between its neighbours; `queue`; `waiting`; `segments`, the
+//! current segments; `chains`, the places of neighbours; `task`, what is asked; `state`, a state and its steps; `begin`, the first
+//! state; `run`.
+//!
+//! The files of `proofs/`: `Ready`, what the queue takes care of, and what popping, waiting and a removal keep of it (`next_is`,
+//! `none_left`, `removal_ready`); `Chained`, links as points go; `Queues`; `Joining`, a set of segments; `Spots`, corners and spots;
+//! `Stepping`, states whose queue alone changes; `Removing`, the tables after a point went.
 #![tactic(auto)]
 
 mod begin;

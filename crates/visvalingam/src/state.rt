@@ -160,7 +160,8 @@ impl State {
         self.segments.add(corner.a, corner.c)?;
         self.cells.remove(corner.b);
         self.removed.push(corner.b)?;
-        self.enter_again(task, spot.line, corner)
+        self.enter_again(task, spot.line, corner)?;
+        Ok(())
     }
 
     // Enters the spots of the neighbours of a point that went, and all that waited for it.

@@ -229,6 +229,13 @@ module _ (removed points : List Coord) (place : ℕ) (corner : Corner) (h : IsCo
         subst (IsLinkedAt (b ∷ removed) points k p) is (changed_at k p own.0 (k == place) (k == corner.before) (k == corner.after) refl refl refl at_p (linked.each k p own.0 at_p own.1)));
   }
 
+-- an element of a list with one more at its end
+pub last_or_before : {X : Type 0} (xs : List X) (y : X) (i : ℕ) (x : X) → slice_get (xs ++ y ∷ []) i ≡ Some x → (slice_get xs i ≡ Some x) ⊎ ((i ≡ length xs) × (y ≡ x))
+last_or_before [] y zero x at = inr (refl, same_Some y x at)
+last_or_before [] y (suc i) x at = absurd (none-some x at)
+last_or_before (z ∷ zs) y zero x at = inl at
+last_or_before (z ∷ zs) y (suc i) x at = elim (last_or_before zs y i x at) [ inl before ↦ inl before | inr last ↦ inr (ap suc last.0, last.1) ]
+
 -- one more at the end
 pub first_more : (count n : ℕ) (links more : List (Option Links)) (l : Links) → more ≡ links ++ Some l ∷ [] → length links ≡ n → IsFirstLinks count n l
     → ((k : ℕ) (o : Option Links) → slice_get links k ≡ Some o → (own : Links) × ((o ≡ Some own) × IsFirstLinks count k own))
@@ -238,9 +245,3 @@ first_more count n links more l is size first each k o at =
       | inl before ↦ each k o before
       | inr last ↦ (l, (sym last.1, subst (λ m. IsFirstLinks count m l) (sym (last.0 ∙ size)) first))
     ]
-  where
-    last_or_before : {X : Type 0} (xs : List X) (y : X) (i : ℕ) (x : X) → slice_get (xs ++ y ∷ []) i ≡ Some x → (slice_get xs i ≡ Some x) ⊎ ((i ≡ length xs) × (y ≡ x))
-    last_or_before [] y zero x at = inr (refl, same_Some y x at)
-    last_or_before [] y (suc i) x at = absurd (none-some x at)
-    last_or_before (z ∷ zs) y zero x at = inl at
-    last_or_before (z ∷ zs) y (suc i) x at = elim (last_or_before zs y i x at) [ inl before ↦ inl before | inr last ↦ inr (ap suc last.0, last.1) ]

@@ -5,3 +5,7 @@ pub mod Joining
 pub mod Spots
 pub mod Stepping
 pub mod Removing
+pub mod Fewer
+pub mod Removed
+pub mod Begun
+pub mod Running

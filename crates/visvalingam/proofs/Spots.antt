@@ -1,5 +1,5 @@
 -- Corners of the code and the triangles at spots.
-use Rattle.std.proofs.Common.{◌≡◌, refl, sym, ◌∙◌, ap, subst, ℕ, ◌*◌, ◌≤◌, List, map, length, Bool, true, IsTrue, Option, Some, None, Vec, Global, unsigned_abs, arith}
+use Rattle.std.proofs.Common.{◌≡◌, refl, sym, ◌∙◌, ap, subst, ℕ, ◌*◌, ◌<◌, ◌≤◌, List, map, length, Bool, true, IsTrue, Option, Some, None, Vec, Global, unsigned_abs, arith}
 use Rattle.std.proofs.lemmas.List.{length-map}
 use Rattle.std.specs.Prelude.{Contains, option_map, option_and_then, slice_get}
 use Rattle.std.proofs.lemmas.Option.{same_Some, slice_get-map, slice_get_within}
@@ -22,10 +22,10 @@ triangle_of k = record { a = k.a; b = k.b; c = k.c }
 
 module _ (s : Simplification) (task : Task) (asked : IsTaskOf s task) (removed : List Coord) where
   -- the points of a line of the task
-  line_is : (i : ℕ) (points : Vec Coord Global) → slice_get task.lines.now i ≡ Some points → slice_get s.lines i ≡ Some points.items
+  pub line_is : (i : ℕ) (points : Vec Coord Global) → slice_get task.lines.now i ≡ Some points → slice_get s.lines i ≡ Some points.items
   line_is i points at = ap (λ ls. slice_get ls i) asked.lines_are ∙ slice_get-map (λ (v : Vec Coord Global). v.items) task.lines.now i ∙ ap (option_map (λ (v : Vec Coord Global). v.items)) at
 
-  line_of : (i : ℕ) (points : List Coord) → slice_get s.lines i ≡ Some points → (v : Vec Coord Global) × ((slice_get task.lines.now i ≡ Some v) × (v.items ≡ points))
+  pub line_of : (i : ℕ) (points : List Coord) → slice_get s.lines i ≡ Some points → (v : Vec Coord Global) × ((slice_get task.lines.now i ≡ Some v) × (v.items ≡ points))
   line_of i points at =
       let same = ap length asked.lines_are ∙ length_map task.lines.now in
       let within = slice_get_within s.lines i points at in
@@ -114,3 +114,12 @@ module _ (s : Simplification) (task : Task) (asked : IsTaskOf s task) (removed :
   at_answer q corner answer t h =
       let (v, (at, is)) = line_of q.line h.points h.line in
       one_triangle s.lines removed (at_spot q) (triangle_of corner) t (at_corner q.size q.line q.place v corner at (answer v at)) h
+
+  -- an open spot is at a point of a line
+  pub line_within : (q : QueuedSpot) → IsOpen s removed (at_spot q) → q.line < length task.lines.now
+  line_within q h = let (v, (at, is)) = line_of q.line h.triangle.points h.triangle.line in slice_get_within task.lines.now q.line v at
+
+  pub place_within : (q : QueuedSpot) → IsOpen s removed (at_spot q) → (line : ℕ) (points : Vec Coord Global) → slice_get task.lines.now line ≡ Some points → q.line ≡ line → q.place < length points.items
+  place_within q h line points at same =
+      let own = line_is q.line points (subst (λ n. slice_get task.lines.now n ≡ Some points) (sym same) at) in
+      slice_get_within points.items q.place h.t.b (sym (ap (option_and_then (λ l. slice_get l q.place)) own) ∙ h.triangle.here)

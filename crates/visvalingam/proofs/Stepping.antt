@@ -26,7 +26,7 @@ pub record IsAlike (old new : State) : Type 0 where
   pub segments : old.segments ≡ new.segments
   pub removed : old.removed ≡ new.removed
 
-gone_alike : (old new : State) → IsAlike old new → gone old ≡ gone new
+pub gone_alike : (old new : State) → IsAlike old new → gone old ≡ gone new
 gone_alike old new h = ap (λ (v : Vec Coord Global). reverse v.items) h.removed
 
 pub tables_alike : (s : Simplification) (task : Task) (old new : State) → IsAlike old new → AreTables s task old → AreTables s task new

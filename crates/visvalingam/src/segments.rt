@@ -1,5 +1,6 @@
-ghost use Rattle.std.specs.Prelude.{◌≡◌, ◌↔◌, IsTrue, false, OnOk};
+ghost use Rattle.std.specs.Prelude.{◌≡◌, ◌↔◌, ◌⊎◌, IsTrue, true, false, OnOk, Contains};
 ghost use Rattle.cov_types.specs.declared.seg.Seg.{Seg};
+ghost use Rattle.plane.specs.Snapping.{chain_edges};
 ghost use Rattle.visvalingam.specs.Segments.{is_among, IsJoined, AreAdded, AreLeft};
 
 use cov_types::{Coord, NoMemory, Seg};
@@ -53,7 +54,9 @@ impl Segments {
     }
 
     /// Adds the segments between neighbours of a list.
-    pub(crate) fn add_chain(&mut self, points: &[Coord]) -> Result<(), NoMemory> {
+    pub(crate) fn add_chain(&mut self, points: &[Coord]) -> Result<(), NoMemory>
+        ensures { OnOk result ((e : Seg) → (is_among self.new.ends e ≡ true) ↔ ((is_among self.old.ends e ≡ true) ⊎ Contains (chain_edges points.now) e)) }
+    {
         for i in 1..points.len() {
             self.add(points[i - 1], points[i])?;
         }

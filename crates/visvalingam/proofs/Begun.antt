@@ -106,8 +106,12 @@ chain_more points m d h e start old new before added = (there, back)
 -- as a loop over the places comes to it
 pub chain_step : (points : List Coord) (i : ℕ) (d : Coord) → 1 ≤ i → i < length points → (e : Seg) (start old new : Bool) → (old ≡ true) ↔ ((start ≡ true) ⊎ Contains (edges_until (i - 1) points) e)
     → (new ≡ true) ↔ ((old ≡ true) ⊎ IsSegBetween (get_or points (i - 1) d) (get_or points i d) e) → (new ≡ true) ↔ ((start ≡ true) ⊎ Contains (edges_until (i + 1 - 1) points) e)
-chain_step points zero d low h e start old new before added = absurd (omega (arith, low))
-chain_step points (suc m) d low h e start old new before added = chain_more points m d h e start old new before added
+chain_step points i d low h e start old new before added =
+    let at : i - 1 + 1 ≡ i = omega (arith, low) in
+    let end : i - 1 + 1 ≡ i + 1 - 1 = omega (arith, low) in
+    subst (λ n. (new ≡ true) ↔ ((start ≡ true) ⊎ Contains (edges_until n points) e)) end
+    (chain_more points (i - 1) d (omega (arith, low, h)) e start old new before
+    (subst (λ n. (new ≡ true) ↔ ((old ≡ true) ⊎ IsSegBetween (get_or points (i - 1) d) (get_or points n d) e)) (sym at) added))
 
 pub none_until : (points : List Coord) (e : Seg) (start : Bool) → (start ≡ true) ↔ ((start ≡ true) ⊎ Contains (edges_until 0 points) e)
 none_until points e start = (λ h. inl h, back)

@@ -13,7 +13,8 @@
 //!
 //! The files of `proofs/`: `Ready`, what the queue takes care of, and what popping, waiting and a removal keep of it (`next_is`,
 //! `none_left`, `removal_ready`); `Chained`, links as points go; `Queues`; `Joining`, a set of segments; `Spots`, corners and spots;
-//! `Stepping`, states whose queue alone changes; `Removing`, the tables after a point went.
+//! `Stepping`, states whose queue alone changes; `Removing`, the tables after a point went; `Removed`, the state then
+//! (`after_removal`); `Fewer`, that fewer points are left; `Begun`, the first state (`begins`); `Running`, the run (`goes_on`, `ends`).
 #![tactic(auto)]
 
 mod begin;

@@ -20,4 +20,4 @@ returns-clause-entered c s removed q asked linked line h =
     let end = c.loop-place.auto.place-end in
     let at = slice_get_read lines (length lines) c.args.line c.index-task-line.result refl c.requires.line c.index-task-line.is in
     let within = place_within s c.args.task.now asked removed q h c.args.line c.index-task-line.result at line in
-    c.loop-place.invariant.entered s removed q asked linked line (omega (arith, past, within)) h
+    c.loop-place.invariant.entered s removed q asked linked line (omega (arith, past, within, c.len-place-end.ensures, c.index-task-line.result.ok.0)) h

@@ -10,7 +10,7 @@ use Rattle.visvalingam.proofs.Begun.{all_edges, pieces_more}
 use Rattle.visvalingam.proofs.begin.first_segments.Goals as goal
 
 pub loop-line-init : goal.loop-line-init
-loop-line-init c e = (λ h. absurd (true≢false (sym h ∙ c.new.ensures e)), λ has. absurd (omega (arith, has.1)))
+loop-line-init c e = (λ h. absurd (true≢false (sym h ∙ c.new-segments.ensures e)), λ has. absurd (omega (arith, has.1)))
 
 pub loop-line-preserved : goal.loop-line-preserved
 loop-line-preserved c e =

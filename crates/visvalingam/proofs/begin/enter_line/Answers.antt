@@ -1,6 +1,7 @@
-use Rattle.std.proofs.Common.{◌≡◌, inl, inr, refl, length, arith}
+use Rattle.std.proofs.Common.{◌≡◌, inl, inr, refl, sym, ◌∙◌, ap, Vec, Global, length, arith}
 use Rattle.std.proofs.lemmas.Bool.{cases_lt}
 use Rattle.std.proofs.lemmas.Option.{slice_get_read}
+use Rattle.cov_types.specs.declared.coord.Coord.{Coord}
 use Rattle.visvalingam.proofs.Spots.{place_within}
 use Rattle.visvalingam.proofs.begin.enter_line.Goals as goal
 
@@ -17,7 +18,8 @@ pub returns-clause-entered : goal.returns-clause-entered
 returns-clause-entered c s removed q asked linked line h =
     let lines = c.args.task.now.lines.now in
     let past = c.loop-place-test.false in
-    let end = c.loop-place.auto.place-end in
-    let at = slice_get_read lines (length lines) c.args.line c.index-task-line.result refl c.requires.line c.index-task-line.is in
-    let within = place_within s c.args.task.now asked removed q h c.args.line c.index-task-line.result at line in
-    c.loop-place.invariant.entered s removed q asked linked line (omega (arith, past, within, c.len-place-end.ensures, c.index-task-line.result.ok.0)) h
+    let own = c.index-task-line.result in
+    let at = slice_get_read lines (length lines) c.args.line own refl c.requires.line c.index-task-line.is in
+    let count = c.len-place-end.ensures ∙ ap (λ (v : Vec Coord Global). v.len) (sym c.index-task-line.is) in
+    let within = place_within s c.args.task.now asked removed q h c.args.line own at line in
+    c.loop-place.invariant.entered s removed q asked linked line (omega (arith, past, within, count, own.ok.0)) h

@@ -3,4 +3,4 @@ use Rattle.cov_types.specs.Range.{IsInRange}
 use Rattle.visvalingam.proofs.tests.line_of.Given as goal
 
 abbrev pub invariant-loop-x : goal.invariant-loop-x
-invariant-loop-x l = All IsInRange l.line.items
+invariant-loop-x g l = All IsInRange l.line.items

@@ -1,6 +1,6 @@
 -- The first state: what its tables are made of.
 use mathlib.Core.List.{[], ◌∷◌}
-use Rattle.std.proofs.Common.{◌≡◌, ◌⊎◌, inl, inr, refl, sym, ◌∙◌, ap, subst, ℕ, zero, suc, ◌+◌, ◌-◌, ◌<◌, ◌≤◌, List, ◌++◌, length, get_or, take, drop, zip, map, All, Bool, true, Option, Some, Vec, Global, ◌↔◌, slice_get, arith, length-drop}
+use Rattle.std.proofs.Common.{◌≡◌, ◌⊎◌, inl, inr, refl, sym, ◌∙◌, ap, subst, ℕ, ◌+◌, ◌-◌, ◌<◌, ◌≤◌, List, ◌++◌, length, get_or, take, drop, zip, All, Bool, true, Option, Some, Vec, Global, ◌↔◌, slice_get, arith, length-drop}
 use Rattle.std.specs.Prelude.{Contains, flat_map, option_to_list, reverse, IsPermutation}
 use Rattle.std.proofs.lemmas.List.{places, take_all}
 use Rattle.std.proofs.lemmas.List.Elements.{Contains-append_cases, Contains-append_left, Contains-append_right}

@@ -1,17 +1,16 @@
 -- The links of a line as its points go.
 use mathlib.Core.List.{[], ◌∷◌}
-use Rattle.std.proofs.Common.{◌≡◌, ◌≢◌, ◌⊎◌, inl, inr, refl, sym, ◌∙◌, ap, subst, ℕ, zero, suc, ◌+◌, ◌<◌, ◌==◌, List, ◌++◌, length, All, Bool, true, false, cond, Option, Some, None, slice_get, slice_set, true≢false, arith}
-use Rattle.std.specs.Prelude.{Contains, option_map}
-use Rattle.std.proofs.lemmas.Bool.{cases_lt, cases_order}
+use Rattle.std.proofs.Common.{◌≡◌, ◌≢◌, ◌⊎◌, inl, inr, refl, sym, ◌∙◌, ap, subst, ℕ, zero, suc, ◌+◌, ◌<◌, ◌==◌, List, ◌++◌, length, Bool, true, false, cond, Option, Some, None, slice_get, true≢false, arith}
+use Rattle.std.specs.Prelude.{option_map}
+use Rattle.std.proofs.lemmas.Bool.{cases_order}
 use Rattle.std.proofs.lemmas.Bool.Decides.{Decides-eqb}
-use Rattle.std.proofs.lemmas.Option.{none-some, same_Some, slice_get_within, slice_get-get_or}
-use Rattle.std.proofs.lemmas.List.Elements.{All-contains}
+use Rattle.std.proofs.lemmas.Option.{none-some, same_Some, slice_get_within}
 use Rattle.cov_types.specs.declared.coord.Coord.{Coord}
 use Rattle.greedy_run.specs.Run.{is_removed, IsLastBefore, IsFirstAfter}
-use Rattle.visvalingam.specs.Chains.{IsBeforeLink, IsAfterLink, IsLinkedAt, AreLinked, IsCornerAt, IsCornerAnswer, AreChanged, IsFirstLinks, IsInnerPlace, unlinked, with_after, with_before}
+use Rattle.visvalingam.specs.Chains.{IsBeforeLink, IsAfterLink, IsLinkedAt, AreLinked, IsCornerAt, AreChanged, IsFirstLinks, IsInnerPlace, unlinked}
 use Rattle.visvalingam.specs.declared.corner.Corner.{Corner}
 use Rattle.visvalingam.specs.declared.chains.Links.{Links}
-use Rattle.visvalingam.proofs.Ready.{removed_cases, still_removed, now_removed, still_there}
+use Rattle.visvalingam.proofs.Ready.{still_removed, now_removed, still_there}
 
 pub some_at : {X : Type 0} (xs : List X) (i : ℕ) → i < length xs → (x : X) × (slice_get xs i ≡ Some x)
 some_at [] i below = absurd (omega (arith, below))

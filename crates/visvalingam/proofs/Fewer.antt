@@ -1,6 +1,6 @@
 -- Fewer points are left once one went.
 use mathlib.Core.List.{[], ◌∷◌}
-use Rattle.std.proofs.Common.{◌≡◌, refl, sym, ◌∙◌, ap, subst, ℕ, zero, suc, ◌+◌, ◌<◌, ◌≤◌, ◌==◌, List, length, Bool, true, false, cond, Option, Some, None, Vec, Global, slice_get, slice_set, is_some, true≢false, arith}
+use Rattle.std.proofs.Common.{◌≡◌, refl, sym, ◌∙◌, ap, subst, ℕ, zero, suc, ◌<◌, ◌≤◌, ◌==◌, List, Bool, true, false, cond, Option, Some, None, Vec, Global, slice_get, slice_set, is_some, true≢false, arith}
 use Rattle.std.specs.Prelude.{option_map, sum_by, count_by}
 use Rattle.std.proofs.lemmas.Bool.Decides.{Decides-eqb}
 use Rattle.std.proofs.lemmas.List.Sums.{sum_by-cons}

@@ -1,12 +1,12 @@
 -- The queue of a state takes care of each spot that may become removable: what popping, waiting and a removal keep of that.
 use mathlib.Core.List.{[], ◌∷◌}
-use Rattle.std.proofs.Common.{◌≡◌, ◌≢◌, ◌⊎◌, inl, inr, refl, sym, ◌∙◌, ap, subst, ℕ, zero, suc, ◌+◌, ◌<◌, ◌≤◌, List, ◌++◌, length, All, Bool, true, false, cond, not, ◌||◌, get_or, IsTrue, Option, Some, slice_get, true≢false, arith}
+use Rattle.std.proofs.Common.{◌≡◌, ◌≢◌, ◌⊎◌, inl, inr, refl, sym, ◌∙◌, ap, subst, ℕ, zero, suc, ◌<◌, List, ◌++◌, All, Bool, true, false, cond, not, ◌||◌, get_or, IsTrue, Some, slice_get, true≢false, arith}
 use Rattle.std.specs.Prelude.{Contains, option_and_then, AllPairs}
 use Rattle.std.specs.Ordering.{is_le, is_lt, nat_cmp, ordering_then}
 use Rattle.std.proofs.lemmas.Bool.{or_cases, or_left, or_right, cases_order}
 use Rattle.std.proofs.lemmas.Bool.Decides.{nat_tests}
 use Rattle.std.specs.declared.cmp.Ordering.{Ordering}
-use Rattle.std.proofs.lemmas.Option.{none-some, same_Some, slice_get_within, slice_get-get_or, get_or_from_slice_get}
+use Rattle.std.proofs.lemmas.Option.{same_Some, slice_get_within, get_or_from_slice_get}
 use Rattle.std.proofs.lemmas.List.Elements.{All-contains, Contains-append_left, Contains-append_right}
 use Rattle.cov_types.specs.declared.coord.Coord.{Coord}
 use Rattle.cov_types.specs.declared.seg.Seg.{Seg}
@@ -14,9 +14,8 @@ use Rattle.cov_types.specs.Coord.{is_same_coord, points_cmp}
 use Rattle.cov_types.specs.Seg.{IsSegBetween}
 use Rattle.cov_types.proofs.Equal.{Decides-same_coords}
 use Rattle.arrangement.proofs.PointOrders.{points_both_ways}
-use Rattle.greedy_run.specs.Lines.{IsLine, AreLines}
-use Rattle.greedy_run.specs.Laws.{IsOnePlace}
-use Rattle.greedy_run.specs.Run.{Triangle, Spot, spot_cmp, Simplification, point_at, is_removed, current, current_points, current_edges, IsLastBefore, IsFirstAfter, point_before, point_after, IsTriangleAt, IsRemovable, IsNextPoint}
+use Rattle.greedy_run.specs.Lines.{IsLine}
+use Rattle.greedy_run.specs.Run.{Triangle, Spot, Simplification, point_at, is_removed, current, current_points, IsLastBefore, IsFirstAfter, point_before, point_after, IsTriangleAt, IsRemovable, IsNextPoint}
 use Rattle.greedy_run.proofs.Kept.{before_is, after_is}
 use Rattle.greedy_run.proofs.NoNodes.{no_node}
 use Rattle.greedy_run.proofs.OneLine.{one_place}
@@ -141,20 +140,20 @@ module _ (s : Simplification) (removed : List Coord) where
       elim (ready r h) [
         | inl has ↦ elim (first_or_later q rest r has) [
           | inl same ↦ inr (inl (record {
-              vertex = p;
-              there = has_p;
-              in_way = in_way h.t (subst (λ (o : QueuedSpot). IsTriangleAt s.lines removed (at_spot o) h.t) (sym same) h.triangle);
-              waits = subst (Contains (new p)) same (own_pushed (is_same_coord p p) ((Decides-same_coords p p).1 refl) (pushed p));
-            }))
+            vertex = p;
+            there = has_p;
+            in_way = in_way h.t (subst (λ (o : QueuedSpot). IsTriangleAt s.lines removed (at_spot o) h.t) (sym same) h.triangle);
+            waits = subst (Contains (new p)) same (own_pushed (is_same_coord p p) ((Decides-same_coords p p).1 refl) (pushed p));
+          }))
           | inr later ↦ inl later
         ]
         | inr other ↦ elim other [
           | inl w ↦ inr (inl (record {
-              vertex = w.vertex;
-              there = w.there;
-              in_way = w.in_way;
-              waits = still w.vertex (is_same_coord p w.vertex) refl (pushed w.vertex) w.waits;
-            }))
+            vertex = w.vertex;
+            there = w.there;
+            in_way = w.in_way;
+            waits = still w.vertex (is_same_coord p w.vertex) refl (pushed w.vertex) w.waits;
+          }))
           | inr side ↦ inr (inr side)
         ]
       ]

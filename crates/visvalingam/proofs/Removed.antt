@@ -1,13 +1,11 @@
 -- A state after a point went.
 use mathlib.Core.List.{[], ◌∷◌}
-use Rattle.std.proofs.Common.{◌≡◌, ◌≢◌, ◌⊎◌, inl, inr, refl, sym, ◌∙◌, ap, subst, ℕ, zero, suc, ◌+◌, ◌<◌, List, length, Bool, true, cond, Option, Some, None, Vec, Global, ◌↔◌, slice_get, slice_set, length-set, arith}
+use Rattle.std.proofs.Common.{◌≡◌, ◌≢◌, inl, inr, refl, sym, ◌∙◌, ap, subst, ℕ, zero, suc, List, length, true, cond, Option, Some, Vec, Global, ◌↔◌, slice_get, slice_set, length-set, arith}
 use Rattle.std.specs.Prelude.{Contains, option_and_then}
 use Rattle.std.proofs.lemmas.Bool.{cases_order}
 use Rattle.std.proofs.lemmas.Option.{none-some, same_Some}
 use Rattle.cov_types.specs.Coord.{is_same_coord}
-use Rattle.cov_types.specs.Seg.{IsSegBetween}
 use Rattle.cov_types.specs.declared.coord.Coord.{Coord}
-use Rattle.cov_types.specs.declared.seg.Seg.{Seg}
 use Rattle.greedy_run.specs.Run.{Simplification, IsRemovable, current, current_points, current_edges}
 use Rattle.visvalingam.specs.Chains.{AreAllLinked, AreChanged, AreLinked, IsCornerAt, unlinked}
 use Rattle.visvalingam.specs.Queue.{at_spot}

@@ -1,14 +1,10 @@
 -- The tables of a state after a point went.
 use mathlib.Core.List.{[], ◌∷◌}
-use Rattle.std.proofs.Common.{◌≡◌, ◌≢◌, ◌⊎◌, inl, inr, refl, sym, ◌∙◌, ap, subst, ℕ, zero, suc, ◌<◌, List, length, Bool, true, false, not, cond, Option, Some, None, Vec, Global, ◌↔◌, slice_get, slice_set, true≢false, arith}
+use Rattle.std.proofs.Common.{◌≡◌, ◌≢◌, ◌⊎◌, inl, inr, refl, ◌∙◌, suc, List, Bool, true, false, not, cond, ◌↔◌, true≢false, arith}
 use Rattle.std.specs.Prelude.{Contains}
-use Rattle.std.proofs.lemmas.Bool.{cases_order}
-use Rattle.std.proofs.lemmas.Option.{none-some, same_Some}
 use Rattle.cov_types.specs.declared.coord.Coord.{Coord}
 use Rattle.cov_types.specs.declared.seg.Seg.{Seg}
-use Rattle.cov_types.specs.Coord.{is_same_coord}
 use Rattle.cov_types.specs.Seg.{IsSegBetween}
-use Rattle.cov_types.proofs.Equal.{Decides-same_coords}
 use Rattle.greedy_run.specs.Run.{Simplification, IsRemovable, is_removed, current, current_points, current_edges}
 use Rattle.removal_laws.proofs.Removable.{now_ends, next_stays, next_ac, next_was}
 use Rattle.removal_laws.proofs.Bridge.{of_flat_map, to_flat_map}

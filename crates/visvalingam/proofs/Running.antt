@@ -1,10 +1,10 @@
 -- The run, one point after the other.
-use mathlib.Core.List.{[], ◌∷◌}
-use Rattle.std.proofs.Common.{◌≡◌, refl, sym, ap, subst, List, Some, None}
+use mathlib.Core.List.{◌∷◌}
+use Rattle.std.proofs.Common.{◌≡◌, sym, ap, subst, List, Some, None}
 use Rattle.cov_types.specs.declared.coord.Coord.{Coord}
 use Rattle.greedy_run.specs.Run.{Simplification, Spot, IsRemovable, IsRunState, IsFinalState}
 use Rattle.visvalingam.specs.Ready.{IsReady}
-use Rattle.visvalingam.specs.State.{IsTaskOf, IsStateOf, AreTables, IsGoing, IsFoundSo, IsAfter, gone}
+use Rattle.visvalingam.specs.State.{IsStateOf, AreTables, IsGoing, IsFoundSo, IsAfter, gone}
 use Rattle.visvalingam.specs.Waiting.{waiting_at}
 use Rattle.visvalingam.specs.declared.corner.Corner.{Corner}
 use Rattle.visvalingam.specs.declared.spot.QueuedSpot.{QueuedSpot}

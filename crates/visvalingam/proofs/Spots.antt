@@ -1,13 +1,13 @@
 -- Corners of the code and the triangles at spots.
-use Rattle.std.proofs.Common.{◌≡◌, refl, sym, ◌∙◌, ap, subst, ℕ, ◌*◌, ◌<◌, ◌≤◌, List, map, length, Bool, true, IsTrue, Option, Some, None, Vec, Global, unsigned_abs, arith}
+use Rattle.std.proofs.Common.{◌≡◌, refl, sym, ◌∙◌, ap, subst, ℕ, ◌*◌, ◌<◌, ◌≤◌, List, length, true, Some, None, Vec, Global, unsigned_abs, arith}
 use Rattle.std.proofs.lemmas.List.{length-map}
 use Rattle.std.specs.Prelude.{Contains, option_map, option_and_then, slice_get}
 use Rattle.std.proofs.lemmas.Option.{same_Some, slice_get-map, slice_get_within}
 use Rattle.cov_types.specs.declared.coord.Coord.{Coord}
 use Rattle.plane.specs.Segment.{turn_of}
-use Rattle.greedy_run.specs.Run.{Triangle, Spot, Simplification, point_at, IsTriangleAt, IsRemovable, IsInner, current_points, current_edges}
+use Rattle.greedy_run.specs.Run.{Triangle, Simplification, IsTriangleAt, current_points}
 use Rattle.cov_cells.specs.Way.{IsInWay}
-use Rattle.visvalingam.specs.Chains.{IsCornerAt, IsCornerAnswer, IsAnswerIn}
+use Rattle.visvalingam.specs.Chains.{IsCornerAt, IsAnswerIn}
 use Rattle.visvalingam.specs.Queue.{at_spot}
 use Rattle.visvalingam.specs.Ready.{IsOpen, IsSpanned}
 use Rattle.visvalingam.specs.State.{IsTaskOf, IsAllowed, IsGoing, lists_of}

@@ -1,15 +1,15 @@
 -- A state whose queue and waiting spots alone change.
-use mathlib.Core.List.{[], ◌∷◌}
-use Rattle.std.proofs.Common.{◌≡◌, refl, sym, ◌∙◌, ap, subst, ℕ, List, All, Option, Some, None, Vec, Global, ◌↔◌, true, IsPermutation}
+use mathlib.Core.List.{◌∷◌}
+use Rattle.std.proofs.Common.{◌≡◌, sym, ap, subst, List, All, Option, Some, None, Vec, Global, ◌↔◌, true, IsPermutation}
 use Rattle.std.specs.Prelude.{Contains, reverse}
 use Rattle.std.proofs.lemmas.List.Sorted.{Contains-permutation}
 use Rattle.cov_types.specs.declared.coord.Coord.{Coord}
-use Rattle.greedy_run.specs.Run.{Simplification, Spot, IsRemovable, IsNextPoint, current_points, current_edges}
+use Rattle.greedy_run.specs.Run.{Simplification, IsNextPoint, current_points, current_edges}
 use Rattle.visvalingam.specs.Chains.{AreAllLinked}
 use Rattle.visvalingam.specs.Queue.{IsNoLater}
 use Rattle.visvalingam.specs.Ready.{IsReady}
 use Rattle.visvalingam.specs.Segments.{is_among}
-use Rattle.visvalingam.specs.State.{IsTaskOf, AreTables, IsGoing, IsSettledSo, IsFoundSo, gone}
+use Rattle.visvalingam.specs.State.{IsTaskOf, AreTables, IsGoing, IsSettledSo, gone}
 use Rattle.visvalingam.specs.Waiting.{waiting_at}
 use Rattle.visvalingam.specs.declared.chains.Links.{Links}
 use Rattle.visvalingam.specs.declared.corner.Corner.{Corner}
@@ -17,7 +17,7 @@ use Rattle.visvalingam.specs.declared.segments.Segments.{Segments}
 use Rattle.visvalingam.specs.declared.spot.QueuedSpot.{QueuedSpot}
 use Rattle.visvalingam.specs.declared.state.State.{State}
 use Rattle.visvalingam.specs.declared.task.Task.{Task}
-use Rattle.visvalingam.proofs.Ready.{next_is, none_left, more_ready}
+use Rattle.visvalingam.proofs.Ready.{next_is, more_ready}
 
 -- the tables of two states are the same
 pub record IsAlike (old new : State) : Type 0 where

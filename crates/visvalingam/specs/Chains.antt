@@ -3,7 +3,7 @@ use Rattle.std.specs.Prelude.{◌≡◌, ◌⊎◌, ℕ, ◌+◌, ◌<◌, ◌==
 use Rattle.std.specs.Global.{Global}
 use Rattle.cov_types.specs.declared.coord.Coord.{Coord}
 use Rattle.cov_types.specs.Range.{IsInRange}
-use Rattle.greedy_run.specs.Run.{Triangle, Spot, is_removed, IsLastBefore, IsFirstAfter}
+use Rattle.greedy_run.specs.Run.{is_removed, IsLastBefore, IsFirstAfter}
 use Rattle.visvalingam.specs.declared.corner.Corner.{Corner}
 use Rattle.visvalingam.specs.declared.chains.Links.{Links}
 

@@ -71,11 +71,7 @@ fn first_segments(alloc: Global, lines: &[Vec<Coord>]) -> Result<Segments, NoMem
 }
 
 // Each spot that may become removable.
-fn first_queue(
-    alloc: Global,
-    task: &Task,
-    links: &[Vec<Option<Links>>],
-) -> Result<Queue, NoMemory>
+fn first_queue(alloc: Global, task: &Task, links: &[Vec<Option<Links>>]) -> Result<Queue, NoMemory>
     requires { IsTaskInRange task.now }
     ensures { IfOk result (λ queue. (s : Simplification) (q : QueuedSpot) → IsTaskOf s task.now → AreAllLinked [] task.now.lines.now links.now → IsOpen s [] (at_spot q) → Contains queue q) }
 {

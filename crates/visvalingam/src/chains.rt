@@ -49,12 +49,7 @@ impl Links {
     }
 
     /// Takes the point at the place out and joins its neighbours at these places.
-    pub(crate) fn unlink(
-        links: &mut [Option<Links>],
-        place: usize,
-        before: usize,
-        after: usize,
-    )
+    pub(crate) fn unlink(links: &mut [Option<Links>], place: usize, before: usize, after: usize)
         requires place { place < length links.old }
         requires before { before < length links.old }
         requires after { after < length links.old }

@@ -47,11 +47,7 @@ pub(crate) fn corner_at(
     if line >= task.lines.len() || line >= links.len() {
         return None;
     }
-    Corner::at(
-        task.lines[line].as_slice(),
-        links[line].as_slice(),
-        place,
-    )
+    Corner::at(task.lines[line].as_slice(), links[line].as_slice(), place)
 }
 
 /// Whether the line may lose points, and a triangle of this size is small.

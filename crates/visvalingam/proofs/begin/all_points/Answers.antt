@@ -1,5 +1,5 @@
 use mathlib.Core.List.{[]}
-use Rattle.std.proofs.Common.{◌≡◌, sym, ◌∙◌, ap, List, ◌++◌, Vec, Global}
+use Rattle.std.proofs.Common.{sym, ◌∙◌, ap, List, ◌++◌, Vec, Global}
 use Rattle.cov_types.specs.declared.coord.Coord.{Coord}
 use Rattle.cov_types.proofs.Sides.{flat_map-take_more, flat_map-take_all}
 use Rattle.visvalingam.proofs.Begun.{all_points}

@@ -1,4 +1,4 @@
-use Rattle.std.proofs.Common.{◌≡◌, inl, inr, refl, sym, ◌∙◌, ap, Vec, Global, length, arith}
+use Rattle.std.proofs.Common.{inl, inr, refl, sym, ◌∙◌, ap, Vec, Global, length, arith}
 use Rattle.std.proofs.lemmas.Bool.{cases_lt}
 use Rattle.std.proofs.lemmas.Option.{slice_get_read}
 use Rattle.cov_types.specs.declared.coord.Coord.{Coord}

@@ -1,4 +1,4 @@
-use Rattle.std.proofs.Common.{◌≡◌, sym, ◌∙◌, ap, arith}
+use Rattle.std.proofs.Common.{arith}
 use Rattle.visvalingam.proofs.Begun.{line_linked}
 use Rattle.visvalingam.proofs.begin.first_links.Goals as goal
 

@@ -1,5 +1,5 @@
 use mathlib.Core.List.{[]}
-use Rattle.std.proofs.Common.{◌≡◌, inl, inr, arith}
+use Rattle.std.proofs.Common.{inl, inr, arith}
 use Rattle.std.proofs.lemmas.Bool.{cases_lt}
 use Rattle.visvalingam.proofs.Spots.{line_within}
 use Rattle.visvalingam.proofs.begin.first_queue.Goals as goal

@@ -1,5 +1,4 @@
-use mathlib.Core.List.{[]}
-use Rattle.std.proofs.Common.{◌≡◌, ◌↔◌, ◌⊎◌, inl, inr, sym, ◌∙◌, ap, subst, true, true≢false, List, Vec, Global, flat_map, arith}
+use Rattle.std.proofs.Common.{◌≡◌, ◌↔◌, ◌⊎◌, sym, ◌∙◌, ap, subst, true, true≢false, List, Vec, Global, flat_map, arith}
 use Rattle.std.specs.Prelude.{Contains}
 use Rattle.std.proofs.lemmas.List.{take_all}
 use Rattle.cov_types.specs.declared.coord.Coord.{Coord}

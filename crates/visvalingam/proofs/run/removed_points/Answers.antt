@@ -1,4 +1,4 @@
-use Rattle.std.proofs.Common.{◌≡◌, ap, subst, arith}
+use Rattle.std.proofs.Common.{ap, subst, arith}
 use Rattle.visvalingam.specs.Chains.{count_left}
 use Rattle.visvalingam.specs.State.{IsFoundSo}
 use Rattle.visvalingam.specs.declared.state.State.{State}

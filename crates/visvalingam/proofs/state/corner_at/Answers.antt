@@ -1,4 +1,4 @@
-use Rattle.std.proofs.Common.{◌≡◌, refl, sym, ◌∙◌, ap, subst, List, Option, Some, Vec, Global, length}
+use Rattle.std.proofs.Common.{◌≡◌, refl, sym, ◌∙◌, ap, subst, List, Option, Vec, Global, length}
 use Rattle.std.proofs.lemmas.Option.{IfSome_then, slice_get_read, same_Some}
 use Rattle.cov_types.specs.declared.coord.Coord.{Coord}
 use Rattle.visvalingam.specs.Chains.{IsStanding, AreLinked, IsCornerAnswer}

@@ -1,9 +1,8 @@
-use Rattle.std.proofs.Common.{◌≡◌, refl, sym, ◌∙◌, ap, subst, ℕ, Option, Some, None, true≢false, [], ◌∷◌}
+use Rattle.std.proofs.Common.{◌≡◌, sym, ◌∙◌, subst, ℕ, Option, true≢false, ◌∷◌}
 use Rattle.std.proofs.lemmas.List.Sorted.{Contains-permutation}
 use Rattle.visvalingam.specs.Chains.{IsAnswerIn}
 use Rattle.visvalingam.specs.State.{IsAllowed}
 use Rattle.visvalingam.specs.declared.corner.Corner.{Corner}
-use Rattle.visvalingam.specs.declared.spot.QueuedSpot.{QueuedSpot}
 use Rattle.visvalingam.proofs.Ready.{there, here_first}
 use Rattle.visvalingam.proofs.Spots.{none_open, open_size, open_allowed}
 use Rattle.visvalingam.proofs.state.enter.Goals as goal

@@ -1,4 +1,4 @@
-use Rattle.std.proofs.Common.{sym, ◌∙◌, subst, arith}
+use Rattle.std.proofs.Common.{sym, subst, arith}
 use Rattle.visvalingam.specs.Chains.{IsFirstLinks}
 use Rattle.visvalingam.proofs.Chained.{first_linked}
 use Rattle.visvalingam.proofs.chains.Links.first.Goals as goal

@@ -1,7 +1,5 @@
-use Rattle.std.proofs.Common.{◌≡◌, refl, sym, ◌∙◌, ap, List, Option, Some, None, pos, length, slice_get, get_or, true≢false, arith}
+use Rattle.std.proofs.Common.{refl, sym, ◌∙◌, ap, Some, None, pos, get_or, true≢false, arith}
 use Rattle.std.proofs.lemmas.Option.{slice_get-get_or}
-use Rattle.cov_types.specs.declared.coord.Coord.{Coord}
-use Rattle.visvalingam.specs.declared.chains.Links.{Links}
 use Rattle.visvalingam.proofs.Chained.{none_at_gone, none_at_end, corner_is}
 use Rattle.visvalingam.proofs.corner.Corner.at.Goals as goal
 

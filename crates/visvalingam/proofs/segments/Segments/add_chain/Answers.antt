@@ -1,9 +1,6 @@
-use Rattle.std.proofs.Common.{◌≡◌, ◌⊎◌, ◌↔◌, ◌+◌, ◌-◌, ℕ, inl, inr, refl, sym, ◌∙◌, subst, true, get_or, length, pos, arith}
-use Rattle.std.specs.Prelude.{Contains}
-use Rattle.cov_types.specs.declared.coord.Coord.{Coord}
-use Rattle.cov_types.specs.Seg.{IsSegBetween}
+use Rattle.std.proofs.Common.{pos}
 use Rattle.visvalingam.specs.Segments.{is_among}
-use Rattle.visvalingam.proofs.Begun.{edges_until, chain_step, until_all, none_until}
+use Rattle.visvalingam.proofs.Begun.{chain_step, until_all, none_until}
 use Rattle.visvalingam.proofs.segments.Segments.add_chain.Goals as goal
 
 pub loop-i-init : goal.loop-i-init

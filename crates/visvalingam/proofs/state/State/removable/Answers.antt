@@ -1,11 +1,10 @@
-use Rattle.std.proofs.Common.{◌≡◌, refl, sym, ◌∙◌, ap, subst, ℕ, List, Option, Some, None, Vec, Global, length, slice_get, true≢false, [], ◌∷◌, arith}
+use Rattle.std.proofs.Common.{refl, sym, ◌∙◌, subst, List, Option, Vec, Global, true≢false, arith}
 use Rattle.std.proofs.lemmas.Option.{slice_get_within}
-use Rattle.cov_types.specs.declared.coord.Coord.{Coord}
-use Rattle.greedy_run.specs.Run.{Triangle, Simplification}
+use Rattle.greedy_run.specs.Run.{Triangle}
 use Rattle.cov_cells.specs.Way.{IsInWay, IsFirstInWay}
-use Rattle.visvalingam.specs.Chains.{IsAnswerIn, IsStandingIn, AreAllLinked}
+use Rattle.visvalingam.specs.Chains.{IsAnswerIn, AreAllLinked}
 use Rattle.visvalingam.specs.Ready.{IsSpanned}
-use Rattle.visvalingam.specs.State.{IsAllowed, AreTables, gone}
+use Rattle.visvalingam.specs.State.{gone}
 use Rattle.visvalingam.specs.Waiting.{waiting_at}
 use Rattle.visvalingam.specs.declared.corner.Corner.{Corner}
 use Rattle.visvalingam.specs.declared.chains.Links.{Links}
@@ -71,7 +70,7 @@ returns-in-None-clause-settled c s asked tables ready =
     let within = slice_get_within c.as_slice.result.now c.args.spot.line standing.own standing.at in
     let points = some_at task.lines.now c.args.spot.line (omega arith) in (
       going s task asked (gone self) c.args.spot points.0 corner points.1 (answer points.0 points.1) (sym c.size.ensures ∙ c.if-size-spot.false) (c.is_allowed.ensures.0 c.if-not-is_allowed.false)
-      (λ p has. none p ((tables.points p).1 has))
-      (λ spanned. true≢false (sym (c.joins.ensures.1 (spanned.0, ((tables.edges spanned.0).1 spanned.1.0, spanned.1.1))) ∙ c.if-joins.false)),
+          (λ p has. none p ((tables.points p).1 has))
+          (λ spanned. true≢false (sym (c.joins.ensures.1 (spanned.0, ((tables.edges spanned.0).1 spanned.1.0, spanned.1.1))) ∙ c.if-joins.false)),
       refl,
     )

@@ -5,11 +5,11 @@ use Rattle.std.proofs.lemmas.Option.{get_or_from_slice_get}
 use Rattle.std.specs.Vec.{with_item, with_items}
 use Rattle.cov_types.specs.declared.coord.Coord.{Coord}
 use Rattle.visvalingam.specs.Chains.{AreChanged, unlinked, count_left}
-use Rattle.visvalingam.specs.State.{IsAfter, gone}
+use Rattle.visvalingam.specs.State.{IsAfter}
 use Rattle.visvalingam.specs.declared.chains.Links.{Links}
 use Rattle.visvalingam.specs.declared.state.State.{State}
 use Rattle.visvalingam.proofs.Fewer.{fewer_left}
-use Rattle.visvalingam.proofs.Removed.{IsStep, after_removal}
+use Rattle.visvalingam.proofs.Removed.{after_removal}
 use Rattle.visvalingam.proofs.state.State.remove.Goals as goal
 
 -- the changed list, as the vector has it

@@ -23,7 +23,7 @@ pub fn gaps_case(alloc: Global, random: &mut Random) -> Result<Option<String>, N
     let arena = arena_of(alloc, &uses(alloc, &coverage)?)?;
     let regions = Regions::build(alloc, &arena)?;
     for side in 0..arena.len() {
-        if is_inner_region(&regions, side) {
+        if is_inner_region(&arena, &regions, side) {
             let difference = region_difference(alloc, &arena, &regions, side)?;
             if difference.is_some() {
                 return Ok(difference);
@@ -43,10 +43,11 @@ fn arena_of(alloc: Global, list: &[EdgeUse]) -> Result<Arena, NoMemory>
 }
 
 // Whether the side is the least of a region that isn't outer: each of these regions has one.
-fn is_inner_region(regions: &Regions, side: usize) -> bool
-    requires { side < 2 * length regions.now }
-    ensures region { IsTrue result → IsRegion regions.now side }
-    ensures not_outer { IsTrue result → ¬ IsOuterRegion regions.now side }
+fn is_inner_region(_arena: &Arena, regions: &Regions, side: usize) -> bool
+    requires same { regions.now ≡ _arena.now }
+    requires within { side < 2 * length regions.now }
+    ensures region { IsTrue result → IsRegion _arena.now side }
+    ensures not_outer { IsTrue result → ¬ IsOuterRegion _arena.now side }
 {
     if regions.region_of(side) != side {
         return false;
@@ -96,13 +97,19 @@ fn own_edges(
 {
     let mut own = Vec::new(alloc);
     for (k, e) in edges.iter().enumerate() {
-        let above = regions.region_of(2 * k) == region;
-        let below = regions.region_of(2 * k + 1) == region;
-        if above != below {
+        if is_beside(regions, k, region) {
             own.push(*e)?;
         }
     }
     Ok(own)
+}
+
+fn is_beside(regions: &Regions, k: usize, region: usize) -> bool
+    requires { k < length regions.now }
+{
+    let above = regions.region_of(2 * k) == region;
+    let below = regions.region_of(2 * k + 1) == region;
+    above != below
 }
 
 /// More than twice the way across the grid.

@@ -7,6 +7,7 @@ ghost use Rattle.geo_json.specs.Reading.{Reading, StandsFor, held, Reads};
 ghost use Rattle.geo_json.specs.Fault.{first, faults_from, fault_of, IsFault, HasNoFault};
 ghost use Rattle.geo_json.specs.Collecting.{AreAllRead};
 ghost use Rattle.geo_json.specs.declared.error.JsonFault.{JsonFault};
+ghost use Rattle.geo_text.specs.declared.reader.TheConstants.{LONGEST_INPUT};
 
 use crate::collected::Collected;
 use crate::error::{JsonError, JsonFault};
@@ -91,7 +92,7 @@ fn document(alloc: Global, value: Value) -> Result<Collected, JsonError>
 /// Reads a GeoJSON document of polygons: each feature is a member of the coverage, in order, with its properties and
 /// its id. Linear in time and memory; the properties and ids are those that were parsed, not copies.
 pub fn read_json(alloc: Global, bytes: &[u8]) -> Result<Features, JsonError>
-    requires { length bytes.now ≤ 67108864 }
+    requires { length bytes.now ≤ LONGEST_INPUT }
     ensures read { IfOk result (λ c. Reads bytes.now (held c)) }
     ensures faultless { OnOk result (HasNoFault bytes.now) }
     ensures formed { IfOk result (λ c. IsFormed c.coverage) }

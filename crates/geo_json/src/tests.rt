@@ -1,4 +1,5 @@
 use crate::{Features, JsonError, JsonFault, read_json};
+use geo_text::LONGEST_INPUT;
 use std::alloc::{AllocError, Global};
 use std::test::Fail;
 
@@ -40,7 +41,7 @@ fn named(alloc: Global, fault: JsonFault) -> Result<String, AllocError> {
 }
 
 fn answer(alloc: Global, text: &[u8]) -> Result<String, Fail> {
-    if text.len() > 67_108_864 {
+    if text.len() > LONGEST_INPUT {
         return Ok(String::from_str(alloc, "too long")?);
     }
     Ok(match read_json(alloc, text) {

@@ -1,11 +1,12 @@
 use crate::json_of;
 use geo_json::{Features, read_json};
+use geo_text::LONGEST_INPUT;
 use std::alloc::Global;
 use std::test::Fail;
 
 /// What is written of a document.
 fn written(alloc: Global, text: &str) -> Result<Vec<u8>, Fail> {
-    if text.len() > 67_108_864 {
+    if text.len() > LONGEST_INPUT {
         return Ok(Vec::new(alloc));
     }
     let features: Features = read_json(alloc, text.as_bytes()).map_err(|_e| "not read")?;

@@ -10,7 +10,7 @@ use crate::points::{ROOM, in_range};
 use crate::random::Random;
 use cov_types::{Coord, EdgeUse, NoMemory, Seg, uses};
 use face_walk::Regions;
-use gap_width::{clearance, narrow};
+use gap_width::GapSearch;
 use grid_pred::{at_least, over};
 use half_edge::Arena;
 use snap_noder::{live, node};
@@ -22,9 +22,24 @@ pub fn gaps_case(alloc: Global, random: &mut Random) -> Result<Option<String>, N
     let coverage = roomy_coverage(alloc, random)?;
     let arena = arena_of(alloc, &uses(alloc, &coverage)?)?;
     let regions = Regions::build(alloc, &arena)?;
-    for side in 0..arena.len() {
-        if is_inner_region(&arena, &regions, side) {
-            let difference = region_difference(alloc, &arena, &regions, side)?;
+    let search = GapSearch::build(alloc, &arena, &regions)?;
+    first_difference(alloc, arena.edges(), &regions, &search)
+}
+
+// What differs at the first of the regions that differs.
+fn first_difference(
+    alloc: Global,
+    edges: &[Seg],
+    regions: &Regions,
+    search: &GapSearch,
+) -> Result<Option<String>, NoMemory>
+    requires in_range { All IsSegInRange edges.now }
+    requires regions { regions.now ≡ edges.now }
+    requires search { search.now ≡ regions.now }
+{
+    for side in 0..regions.numbers().len() {
+        if is_inner_region(regions, side) {
+            let difference = region_difference(alloc, edges, regions, search, side)?;
             if difference.is_some() {
                 return Ok(difference);
             }
@@ -43,11 +58,10 @@ fn arena_of(alloc: Global, list: &[EdgeUse]) -> Result<Arena, NoMemory>
 }
 
 // Whether the side is the least of a region that isn't outer: each of these regions has one.
-fn is_inner_region(_arena: &Arena, regions: &Regions, side: usize) -> bool
-    requires same { regions.now ≡ _arena.now }
-    requires within { side < 2 * length regions.now }
-    ensures region { IsTrue result → IsRegion _arena.now side }
-    ensures not_outer { IsTrue result → ¬ IsOuterRegion _arena.now side }
+fn is_inner_region(regions: &Regions, side: usize) -> bool
+    requires { side < 2 * length regions.now }
+    ensures region { IsTrue result → IsRegion regions.now side }
+    ensures not_outer { IsTrue result → ¬ IsOuterRegion regions.now side }
 {
     if regions.region_of(side) != side {
         return false;
@@ -60,20 +74,21 @@ fn is_inner_region(_arena: &Arena, regions: &Regions, side: usize) -> bool
 
 fn region_difference(
     alloc: Global,
-    arena: &Arena,
+    edges: &[Seg],
     regions: &Regions,
+    search: &GapSearch,
     region: usize,
 ) -> Result<Option<String>, NoMemory>
-    requires same { regions.now ≡ arena.now }
-    requires region { IsRegion arena.now region }
-    requires not_outer { ¬ IsOuterRegion arena.now region }
+    requires in_range { All IsSegInRange edges.now }
+    requires regions { regions.now ≡ edges.now }
+    requires region { IsRegion search.now region }
+    requires not_outer { ¬ IsOuterRegion search.now region }
 {
-    let edges = arena.edges();
     let own = own_edges(alloc, edges, regions, region)?;
     let plain = plain_clearance(edges, &own);
-    let found = clearance(alloc, arena, regions, region)?;
-    let at = narrow(alloc, arena, regions, region, plain)?;
-    let above = narrow(alloc, arena, regions, region, plain + 1)?;
+    let found = search.clearance(region)?;
+    let at = search.narrow(region, plain)?;
+    let above = search.narrow(region, plain + 1)?;
     if found == plain && !at && above {
         return Ok(None);
     }
@@ -84,7 +99,7 @@ fn region_difference(
 
 // ---- the plain form
 
-// The edges that have the region on one side alone.
+// The edges of the region's sides: one that has the region on both sides is there twice.
 fn own_edges(
     alloc: Global,
     edges: &[Seg],
@@ -96,20 +111,13 @@ fn own_edges(
     ensures { IfOk result (λ own. All IsSegInRange own.items) }
 {
     let mut own = Vec::new(alloc);
-    for (k, e) in edges.iter().enumerate() {
-        if is_beside(regions, k, region) {
-            own.push(*e)?;
+    for side in 0..regions.numbers().len() {
+        if regions.region_of(side) != region {
+            continue;
         }
+        own.push(edges[side / 2])?;
     }
     Ok(own)
-}
-
-fn is_beside(regions: &Regions, k: usize, region: usize) -> bool
-    requires { k < length regions.now }
-{
-    let above = regions.region_of(2 * k) == region;
-    let below = regions.region_of(2 * k + 1) == region;
-    above != below
 }
 
 /// More than twice the way across the grid.

@@ -10,7 +10,7 @@ use Rattle.cover_cli.specs.Answers.{is_success, is_refusal, is_marked, touches_o
 use Rattle.cover_cli.specs.Input.{AreInputs}
 use Rattle.cover_cli.specs.Made.{Makes, Refuses}
 use Rattle.cover_cli.specs.Refusal.{IsRefusedFor, IsUnread}
-use Rattle.cover_cli.specs.Words.{Operation, inputs_of, output_of}
+use Rattle.cover_words.specs.Words.{Operation, inputs_of, output_of}
 use Rattle.cover_cli.specs.Written.{IsTextWritten, IsWrittenWhole, IsWrittenInPart}
 use Rattle.cover_cli.specs.declared.outcome.Outcome.{Outcome}
 use Rattle.cover_cli.specs.declared.outcome.Outcome.TheVariants.{Done, Marked, Usage, ReadFault, WriteFault, TooLong, BadText, NotValid, NoMemory}

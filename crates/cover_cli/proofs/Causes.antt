@@ -1,7 +1,7 @@
 -- Causes of refusals: each input has one cause at most, and none where a text is made of it.
 use Rattle.std.proofs.Common.{◌≡◌, ◌≢◌, ℕ, zero, suc, List, [], ◌∷◌, Bool, true, false, IsTrue, refl, ap, subst, ◌∙◌, sym, inl, inr}
 use Rattle.cov_types.specs.declared.coord.Coord.{Coord}
-use Rattle.cover_cli.specs.Answers.{is_success, is_refusal, is_marked, touches_output}
+use Rattle.cover_cli.specs.Answers.{is_validate, is_success, is_refusal, is_marked, touches_output}
 use Rattle.cov_types.specs.Coverage.{Members}
 use Rattle.cov_types.specs.Uses.{uses_of}
 use Rattle.plane.specs.Validity.{IsValid}
@@ -11,12 +11,13 @@ use Rattle.cov_admit.specs.declared.error.AdmitError.TheVariants.{NotValid as No
 use Rattle.cov_admit.proofs.FirstMarks.{one_first_mark}
 use Rattle.geo_text.proofs.OneReading.{one_reading}
 use Rattle.geo_text.specs.Reading.{Reads}
-use Rattle.cover_cli.specs.Union.{IsUniting, TellsMark, RefusesUnion}
+use Rattle.cover_cli.specs.Invalid.{TellsMark, RefusesInvalid}
+use Rattle.cover_cli.specs.Union.{IsUniting}
 use Rattle.cover_cli.specs.Made.{IsOneAnd, Makes, Refuses}
 use Rattle.cover_cli.specs.Refusal.{outcome_of_text, outcome_of_refusal, IsRefusedFor}
 use Rattle.cover_cli.specs.Text.{IsReadAnd, RefusesText}
 use Rattle.cover_cli.specs.Validate.{marking}
-use Rattle.cover_cli.specs.Words.{Operation, Validate, Clean, Union, Node, Regions, is_validate}
+use Rattle.cover_words.specs.Words.{Operation, Validate, Clean, Simplify, Union, Node, Regions}
 use Rattle.cover_cli.specs.declared.outcome.Outcome.{Outcome}
 use Rattle.cover_cli.specs.declared.outcome.Outcome.TheVariants.{Done, Marked, Usage, ReadFault, WriteFault, TooLong, BadText, NotValid, NoMemory}
 use Rattle.geo_text.proofs.Verdicts.{one_fault}
@@ -57,14 +58,14 @@ not_read_and_refused input P _ read refuses = absurd refuses
 -- ---- coverages that are not valid
 
 -- a coverage that is not admitted is refused for its cause
-pub admit_refused : (e : AdmitError) (input : List ℕ) (members : Members) → Reads input members → HasNoFault input → IsRefusal members e → IsRefusedFor (RefusesUnion input) (outcome_of_refusal e)
+pub admit_refused : (e : AdmitError) (input : List ℕ) (members : Members) → Reads input members → HasNoFault input → IsRefusal members e → IsRefusedFor (RefusesInvalid input) (outcome_of_refusal e)
 admit_refused (NotAdmitted coverage mark) input members reads faultless refusal = inr (inr (record { members = members; reads = reads; faultless = faultless; holds = (refusal.1, refusal.2) }))
 admit_refused (NoAdmitMemory coverage) input members reads faultless refusal = inl refl
 
 -- what refuses a text, refuses its union
-pub union_refused : (input : List ℕ) (o : Outcome) → IsRefusedFor (RefusesText input) o → IsRefusedFor (RefusesUnion input) o
-union_refused input o (inl none) = inl none
-union_refused input o (inr refuses) = inr (inl refuses)
+pub invalid_refused : (input : List ℕ) (o : Outcome) → IsRefusedFor (RefusesText input) o → IsRefusedFor (RefusesInvalid input) o
+invalid_refused input o (inl none) = inl none
+invalid_refused input o (inr refuses) = inr (inl refuses)
 
 -- a coverage tells one first mark
 one_mark : (members : Members) (o p : Outcome) → TellsMark members o → TellsMark members p → o ≡ p
@@ -79,11 +80,11 @@ one_mark members (NotValid m) (BadText f) first second = absurd second
 one_mark members (NotValid m) NoMemory first second = absurd second
 one_mark members _ p first second = absurd first
 
-one_union_refusal : (input : List ℕ) (o p : Outcome) → RefusesUnion input o → RefusesUnion input p → o ≡ p
-one_union_refusal input o p (inl first) (inl second) = one_text_refusal input o p first second
-one_union_refusal input o p (inl first) (inr read) = absurd (not_read_and_refused input _ o read first)
-one_union_refusal input o p (inr read) (inl second) = absurd (not_read_and_refused input _ p read second)
-one_union_refusal input o p (inr read) (inr other) =
+one_invalid_refusal : (input : List ℕ) (o p : Outcome) → RefusesInvalid input o → RefusesInvalid input p → o ≡ p
+one_invalid_refusal input o p (inl first) (inl second) = one_text_refusal input o p first second
+one_invalid_refusal input o p (inl first) (inr read) = absurd (not_read_and_refused input _ o read first)
+one_invalid_refusal input o p (inr read) (inl second) = absurd (not_read_and_refused input _ p read second)
+one_invalid_refusal input o p (inr read) (inr other) =
     let same : other.members ≡ read.members = one_reading input other.members read.members other.reads read.reads in
     one_mark read.members o p read.holds (subst (λ (ms : Members). TellsMark ms p) same other.holds)
 
@@ -91,20 +92,20 @@ mark_refusal : (members : Members) (o : Outcome) → TellsMark members o → IsT
 mark_refusal members (NotValid mark) tells = refl
 mark_refusal members _ tells = absurd tells
 
-union_refusal : (input : List ℕ) (o : Outcome) → RefusesUnion input o → IsTrue (is_refusal o)
-union_refusal input o (inl refuses) = text_refusal input o refuses
-union_refusal input o (inr read) = mark_refusal read.members o read.holds
+invalid_refusal : (input : List ℕ) (o : Outcome) → RefusesInvalid input o → IsTrue (is_refusal o)
+invalid_refusal input o (inl refuses) = text_refusal input o refuses
+invalid_refusal input o (inr read) = mark_refusal read.members o read.holds
 
 told_invalid : (members : Members) (o : Outcome) → TellsMark members o → ¬ IsValid (uses_of members)
 told_invalid members (NotValid mark) tells = tells.1
 told_invalid members _ tells = absurd tells
 
--- a coverage that is united is valid, so it is not refused
-not_united_and_refused : (input : List ℕ) (o p : Outcome) (text : List ℕ) → IsReadAnd input (λ members. IsUniting members o text) → RefusesUnion input p → ⊥
-not_united_and_refused input o p text read (inl refuses) = not_read_and_refused input _ p read refuses
-not_united_and_refused input o p text read (inr other) =
+-- a coverage that is admitted is valid, so it is not refused
+not_admitted_and_refused : (input : List ℕ) (P : Members → Type 0) (p : Outcome) → ((members : Members) → P members → IsValid (uses_of members)) → IsReadAnd input P → RefusesInvalid input p → ⊥
+not_admitted_and_refused input P p valid read (inl refuses) = not_read_and_refused input _ p read refuses
+not_admitted_and_refused input P p valid read (inr other) =
     let same : other.members ≡ read.members = one_reading input other.members read.members other.reads read.reads in
-    told_invalid read.members p (subst (λ (ms : Members). TellsMark ms p) same other.holds) read.holds.admitted
+    told_invalid read.members p (subst (λ (ms : Members). TellsMark ms p) same other.holds) (valid read.members read.holds)
 
 -- ---- operations
 
@@ -122,14 +123,16 @@ of_both (input ∷ more ∷ rest) P Q C follows first second = absurd first
 pub one_refusal : (operation : Operation) (inputs : List (List ℕ)) (o p : Outcome) → Refuses operation inputs o → Refuses operation inputs p → o ≡ p
 one_refusal (Validate gap from to) inputs o p = of_both inputs _ _ (o ≡ p) (λ input. one_text_refusal input o p)
 one_refusal (Clean rule gap from to) inputs o p = of_both inputs _ _ (o ≡ p) (λ input. one_text_refusal input o p)
-one_refusal (Union from to) inputs o p = of_both inputs _ _ (o ≡ p) (λ input. one_union_refusal input o p)
+one_refusal (Simplify tolerance inner from to) inputs o p = of_both inputs _ _ (o ≡ p) (λ input. one_invalid_refusal input o p)
+one_refusal (Union from to) inputs o p = of_both inputs _ _ (o ≡ p) (λ input. one_invalid_refusal input o p)
 one_refusal (Node from to) inputs o p = of_both inputs _ _ (o ≡ p) (λ input. one_text_refusal input o p)
 one_refusal (Regions from to) inputs o p = of_both inputs _ _ (o ≡ p) (λ input. one_text_refusal input o p)
 
 pub refuses_refusal : (operation : Operation) (inputs : List (List ℕ)) (o : Outcome) → Refuses operation inputs o → IsTrue (is_refusal o)
 refuses_refusal (Validate gap from to) inputs o = of_one inputs _ (IsTrue (is_refusal o)) (λ input. text_refusal input o)
 refuses_refusal (Clean rule gap from to) inputs o = of_one inputs _ (IsTrue (is_refusal o)) (λ input. text_refusal input o)
-refuses_refusal (Union from to) inputs o = of_one inputs _ (IsTrue (is_refusal o)) (λ input. union_refusal input o)
+refuses_refusal (Simplify tolerance inner from to) inputs o = of_one inputs _ (IsTrue (is_refusal o)) (λ input. invalid_refusal input o)
+refuses_refusal (Union from to) inputs o = of_one inputs _ (IsTrue (is_refusal o)) (λ input. invalid_refusal input o)
 refuses_refusal (Node from to) inputs o = of_one inputs _ (IsTrue (is_refusal o)) (λ input. text_refusal input o)
 refuses_refusal (Regions from to) inputs o = of_one inputs _ (IsTrue (is_refusal o)) (λ input. text_refusal input o)
 
@@ -137,7 +140,8 @@ refuses_refusal (Regions from to) inputs o = of_one inputs _ (IsTrue (is_refusal
 pub not_both : (operation : Operation) (inputs : List (List ℕ)) (o p : Outcome) (text : List ℕ) → Makes operation inputs o text → Refuses operation inputs p → ⊥
 not_both (Validate gap from to) inputs o p text = of_both inputs _ _ ⊥ (λ input. not_read_and_refused input _ p)
 not_both (Clean rule gap from to) inputs o p text = of_both inputs _ _ ⊥ (λ input. not_read_and_refused input _ p)
-not_both (Union from to) inputs o p text = of_both inputs _ _ ⊥ (λ input. not_united_and_refused input o p text)
+not_both (Simplify tolerance inner from to) inputs o p text = of_both inputs _ _ ⊥ (λ input. not_admitted_and_refused input _ p (λ members simplifying. simplifying.admitted))
+not_both (Union from to) inputs o p text = of_both inputs _ _ ⊥ (λ input. not_admitted_and_refused input _ p (λ members uniting. uniting.admitted))
 not_both (Node from to) inputs o p text = of_both inputs _ _ ⊥ (λ input. not_read_and_refused input _ p)
 not_both (Regions from to) inputs o p text = of_both inputs _ _ ⊥ (λ input. not_read_and_refused input _ p)
 
@@ -149,6 +153,7 @@ marking_success (suc edges) = refl
 pub makes_success : (operation : Operation) (inputs : List (List ℕ)) (o : Outcome) (text : List ℕ) → Makes operation inputs o text → IsTrue (is_success o)
 makes_success (Validate gap from to) inputs o text = of_one inputs _ (IsTrue (is_success o)) (λ input makes. ap is_success makes.holds.counted ∙ marking_success _)
 makes_success (Clean rule gap from to) inputs o text = of_one inputs _ (IsTrue (is_success o)) (λ input makes. ap is_success makes.holds.done)
+makes_success (Simplify tolerance inner from to) inputs o text = of_one inputs _ (IsTrue (is_success o)) (λ input makes. ap is_success makes.holds.done)
 makes_success (Union from to) inputs o text = of_one inputs _ (IsTrue (is_success o)) (λ input makes. ap is_success makes.holds.done)
 makes_success (Node from to) inputs o text = of_one inputs _ (IsTrue (is_success o)) (λ input makes. ap is_success makes.holds.done)
 makes_success (Regions from to) inputs o text = of_one inputs _ (IsTrue (is_success o)) (λ input makes. ap is_success makes.holds.done)
@@ -157,6 +162,7 @@ makes_success (Regions from to) inputs o text = of_one inputs _ (IsTrue (is_succ
 pub makes_marked : (operation : Operation) (inputs : List (List ℕ)) (o : Outcome) (text : List ℕ) → Makes operation inputs o text → IsTrue (is_marked o) → IsTrue (is_validate operation)
 makes_marked (Validate gap from to) inputs o text makes marks = refl
 makes_marked (Clean rule gap from to) inputs o text makes marks = of_one inputs _ (IsTrue false) (λ input cleaning. sym (ap is_marked cleaning.holds.done) ∙ marks) makes
+makes_marked (Simplify tolerance inner from to) inputs o text makes marks = of_one inputs _ (IsTrue false) (λ input simplifying. sym (ap is_marked simplifying.holds.done) ∙ marks) makes
 makes_marked (Union from to) inputs o text makes marks = of_one inputs _ (IsTrue false) (λ input uniting. sym (ap is_marked uniting.holds.done) ∙ marks) makes
 makes_marked (Node from to) inputs o text makes marks = of_one inputs _ (IsTrue false) (λ input noding. sym (ap is_marked noding.holds.done) ∙ marks) makes
 makes_marked (Regions from to) inputs o text makes marks = of_one inputs _ (IsTrue false) (λ input listing. sym (ap is_marked listing.holds.done) ∙ marks) makes
@@ -169,6 +175,7 @@ marking_some (suc edges) h = cc
 pub makes_some : (operation : Operation) (inputs : List (List ℕ)) (o : Outcome) (text : List ℕ) → Makes operation inputs o text → o ≢ Marked 0
 makes_some (Validate gap from to) inputs o text makes h = of_one inputs _ ⊥ (λ input valid. marking_some _ (sym valid.holds.counted ∙ h)) makes
 makes_some (Clean rule gap from to) inputs o text makes h = of_one inputs _ ⊥ (λ input cleaning. (let e : Done ≡ Marked 0 = sym cleaning.holds.done ∙ h in cc)) makes
+makes_some (Simplify tolerance inner from to) inputs o text makes h = of_one inputs _ ⊥ (λ input simplifying. (let e : Done ≡ Marked 0 = sym simplifying.holds.done ∙ h in cc)) makes
 makes_some (Union from to) inputs o text makes h = of_one inputs _ ⊥ (λ input uniting. (let e : Done ≡ Marked 0 = sym uniting.holds.done ∙ h in cc)) makes
 makes_some (Node from to) inputs o text makes h = of_one inputs _ ⊥ (λ input noding. (let e : Done ≡ Marked 0 = sym noding.holds.done ∙ h in cc)) makes
 makes_some (Regions from to) inputs o text makes h = of_one inputs _ ⊥ (λ input listing. (let e : Done ≡ Marked 0 = sym listing.holds.done ∙ h in cc)) makes

@@ -20,11 +20,11 @@ use Rattle.cover_cli.specs.Input.{AreInputs}
 use Rattle.geo_text.specs.declared.reader.TheConstants.{LONGEST_INPUT}
 use Rattle.cover_cli.specs.Made.{Makes}
 use Rattle.cover_cli.specs.Text.{IsReadAnd, RefusesText}
-use Rattle.cover_cli.specs.Words.{Clean}
+use Rattle.cover_words.specs.Words.{Clean}
 use Rattle.cover_cli.specs.declared.outcome.Outcome.{Outcome}
 use Rattle.cover_cli.specs.declared.outcome.Outcome.TheVariants.{Done, BadText}
-use Rattle.cover_cli.specs.declared.rule_name.RuleName.{RuleName}
-use Rattle.cover_cli.specs.declared.rule_name.RuleName.TheVariants.{LeastIndex, GreatestArea, LeastArea, LongestBorder}
+use Rattle.cover_words.specs.declared.rule_name.RuleName.{RuleName}
+use Rattle.cover_words.specs.declared.rule_name.RuleName.TheVariants.{LeastIndex, GreatestArea, LeastArea, LongestBorder}
 
 -- each of the four rules picks one of the candidates
 rule_lawful : (rule : RuleName) → IsLawful (rule_of rule)

@@ -10,7 +10,7 @@ use Rattle.cover_cli.proofs.OneText.{one_text}
 use Rattle.cover_cli.specs.Answers.{is_success, is_refusal, MayWrite, HoldsCause, HoldsNoCause, FitsRoom, IsUnlessEarlier, IsSuccessUnlessFault, IsAnswer}
 use Rattle.cover_cli.specs.Input.{HoldsTooMuch, AreInputs}
 use Rattle.cover_cli.specs.Laws.{is_settled, HoldAlike}
-use Rattle.cover_cli.specs.Words.{Operation, inputs_of, output_of}
+use Rattle.cover_words.specs.Words.{Operation, inputs_of, output_of}
 use Rattle.cover_cli.specs.declared.outcome.Outcome.{Outcome}
 use Rattle.cover_cli.specs.declared.outcome.Outcome.TheVariants.{Done, Marked, Usage, ReadFault, WriteFault, TooLong, BadText, NotValid, NoMemory}
 

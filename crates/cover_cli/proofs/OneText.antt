@@ -1,5 +1,5 @@
 -- An operation makes one text of its inputs.
-use Rattle.std.proofs.Common.{◌≡◌, ℕ, ◌≤◌, ◌∷◌, List, [], length, refl, sym, ap, subst, ◌∙◌, inl, inr, Option, Some, None}
+use Rattle.std.proofs.Common.{◌≡◌, ℕ, ◌≤◌, ◌∷◌, List, [], length, Bool, refl, sym, ap, subst, ◌∙◌, inl, inr, Option, Some, None}
 use Rattle.std.specs.List.{AllZip, concat}
 use Rattle.arrangement.proofs.OneNoding.{one_noding}
 use Rattle.arrangement.proofs.OneOverlay.{one_snapped_overlay}
@@ -30,14 +30,16 @@ use Rattle.geo_text.specs.declared.reader.TheConstants.{LONGEST_INPUT}
 use Rattle.cover_cli.specs.Lines.{member_lists, marked_uses}
 use Rattle.cover_cli.specs.Made.{IsOneAnd, Makes, Refuses}
 use Rattle.cover_cli.specs.Node.{IsNoding}
+use Rattle.cover_cli.specs.Simplify.{IsSimplifying}
+use Rattle.greedy_run.proofs.OneRun.{one_simplified}
 use Rattle.cover_cli.specs.Regions.{IsClearanceTold, IsRow, AreRows, IsRegionList}
 use Rattle.cover_cli.specs.Text.{IsReadAnd}
 use Rattle.cov_union.proofs.OneUnited.{one_united}
 use Rattle.cover_cli.specs.Union.{IsUniting}
 use Rattle.cover_cli.specs.Validate.{marking, IsValidation}
-use Rattle.cover_cli.specs.Words.{Operation, Validate, Clean, Union, Node, Regions, inputs_of}
+use Rattle.cover_words.specs.Words.{Operation, Validate, Clean, Simplify, Union, Node, Regions, inputs_of}
 use Rattle.cover_cli.specs.declared.outcome.Outcome.{Outcome}
-use Rattle.cover_cli.specs.declared.rule_name.RuleName.{RuleName}
+use Rattle.cover_words.specs.declared.rule_name.RuleName.{RuleName}
 use Rattle.merge_rule.specs.RuleState.{no_state}
 
 -- ---- what is made of a coverage
@@ -57,6 +59,11 @@ one_node members o p text other in_range v w =
 one_cleaning : (rule : RuleName) (gap : ℕ) (members : List (List (List (List Coord)))) (o p : Outcome) (text other : List ℕ) → AllInRange members → IsCleaning rule gap members o text → IsCleaning rule gap members p other → (o ≡ p) × (text ≡ other)
 one_cleaning rule gap members o p text other in_range v w =
     let same : v.out ≡ w.out = one_cleaned members in_range (rule_of rule) no_state gap v.out w.out v.cleaned w.cleaned in
+    (v.done ∙ sym w.done, v.lines ∙ ap coverage_text same ∙ sym w.lines)
+
+one_simplifying : (tolerance : ℕ) (inner : Bool) (members : List (List (List (List Coord)))) (o p : Outcome) (text other : List ℕ) → IsSimplifying tolerance inner members o text → IsSimplifying tolerance inner members p other → (o ≡ p) × (text ≡ other)
+one_simplifying tolerance inner members o p text other v w =
+    let same : v.out ≡ w.out = one_simplified members tolerance inner v.out w.out v.simplified w.simplified in
     (v.done ∙ sym w.done, v.lines ∙ ap coverage_text same ∙ sym w.lines)
 
 one_uniting : (members : List (List (List (List Coord)))) (o p : Outcome) (text other : List ℕ) → AllInRange members → IsUniting members o text → IsUniting members p other → (o ≡ p) × (text ≡ other)
@@ -118,6 +125,8 @@ one_made (Validate gap from to) s names inputs o p text other =
     of_inputs s names inputs _ _ ((o ≡ p) × (text ≡ other)) (of_reading _ _ ((o ≡ p) × (text ≡ other)) (λ members in_range. one_validation gap members o p text other))
 one_made (Clean rule gap from to) s names inputs o p text other =
     of_inputs s names inputs _ _ ((o ≡ p) × (text ≡ other)) (of_reading _ _ ((o ≡ p) × (text ≡ other)) (λ members in_range. one_cleaning rule gap members o p text other in_range))
+one_made (Simplify tolerance inner from to) s names inputs o p text other =
+    of_inputs s names inputs _ _ ((o ≡ p) × (text ≡ other)) (of_reading _ _ ((o ≡ p) × (text ≡ other)) (λ members in_range. one_simplifying tolerance inner members o p text other))
 one_made (Union from to) s names inputs o p text other =
     of_inputs s names inputs _ _ ((o ≡ p) × (text ≡ other)) (of_reading _ _ ((o ≡ p) × (text ≡ other)) (λ members in_range. one_uniting members o p text other in_range))
 one_made (Node from to) s names inputs o p text other =

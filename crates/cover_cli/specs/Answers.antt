@@ -8,7 +8,12 @@ use Rattle.cover_cli.specs.declared.outcome.Outcome.{Outcome}
 use Rattle.cover_cli.specs.declared.outcome.Outcome.TheVariants.{Done, Marked, Usage, ReadFault, WriteFault, TooLong, BadText, NotValid, NoMemory}
 use Rattle.cover_cli.specs.Input.{HoldsTooMuch, AreInputs}
 use Rattle.cover_cli.specs.Made.{Makes, Refuses}
-use Rattle.cover_cli.specs.Words.{Operation, is_validate, inputs_of, output_of}
+use Rattle.cover_words.specs.Words.{Operation, Validate, inputs_of, output_of}
+
+-- whether the operation looks for segments at fault
+abbrev pub is_validate : Operation → Bool
+is_validate (Validate gap from to) = true
+is_validate _ = false
 
 -- ---- the kinds of answers
 

@@ -7,8 +7,8 @@ use Rattle.region_owners.specs.Owner.{Rule, rule_by, least_index, greatest_area,
 use Rattle.sound_polygons.specs.Cleaned.{IsCleaned}
 use Rattle.cover_cli.specs.declared.outcome.Outcome.{Outcome}
 use Rattle.cover_cli.specs.declared.outcome.Outcome.TheVariants.{Done}
-use Rattle.cover_cli.specs.declared.rule_name.RuleName.{RuleName}
-use Rattle.cover_cli.specs.declared.rule_name.RuleName.TheVariants.{LeastIndex, GreatestArea, LeastArea, LongestBorder}
+use Rattle.cover_words.specs.declared.rule_name.RuleName.{RuleName}
+use Rattle.cover_words.specs.declared.rule_name.RuleName.TheVariants.{LeastIndex, GreatestArea, LeastArea, LongestBorder}
 
 -- the rule of the name
 abbrev pub rule_of : RuleName → Rule RuleState

@@ -19,11 +19,11 @@ use Rattle.geo_text.specs.Fault.{HasNoFault}
 use Rattle.geo_text.specs.Reading.{Reads}
 use Rattle.cover_cli.specs.declared.outcome.Outcome.{Outcome}
 use Rattle.cover_cli.specs.declared.outcome.Outcome.TheVariants.{Done, ReadFault, WriteFault, NoMemory}
-use Rattle.cover_cli.specs.declared.rule_name.RuleName.{RuleName}
+use Rattle.cover_words.specs.declared.rule_name.RuleName.{RuleName}
 use Rattle.cover_cli.specs.Answers.{IsAnswer}
 use Rattle.cover_cli.specs.Clean.{rule_of}
 use Rattle.geo_text.specs.declared.reader.TheConstants.{LONGEST_INPUT}
-use Rattle.cover_cli.specs.Words.{Clean}
+use Rattle.cover_words.specs.Words.{Clean}
 
 -- the text is that of a valid coverage, the members cleaned by the rule at the gap width: each point off the noded edges lies in the one snapped
 -- member that holds it, where several do in the one that the rule picks, and where none does in none or, within a narrow gap, in the neighbour of

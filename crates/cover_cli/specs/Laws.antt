@@ -6,7 +6,7 @@ use Rattle.cov_io.specs.State.{State}
 use Rattle.cover_cli.specs.declared.outcome.Outcome.{Outcome}
 use Rattle.cover_cli.specs.declared.outcome.Outcome.TheVariants.{ReadFault, WriteFault, NoMemory}
 use Rattle.cover_cli.specs.Answers.{is_success, MayWrite, HoldsCause, HoldsNoCause, FitsRoom, IsAnswer}
-use Rattle.cover_cli.specs.Words.{Operation, inputs_of, output_of}
+use Rattle.cover_words.specs.Words.{Operation, inputs_of, output_of}
 
 -- on what the files hold, an operation writes one text and answers one success
 abbrev pub OneTextLaw : Type 0

@@ -3,10 +3,12 @@ use Rattle.std.specs.Prelude.{ℕ, List, [], ◌∷◌}
 use Rattle.cover_cli.specs.Clean.{IsCleaning}
 use Rattle.cover_cli.specs.Node.{IsNoding}
 use Rattle.cover_cli.specs.Regions.{IsRegionList}
+use Rattle.cover_cli.specs.Simplify.{IsSimplifying}
 use Rattle.cover_cli.specs.Text.{IsReadAnd, RefusesText}
-use Rattle.cover_cli.specs.Union.{IsUniting, RefusesUnion}
+use Rattle.cover_cli.specs.Invalid.{RefusesInvalid}
+use Rattle.cover_cli.specs.Union.{IsUniting}
 use Rattle.cover_cli.specs.Validate.{IsValidation}
-use Rattle.cover_cli.specs.Words.{Operation, Validate, Clean, Union, Node, Regions}
+use Rattle.cover_words.specs.Words.{Operation, Validate, Clean, Simplify, Union, Node, Regions}
 use Rattle.cover_cli.specs.declared.outcome.Outcome.{Outcome}
 
 -- there is one input, and this holds of it
@@ -19,6 +21,7 @@ IsOneAnd (input ∷ more ∷ rest) P = ⊥
 abbrev pub Makes : Operation → List (List ℕ) → Outcome → List ℕ → Type 0
 Makes (Validate gap from to) inputs outcome text = IsOneAnd inputs (λ input. IsReadAnd input (λ members. IsValidation gap members outcome text))
 Makes (Clean rule gap from to) inputs outcome text = IsOneAnd inputs (λ input. IsReadAnd input (λ members. IsCleaning rule gap members outcome text))
+Makes (Simplify tolerance inner from to) inputs outcome text = IsOneAnd inputs (λ input. IsReadAnd input (λ members. IsSimplifying tolerance inner members outcome text))
 Makes (Union from to) inputs outcome text = IsOneAnd inputs (λ input. IsReadAnd input (λ members. IsUniting members outcome text))
 Makes (Node from to) inputs outcome text = IsOneAnd inputs (λ input. IsReadAnd input (λ members. IsNoding members outcome text))
 Makes (Regions from to) inputs outcome text = IsOneAnd inputs (λ input. IsReadAnd input (λ members. IsRegionList members outcome text))
@@ -27,6 +30,7 @@ Makes (Regions from to) inputs outcome text = IsOneAnd inputs (λ input. IsReadA
 abbrev pub Refuses : Operation → List (List ℕ) → Outcome → Type 0
 Refuses (Validate gap from to) inputs outcome = IsOneAnd inputs (λ input. RefusesText input outcome)
 Refuses (Clean rule gap from to) inputs outcome = IsOneAnd inputs (λ input. RefusesText input outcome)
-Refuses (Union from to) inputs outcome = IsOneAnd inputs (λ input. RefusesUnion input outcome)
+Refuses (Simplify tolerance inner from to) inputs outcome = IsOneAnd inputs (λ input. RefusesInvalid input outcome)
+Refuses (Union from to) inputs outcome = IsOneAnd inputs (λ input. RefusesInvalid input outcome)
 Refuses (Node from to) inputs outcome = IsOneAnd inputs (λ input. RefusesText input outcome)
 Refuses (Regions from to) inputs outcome = IsOneAnd inputs (λ input. RefusesText input outcome)

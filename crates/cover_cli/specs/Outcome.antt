@@ -4,7 +4,7 @@ use Rattle.std.specs.Fmt.{decimal}
 use Rattle.cover_cli.specs.declared.outcome.Outcome.{Outcome}
 use Rattle.cover_cli.specs.declared.outcome.Outcome.TheVariants.{Done, Marked, Usage, ReadFault, WriteFault, TooLong, BadText, NotValid, NoMemory}
 use Rattle.cov_valid.specs.declared.mark.Kind.{Kind}
-use Rattle.cov_valid.specs.declared.mark.Kind.TheVariants.{Meets, Repeated, SameSide, Inside}
+use Rattle.cov_valid.specs.declared.mark.Kind.TheVariants.{Meets, Repeated, SameSide, Inside, NarrowGap}
 use Rattle.geo_text.specs.declared.error.TextFault.{TextFault}
 use Rattle.geo_text.specs.declared.error.TextFault.TheVariants.{Syntax, NotPlanar, NotWhole, OutOfRange, RingShort, RingOpen}
 
@@ -35,12 +35,13 @@ mark_text member place Meets = codes "not valid: member " ++ (decimal member ++ 
 mark_text member place Repeated = codes "not valid: member " ++ (decimal member ++ (codes " place " ++ (decimal place ++ codes " repeated")))
 mark_text member place SameSide = codes "not valid: member " ++ (decimal member ++ (codes " place " ++ (decimal place ++ codes " same side")))
 mark_text member place Inside = codes "not valid: member " ++ (decimal member ++ (codes " place " ++ (decimal place ++ codes " inside")))
+mark_text member place NarrowGap = codes "not valid: member " ++ (decimal member ++ (codes " place " ++ (decimal place ++ codes " narrow gap")))
 
 -- the line that is printed
 abbrev pub message_of : Outcome → List ℕ
 message_of Done = codes "done"
 message_of (Marked edges) = codes "marked " ++ decimal edges
-message_of Usage = codes "usage: cover validate|clean|union|node|regions"
+message_of Usage = codes "usage: cover validate|clean|simplify|union|node|regions"
 message_of ReadFault = codes "cannot read"
 message_of WriteFault = codes "cannot write"
 message_of TooLong = codes "input is longer than 67108864 bytes"

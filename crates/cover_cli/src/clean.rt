@@ -9,7 +9,7 @@ ghost use Rattle.cover_cli.specs.Text.{IsReadAnd, RefusesText};
 
 use crate::making::Made;
 use crate::outcome::Outcome;
-use crate::rule_name::RuleName;
+use cover_words::RuleName;
 use crate::text::coverage_of;
 use cov_clean::clean;
 use cov_types::{Coverage, NoMemory};

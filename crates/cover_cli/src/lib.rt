@@ -3,7 +3,7 @@
 //! Its promise: every answer of `cover` comes only for its cause. Over a files object that tells its contents, a
 //! success means that the output holds what the definitions say of the inputs, which is one text by `written_law`.
 //!
-//! Each operation takes the same steps. The words name it (`words`); its inputs are read (`input`); of them it makes
+//! Each operation takes the same steps. The words name it (`cover_words`); its inputs are read (`input`); of them it makes
 //! its whole text, or refuses them (`making`, and a file for each operation); the text is written (`output`). Only
 //! the reading and the writing know of files, so a new operation is a variant with its words, its relation between
 //! inputs and text in `specs`, and its `make`.
@@ -20,11 +20,11 @@ mod outcome;
 mod output;
 mod refusal;
 mod regions;
-mod rule_name;
+mod simplify;
 mod text;
 mod union;
+mod valid;
 mod validate;
-mod words;
 
 pub use command::cover;
 pub use laws::{answer_law, headline_law, written_law};

@@ -61,7 +61,7 @@ pub fn message(alloc: Global, o: &Outcome) -> Result<String, NoMemory>
         ),
         Outcome::BadText(fault) => return fault_message(alloc, *fault),
         Outcome::Done => "done",
-        Outcome::Usage => "usage: cover validate|clean|union|node|regions",
+        Outcome::Usage => "usage: cover validate|clean|simplify|union|node|regions",
         Outcome::ReadFault => "cannot read",
         Outcome::WriteFault => "cannot write",
         Outcome::TooLong => "input is longer than 67108864 bytes",
@@ -79,6 +79,7 @@ fn mark_message(alloc: Global, member: u32, place: u64, kind: Kind) -> Result<St
         Kind::Repeated => format!(in alloc; "not valid: member {member} place {place} repeated")?,
         Kind::SameSide => format!(in alloc; "not valid: member {member} place {place} same side")?,
         Kind::Inside => format!(in alloc; "not valid: member {member} place {place} inside")?,
+        Kind::NarrowGap => format!(in alloc; "not valid: member {member} place {place} narrow gap")?,
     })
 }
 

@@ -4,12 +4,13 @@ ghost use Rattle.plane.specs.Validity.{IsValid};
 ghost use Rattle.geo_text.specs.declared.reader.TheConstants.{LONGEST_INPUT};
 ghost use Rattle.cover_cli.specs.Refusal.{IsRefusedFor};
 ghost use Rattle.cover_cli.specs.Text.{IsReadAnd};
-ghost use Rattle.cover_cli.specs.Union.{IsUniting, RefusesUnion};
+ghost use Rattle.cover_cli.specs.Invalid.{RefusesInvalid};
+ghost use Rattle.cover_cli.specs.Union.{IsUniting};
 
 use crate::making::Made;
 use crate::outcome::Outcome;
-use crate::text::coverage_of;
-use cov_admit::{ValidCoverage, admit};
+use crate::valid::valid_coverage_of;
+use cov_admit::ValidCoverage;
 use cov_types::{Coverage, NoMemory};
 use cov_union::union_of;
 use cov_write::text_of;
@@ -35,9 +36,8 @@ pub fn make(alloc: Global, input: Vec<u8>) -> Result<Made, Outcome>
     requires { length input.items ≤ LONGEST_INPUT }
     ensures made { IfOk result (λ made.
         IsReadAnd input.items (λ members. IsUniting members made.outcome made.text.items)) }
-    ensures refused { IfErr result (IsRefusedFor (RefusesUnion input.items)) }
+    ensures refused { IfErr result (IsRefusedFor (RefusesInvalid input.items)) }
 {
-    let coverage = coverage_of(alloc, input)?;
-    let valid = admit(alloc, coverage)?;
+    let valid = valid_coverage_of(alloc, input)?;
     Ok(uniting(alloc, &valid)?)
 }

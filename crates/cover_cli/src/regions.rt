@@ -31,11 +31,11 @@ fn rows_of(
     requires labels { labels.now.edges ≡ arena.now }
     ensures { IfOk result (λ text. (o : Overlay) → IsOverlay labels.now o → AreRows o (region_numbers o) text.items) }
 {
-    let mut gaps = GapSearch::build(alloc, arena, regions)?;
+    let gaps = GapSearch::build(alloc, arena, regions)?;
     let mut text = Vec::new(alloc);
     for side in 0..arena.len() {
         if regions.region_of(side) == side {
-            append_row(&mut text, regions, labels, &mut gaps, side)?;
+            append_row(&mut text, regions, labels, &gaps, side)?;
         }
     }
     Ok(text)
@@ -46,15 +46,14 @@ fn append_row(
     text: &mut Vec<u8>,
     regions: &Regions,
     labels: &Labels,
-    gaps: &mut GapSearch,
+    gaps: &GapSearch,
     region: usize,
 ) -> Result<(), NoMemory>
     requires labels { labels.now.edges ≡ regions.now }
-    requires gaps { gaps.old ≡ regions.now }
+    requires gaps { gaps.now ≡ regions.now }
     requires region { IsRegion regions.now region }
-    ensures row { OnOk result ((o : Overlay) → IsOverlay labels.now o
+    ensures { OnOk result ((o : Overlay) → IsOverlay labels.now o
         → (line : List ℕ) × (IsRow o region line × (text.new.items ≡ text.old.items ++ line))) }
-    ensures gaps { gaps.new ≡ gaps.old }
 {
     if regions.outer() == Some(region) {
         append_outer_row(text, region)
@@ -67,14 +66,13 @@ fn append_row(
 
 // The clearance of a region that no member holds, by its label.
 fn clearance_told(
-    gaps: &mut GapSearch,
+    gaps: &GapSearch,
     label: &[u32],
     region: usize,
 ) -> Result<Option<u32>, NoMemory>
-    requires region { IsRegion gaps.old region }
-    requires inner { ¬ IsOuterRegion gaps.old region }
-    ensures told { IfOk result (λ clearance. (o : Overlay) → o.edges ≡ gaps.old → label.now ≡ label_of o region → IsClearanceTold o region clearance) }
-    ensures gaps { gaps.new ≡ gaps.old }
+    requires region { IsRegion gaps.now region }
+    requires inner { ¬ IsOuterRegion gaps.now region }
+    ensures { IfOk result (λ clearance. (o : Overlay) → o.edges ≡ gaps.now → label.now ≡ label_of o region → IsClearanceTold o region clearance) }
 {
     if label.is_empty() {
         Ok(Some(gaps.clearance(region)?))

@@ -106,7 +106,7 @@ module _ (edges : List Seg) (n : ℕ) (f : ℕ → Coord) (along : (k : ℕ) →
 -- ---- the line of a thread
 
 module _ (edges : List Seg) (n : ℕ) (f : ℕ → Coord) (h : IsThread edges n f) where
-  line_in : IsTrue (is_le (points_cmp (from_place f 0 n) (reverse (from_place f 0 n)))) → IsLine edges (from_place f 0 n)
+  pub line_in : IsTrue (is_le (points_cmp (from_place f 0 n) (reverse (from_place f 0 n)))) → IsLine edges (from_place f 0 n)
   line_in direction =
       let count = length-from_place f 0 n in
       let place = point_is edges n f h.step h.distinct in
@@ -134,7 +134,7 @@ module _ (edges : List Seg) (n : ℕ) (f : ℕ → Coord) (h : IsThread edges n 
   abbrev back : ℕ → Coord
   back k = f (n - k)
 
-  turned : from_place back 0 n ≡ reverse (from_place f 0 n)
+  pub turned : from_place back 0 n ≡ reverse (from_place f 0 n)
   turned =
       let count = length-from_place f 0 n in
       let count_back = length-from_place back 0 n in

@@ -162,7 +162,7 @@ module _ (edges : List Seg) (n : ℕ) (f : ℕ → Coord) (h : IsLoopBy edges n 
     abbrev g : ℕ → Coord
     g k = cond (ltb n (least + k)) (f ((least + k) - n)) (f (least + k))
 
-    g_low : (k : ℕ) → least + k ≤ n → g k ≡ f (least + k)
+    pub g_low : (k : ℕ) → least + k ≤ n → g k ≡ f (least + k)
     g_low k low = ap (λ b. cond b (f ((least + k) - n)) (f (least + k))) (false_from_ne_true (ltb n (least + k)) (λ t. (let past = (Decides-ltb n (least + k)).0 t in omega arith)))
 
     g_high : (k : ℕ) → n < least + k → g k ≡ f ((least + k) - n)
@@ -318,4 +318,30 @@ module _ (edges : List Seg) (n : ℕ) (f : ℕ → Coord) (h : IsLoopBy edges n 
             here = g_low 0 (omega arith) ∙ (let z : least + 0 ≡ 0 = omega arith in ap f z);
             next = g_low 1 (omega arith) ∙ (let z : least + 1 ≡ 1 = omega arith in ap f z);
           })
+    ]
+
+    -- and so is each other step
+    pub record HasStep (i : ℕ) : Type 0 where
+      pub k : ℕ
+      pub within : k < n
+      pub here : g k ≡ f i
+      pub next : g (suc k) ≡ f (suc i)
+
+    pub has_step : (i : ℕ) → i < n → HasStep i
+    has_step i less = let inside = is.within in elim (cases_lt i least) [
+      | inr past ↦ record {
+        k = i - least;
+        within = omega arith;
+        here = g_low (i - least) (omega arith) ∙ (let z : least + (i - least) ≡ i = omega arith in ap f z);
+        next = g_low (suc (i - least)) (omega arith) ∙ (let z : least + suc (i - least) ≡ suc i = omega arith in ap f z);
+      }
+      | inl before ↦ record {
+        k = (i + n) - least;
+        within = omega arith;
+        here = elim (cases_lt 0 i) [
+          | inl some ↦ g_high ((i + n) - least) (omega arith) ∙ (let z : (least + ((i + n) - least)) - n ≡ i = omega arith in ap f z)
+          | inr none ↦ g_low ((i + n) - least) (omega arith) ∙ (let z : least + ((i + n) - least) ≡ n = omega arith in ap f z) ∙ h.back ∙ (let z : 0 ≡ i = omega arith in ap f z)
+        ];
+        next = g_high (suc ((i + n) - least)) (omega arith) ∙ (let z : (least + suc ((i + n) - least)) - n ≡ suc i = omega arith in ap f z);
+      }
     ]

@@ -97,7 +97,7 @@ module _ (edges : List Seg) (ascending : IsAscending edges) where
 
   -- ---- walks
 
-  trail_in : (n : ℕ) (f : ℕ → Coord) → IsTrailBy edges n f → IsTrail edges (from_place f 0 n)
+  pub trail_in : (n : ℕ) (f : ℕ → Coord) → IsTrailBy edges n f → IsTrail edges (from_place f 0 n)
   trail_in n f h =
       let count = length-from_place f 0 n in
       record {
@@ -145,7 +145,7 @@ module _ (edges : List Seg) (ascending : IsAscending edges) where
 -- ---- trails and loops as lists
 
 module _ (edges : List Seg) (points : List Coord) where
-  trail_by : (h : IsTrail edges points) (d : Coord) → IsTrailBy edges (length points - 1) (λ k. get_or points k d)
+  pub trail_by : (h : IsTrail edges points) (d : Coord) → IsTrailBy edges (length points - 1) (λ k. get_or points k d)
   trail_by h d = record {
     some = (let long = h.long in omega arith);
     step = along edges points h.walk d;
@@ -171,7 +171,7 @@ module _ (edges : List Seg) (points : List Coord) where
     abbrev place : ℕ → Coord
     place k = get_or points k h.at
 
-    loop_by : IsLoopBy edges (length points - 1) place
+    pub loop_by : IsLoopBy edges (length points - 1) place
     loop_by = record {
       trail = trail_by h.trail h.at;
       back = get_or_from_slice_get points (length points - 1) h.at h.at h.last ∙ sym (get_or_from_slice_get points 0 h.at h.at h.first);

@@ -1,0 +1,263 @@
+-- The words that a command takes have the values that its operation needs.
+use Rattle.std.proofs.Common.{◌≡◌, ◌∙◌, ◌&&◌, ◌||◌, ◌<◌, ◌≤◌, ◌^◌, ◌+◌, ℕ, Bool, cond, codes, true, false, not, refl, ap, sym, subst, arith, List, [], ◌∷◌, length, fold, find, Option, Some, None, is_some, option_and_then, unwrap_or, true≢false}
+use Rattle.std.specs.Prelude.{⊤, nat_lt, Result, Ok, Err, pos}
+use Rattle.std.specs.List.{list_all, list_any}
+use Rattle.std.specs.Str.{bytes_eq}
+use Rattle.std.specs.Str.Parse.{ParsesUnsigned, digits_value, without_leading_plus}
+use Rattle.clap.specs.Lexer.{without_minus}
+use Rattle.std.proofs.lemmas.Bool.{ltb-true}
+use Rattle.clap.specs.Facts.{explicit_source, parser_of_value}
+use Rattle.clap.specs.Values.{read_as, reading_of}
+use Rattle.clap.specs.declared.builder.value_parser.ValueParser.{ValueParser}
+use Rattle.clap.specs.Matches.{ReadsOne}
+use Rattle.clap.specs.ValueTests.{accepts, is_unsigned_in}
+use Rattle.clap.specs.Walk.{Held, Names, Row, Rule, Text, arg_by_id, finished, first_of, has_row, nothing_held, one_of, settled, walk, walk_from, with_default}
+use Rattle.clap.specs.Simple.{App, Shape, argument_words, built, entered, help_rule, is_simple, matches_of, names_of}
+use Rattle.clap.specs.Takes.{default_passes, entered_passes, is_given, is_valid, level_passes, settle_passes, takes, walk_passes}
+use Rattle.clap.specs.declared.builder.value_parser.ValueParser.TheVariants as vp
+use Rattle.clap.proofs.CallerReads.{signed_reads}
+use Rattle.clap.proofs.ValueTestLemmas.{accepts-Accepts, Accepts-accepts}
+use Rattle.clap.proofs.WalkLemmas.{both}
+use Rattle.cover_words.specs.Accepted.{AcceptedLaw, has_a_rule, is_accepted, is_accepted_by}
+use Rattle.cover_words.specs.Commands.{lengths, validate_command, clean_command, simplify_command, union_command, node_command, regions_command}
+use Rattle.cover_words.specs.Values.{flag_at, number_at, number_of, text_at, truth_of}
+use Rattle.cover_words.specs.declared.rule_name.RuleName.{RuleName}
+use Rattle.cover_words.specs.Words.{Operation, Union, Node, Regions, Validate, Clean, Simplify, clean_in, clean_with, files_with, node_in, operation_by, operation_of, regions_in, rule_named, simplify_in, simplify_with, taken, union_in, validate_in, validate_with}
+use Rattle.cover_words.proofs.SoundRows.{AllOwn, AllSound, Present, defaults_have, defaults_sound, given_has, present, settled_sound, walk_sound}
+
+-- ---- the values of a command that takes the words
+
+-- the argument of this id, as building leaves it
+abbrev rule_at : App → Text → Rule
+rule_at a id = unwrap_or (arg_by_id (built a).top.rules id) help_rule
+
+required_each : (rows : List Row) (p : Rule → Bool) (xs : List Rule) (a : Rule) → find p xs ≡ Some a → list_all (λ r. not r.required || is_given r.id rows) xs ≡ true
+    → a.required ≡ true → is_given a.id rows ≡ true
+required_each rows p [] a e all is = absurd (true≢false (sym (ap is_some e)))
+required_each rows p (x ∷ xs) a e all is =
+    let parts = both (not x.required || is_given x.id rows) _ all in
+    go (p x) (λ f. required_each rows p xs a f parts.1 is) parts.0 e
+  where
+    given : (r g : Bool) → (not r || g) ≡ true → r ≡ true → g ≡ true
+    given true g h t = h
+    given false g h t = absurd (true≢false (sym t))
+    go : (t : Bool) → (find p xs ≡ Some a → is_given a.id rows ≡ true) → (not x.required || is_given x.id rows) ≡ true → cond t (Some x) (find p xs) ≡ Some a
+        → is_given a.id rows ≡ true
+    go true more here f =
+        let same : x ≡ a = ap (λ o. unwrap_or o x) f in
+        subst (λ (r : Rule). is_given r.id rows ≡ true) same (given x.required _ here (rw same is))
+    go false more here f = more f
+
+past_all : (a b d n h l : Bool) → n ≡ false → (a && (b && (d && ((n && h) || l)))) ≡ true → l ≡ true
+past_all a b d n h l kept e =
+    let x = both a _ e in
+    let y = both b _ x.1 in
+    let z = both d _ y.1 in
+    rw kept at z.1
+
+valid_required : (s : Shape) (rows : List Row) (has : Bool) → s.subcommand_negates_reqs ≡ false → is_valid s rows has ≡ true
+    → list_all (λ r. not r.required || is_given r.id rows) s.rules ≡ true
+valid_required s rows has kept e = past_all (not s.arg_required_else_help || (has || list_any (λ (r : Row). explicit_source r.source) rows)) (not s.subcommand_required || has)
+    (list_all (λ (r : Rule). r.is_free) s.rules) s.subcommand_negates_reqs has (list_all (λ (r : Rule). not r.required || is_given r.id rows) s.rules) kept e
+
+-- an argument is required, or has a default
+abbrev is_sure : Rule → Bool
+is_sure r = r.required || nat_lt 0 (length r.defaults)
+
+module _ (s : Shape) (names : Names) (ws : List Text) (has : Bool) (own : AllOwn s.rules s.rules) (kept : s.subcommand_negates_reqs ≡ false) where
+  level_present : level_passes s names nothing_held ws has ≡ true → (r : Rule) → arg_by_id s.rules r.id ≡ Some r → is_sure r ≡ true
+      → Present r (finished s.rules (walk s.rules names nothing_held ws).held)
+  level_present level r known sure =
+      let end = (walk s.rules names nothing_held ws).held in
+      let rows = finished s.rules end in
+      let walks = both (walk_passes s names (walk_from nothing_held) ws) _ level in
+      let settles = both (settle_passes s.rules s.args_override_self end) _ walks.1 in
+      let defaults = both (list_all default_passes s.rules) (is_valid s rows has) settles.1 in
+      let sound : AllSound s.rules rows = defaults_sound s.rules s.rules (settled s.rules end).rows own defaults.0
+      (settled_sound s.rules s.args_override_self own end settles.0 (walk_sound s names own (walk_from nothing_held) ws walks.0 tt)) in
+      present s.rules r rows known sound (go r.required refl sure (valid_required s rows has kept defaults.1))
+    where
+      go : (t : Bool) → r.required ≡ t → (t || nat_lt 0 (length r.defaults)) ≡ true
+          → list_all (λ x. not x.required || is_given x.id (finished s.rules (walk s.rules names nothing_held ws).held)) s.rules ≡ true
+          → has_row r.id (finished s.rules (walk s.rules names nothing_held ws).held) ≡ true
+      go true is e all = given_has r.id _ (required_each _ _ s.rules r known all is)
+      go false is e all = defaults_have _ s.rules (settled s.rules (walk s.rules names nothing_held ws).held).rows r known (ltb-true _ _ e)
+
+-- an argument that is required or has a default has a value in words that the command takes
+taken_present : (a : App) (words : List Text) → AllOwn (built a).top.rules (built a).top.rules → (built a).top.subcommand_negates_reqs ≡ false → takes a words ≡ true
+    → (r : Rule) → arg_by_id (built a).top.rules r.id ≡ Some r → is_sure r ≡ true → Present r (matches_of a words)
+taken_present a words own kept taken_by =
+    let stop = (walk (built a).top.rules (names_of (built a)) nothing_held (argument_words a words)).stopped in
+    let level = (both (entered_passes (built a) stop) _ (both (is_simple a) _ taken_by).1).1 in
+    level_present (built a).top (names_of (built a)) (argument_words a words) (is_some (entered (built a) stop)) own kept level
+
+-- ---- numbers and flags
+
+number_reads : (t : Text) → ReadsOne {T = ℕ} {E = ⊤} (λ u x. ParsesUnsigned 32 10 u x) t (number_of t)
+number_reads t = go (is_unsigned_in 0 4294967295 t) refl
+  where
+    go : (b : Bool) → is_unsigned_in 0 4294967295 t ≡ b → ReadsOne {T = ℕ} {E = ⊤} (λ u x. ParsesUnsigned 32 10 u x) t (cond b (Some (digits_value 10 (without_leading_plus t))) None)
+    go true e =
+        let fits = accepts-Accepts false (vp.Unsigned 0 4294967295) t e in
+        let most : digits_value 10 (without_leading_plus t) ≤ 4294967295 = fits.3 in
+        ((fits.0, omega arith), refl)
+    go false e = (tt, λ h.
+        let small : digits_value 10 (without_leading_plus t) < 2 ^ 32 = h.1 in
+        let fits = Accepts-accepts false (vp.Unsigned 0 4294967295) t (h.0, omega arith, omega arith, omega arith) in
+        true≢false (sym fits ∙ e))
+
+number_some : (t : Text) → accepts false lengths t ≡ true → is_some (number_of (without_minus t)) ≡ true
+number_some t e =
+    let h = signed_reads ⊤ (λ u x. ParsesUnsigned 32 10 u x) 32 0 1073741824 t (number_of (without_minus t)) (number_reads (without_minus t)) (λ u x g. g) (omega arith)
+    (accepts-Accepts false lengths t e) in
+    ap is_some h.1
+
+truth_some : (t : Text) → accepts false vp.Bool t ≡ true → is_some (truth_of t) ≡ true
+truth_some t e = go (bytes_eq t (codes "true")) (bytes_eq t (codes "false")) e
+  where
+    go : (x y : Bool) → (x || y) ≡ true → is_some (cond x (Some true) (cond y (Some false) None)) ≡ true
+    go true y h = refl
+    go false true h = refl
+    go false false h = h
+
+-- ---- each command
+
+validate_some : (f t : Option Text) (g : Option ℕ) → is_some f ≡ true → is_some t ≡ true → is_some g ≡ true → is_some (validate_with f t g) ≡ true
+validate_some (Some f) (Some t) (Some g) x y z = refl
+validate_some (Some f) (Some t) None x y z = z
+validate_some (Some f) None g x y z = y
+validate_some None t g x y z = x
+
+clean_some : (f t : Option Text) (r : Option RuleName) (g : Option ℕ) → is_some f ≡ true → is_some t ≡ true → is_some g ≡ true → is_some (clean_with f t r g) ≡ is_some r
+clean_some (Some f) (Some t) (Some r) (Some g) x y z = refl
+clean_some (Some f) (Some t) None g x y z = refl
+clean_some (Some f) (Some t) (Some r) None x y z = z
+clean_some (Some f) None r g x y z = absurd (true≢false (sym y))
+clean_some None t r g x y z = absurd (true≢false (sym x))
+
+simplify_some : (f t : Option Text) (g : Option ℕ) (b : Option Bool) → is_some f ≡ true → is_some t ≡ true → is_some g ≡ true → is_some b ≡ true
+    → is_some (simplify_with f t g b) ≡ true
+simplify_some (Some f) (Some t) (Some g) (Some b) x y z w = refl
+simplify_some (Some f) (Some t) (Some g) None x y z w = w
+simplify_some (Some f) (Some t) None b x y z w = z
+simplify_some (Some f) None g b x y z w = y
+simplify_some None t g b x y z w = x
+
+files_some : (make : Text → Text → Operation) (f t : Option Text) → is_some f ≡ true → is_some t ≡ true → is_some (files_with make f t) ≡ true
+files_some make (Some f) (Some t) x y = refl
+files_some make (Some f) None x y = y
+files_some make None t x y = x
+
+name_there : (r : Rule) (id : Text) (rows : List Row) → r.id ≡ id → Present r rows → is_some (text_at id rows) ≡ true
+name_there r id rows same p = subst (λ (i : Text). is_some (first_of i rows) ≡ true) same (ap is_some p.first)
+
+number_there : (r : Rule) (id : Text) (rows : List Row) → r.id ≡ id → r.parser ≡ Some lengths → Present r rows → is_some (number_at id rows) ≡ true
+number_there r id rows same parser p =
+    let read : one_of r.id rows ≡ Some (without_minus p.text) =
+    subst (λ (q : Option ValueParser). one_of r.id rows ≡ Some (read_as (reading_of (parser_of_value q)) p.text)) parser p.read in
+    let passes : accepts r.ignore_case lengths p.text ≡ true = subst (λ (q : Option ValueParser). accepts r.ignore_case (parser_of_value q) p.text ≡ true) parser p.passes in
+    subst (λ (i : Text). is_some (number_at i rows) ≡ true) same (ap (λ (o : Option Text). is_some (option_and_then number_of o)) read ∙ number_some p.text passes)
+
+flag_there : (r : Rule) (id : Text) (rows : List Row) → r.id ≡ id → r.parser ≡ Some vp.Bool → Present r rows → is_some (flag_at id rows) ≡ true
+flag_there r id rows same parser p =
+    let read : one_of r.id rows ≡ Some p.text =
+    subst (λ (q : Option ValueParser). one_of r.id rows ≡ Some (read_as (reading_of (parser_of_value q)) p.text)) parser p.read in
+    let passes : accepts r.ignore_case vp.Bool p.text ≡ true = subst (λ (q : Option ValueParser). accepts r.ignore_case (parser_of_value q) p.text ≡ true) parser p.passes in
+    subst (λ (i : Text). is_some (flag_at i rows) ≡ true) same (ap (λ (o : Option Text). is_some (option_and_then truth_of o)) read ∙ truth_some p.text passes)
+
+own_validate : AllOwn (built validate_command).top.rules (built validate_command).top.rules
+own_validate = ((refl, refl), ((refl, refl), ((refl, refl), ((refl, refl), tt))))
+
+own_clean : AllOwn (built clean_command).top.rules (built clean_command).top.rules
+own_clean = ((refl, refl), ((refl, refl), ((refl, refl), ((refl, refl), ((refl, refl), tt)))))
+
+own_simplify : AllOwn (built simplify_command).top.rules (built simplify_command).top.rules
+own_simplify = ((refl, refl), ((refl, refl), ((refl, refl), ((refl, refl), ((refl, refl), tt)))))
+
+own_union : AllOwn (built union_command).top.rules (built union_command).top.rules
+own_union = ((refl, refl), ((refl, refl), ((refl, refl), tt)))
+
+own_node : AllOwn (built node_command).top.rules (built node_command).top.rules
+own_node = ((refl, refl), ((refl, refl), ((refl, refl), tt)))
+
+own_regions : AllOwn (built regions_command).top.rules (built regions_command).top.rules
+own_regions = ((refl, refl), ((refl, refl), ((refl, refl), tt)))
+
+-- the argument of this id is one of the command, and is required or has a default
+abbrev is_at : App → Text → Type 0
+is_at a id = (arg_by_id (built a).top.rules (rule_at a id).id ≡ Some (rule_at a id)) × (is_sure (rule_at a id) ≡ true) × ((rule_at a id).id ≡ id)
+
+module _ (a : App) (words : List Text) (own : AllOwn (built a).top.rules (built a).top.rules) (kept : (built a).top.subcommand_negates_reqs ≡ false) (by : takes a words ≡ true) where
+  name_in : (id : Text) → is_at a id → is_some (text_at id (matches_of a words)) ≡ true
+  name_in id at = name_there (rule_at a id) id (matches_of a words) at.2 (taken_present a words own kept by (rule_at a id) at.0 at.1)
+
+  number_in : (id : Text) → is_at a id → (rule_at a id).parser ≡ Some lengths → is_some (number_at id (matches_of a words)) ≡ true
+  number_in id at parser = number_there (rule_at a id) id (matches_of a words) at.2 parser (taken_present a words own kept by (rule_at a id) at.0 at.1)
+
+  flag_in : (id : Text) → is_at a id → (rule_at a id).parser ≡ Some vp.Bool → is_some (flag_at id (matches_of a words)) ≡ true
+  flag_in id at parser = flag_there (rule_at a id) id (matches_of a words) at.2 parser (taken_present a words own kept by (rule_at a id) at.0 at.1)
+
+module _ (words : List Text) where
+  validates : takes validate_command words ≡ true → is_some (validate_in (matches_of validate_command words)) ≡ true
+  validates by = validate_some _ _ _ (name_in validate_command words own_validate refl by (codes "IN") (refl, refl, refl))
+      (name_in validate_command words own_validate refl by (codes "OUT") (refl, refl, refl))
+      (number_in validate_command words own_validate refl by (codes "gap") (refl, refl, refl) refl)
+
+  cleans : takes clean_command words ≡ true → is_some (clean_in (matches_of clean_command words)) ≡ has_a_rule words
+  cleans by = clean_some _ _ _ _ (name_in clean_command words own_clean refl by (codes "IN") (refl, refl, refl))
+      (name_in clean_command words own_clean refl by (codes "OUT") (refl, refl, refl))
+      (number_in clean_command words own_clean refl by (codes "gap") (refl, refl, refl) refl)
+
+  simplifies : takes simplify_command words ≡ true → is_some (simplify_in (matches_of simplify_command words)) ≡ true
+  simplifies by = simplify_some _ _ _ _ (name_in simplify_command words own_simplify refl by (codes "IN") (refl, refl, refl))
+      (name_in simplify_command words own_simplify refl by (codes "OUT") (refl, refl, refl))
+      (number_in simplify_command words own_simplify refl by (codes "tolerance") (refl, refl, refl) refl)
+      (flag_in simplify_command words own_simplify refl by (codes "inner") (refl, refl, refl) refl)
+
+  unites : takes union_command words ≡ true → is_some (union_in (matches_of union_command words)) ≡ true
+  unites by = files_some Union _ _ (name_in union_command words own_union refl by (codes "IN") (refl, refl, refl))
+      (name_in union_command words own_union refl by (codes "OUT") (refl, refl, refl))
+
+  nodes : takes node_command words ≡ true → is_some (node_in (matches_of node_command words)) ≡ true
+  nodes by = files_some Node _ _ (name_in node_command words own_node refl by (codes "IN") (refl, refl, refl))
+      (name_in node_command words own_node refl by (codes "OUT") (refl, refl, refl))
+
+  lists_regions : takes regions_command words ≡ true → is_some (regions_in (matches_of regions_command words)) ≡ true
+  lists_regions by = files_some Regions _ _ (name_in regions_command words own_regions refl by (codes "IN") (refl, refl, refl))
+      (name_in regions_command words own_regions refl by (codes "OUT") (refl, refl, refl))
+
+-- ---- the law
+
+taken_where : (a : App) (f : List Row → Option Operation) (words : List Text) (q : Bool) → (takes a words ≡ true → is_some (f (matches_of a words)) ≡ q)
+    → is_some (taken a f words) ≡ (takes a words && q)
+taken_where a f words q h = go (takes a words) h
+  where
+    go : (t : Bool) → (t ≡ true → is_some (f (matches_of a words)) ≡ q) → is_some (cond t (f (matches_of a words)) None) ≡ (t && q)
+    go true e = e refl
+    go false e = refl
+
+taken_some : (a : App) (f : List Row → Option Operation) (words : List Text) → (takes a words ≡ true → is_some (f (matches_of a words)) ≡ true)
+    → is_some (taken a f words) ≡ takes a words
+taken_some a f words h = taken_where a f words true h ∙ go (takes a words)
+  where
+    go : (t : Bool) → (t && true) ≡ t
+    go true = refl
+    go false = refl
+
+by_word : (t : Bool) (x y : Option Operation) (p q : Bool) → is_some x ≡ p → is_some y ≡ q → is_some (cond t x y) ≡ cond t p q
+by_word true x y p q e f = e
+by_word false x y p q e f = f
+
+accepted_by : (word : Text) (words : List Text) → is_some (operation_by word words) ≡ is_accepted_by word words
+accepted_by word words =
+    by_word (bytes_eq word (codes "validate")) _ _ _ _ (taken_some validate_command validate_in words (validates words))
+    (by_word (bytes_eq word (codes "clean")) _ _ _ _ (taken_where clean_command clean_in words (has_a_rule words) (cleans words))
+    (by_word (bytes_eq word (codes "simplify")) _ _ _ _ (taken_some simplify_command simplify_in words (simplifies words))
+    (by_word (bytes_eq word (codes "union")) _ _ _ _ (taken_some union_command union_in words (unites words))
+    (by_word (bytes_eq word (codes "node")) _ _ _ _ (taken_some node_command node_in words (nodes words))
+    (by_word (bytes_eq word (codes "regions")) _ _ _ _ (taken_some regions_command regions_in words (lists_regions words)) refl)))))
+
+-- words name an operation exactly where they are accepted
+pub accepted : AcceptedLaw
+accepted [] = refl
+accepted (word ∷ rest) = accepted_by word (word ∷ rest)

@@ -1,0 +1,5 @@
+mod AcceptedWords
+mod Faultless
+mod Readings
+mod SoundRows
+mod Takings

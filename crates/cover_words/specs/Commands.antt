@@ -1,0 +1,57 @@
+-- The commands that read the words after an operation's word, as their arguments make them.
+use Rattle.std.specs.Prelude.{List, [], ◌∷◌, Some, true, codes, fold, pos}
+use Rattle.clap.specs.Walk.{Rule, Text}
+use Rattle.clap.specs.Simple.{App, new_app, new_rule, with_rule}
+use Rattle.clap.specs.declared.builder.action.ArgAction.TheVariants.{SetTrue}
+use Rattle.clap.specs.declared.builder.value_parser.ValueParser.{ValueParser}
+use Rattle.clap.specs.declared.builder.value_parser.ValueParser.TheVariants.{Signed}
+
+-- ---- arguments
+
+-- the name of a file: a positional word that has to be there
+abbrev pub name : Text → Rule
+name id = record (new_rule id) { required = true }
+
+-- the numbers that a gap width and a tolerance may have
+abbrev pub lengths : ValueParser
+lengths = Signed (pos 0) (pos 1073741824)
+
+-- `--rule R`, which has to be there
+abbrev pub rule : Rule
+rule = record (new_rule (codes "rule")) { long = Some (codes "rule"); required = true }
+
+-- `--gap W`, where W is 0 if it isn't there
+abbrev pub gap : Rule
+gap = record (new_rule (codes "gap")) { long = Some (codes "gap"); defaults = codes "0" ∷ []; parser = Some lengths }
+
+-- `--tolerance T`, which has to be there
+abbrev pub tolerance : Rule
+tolerance = record (new_rule (codes "tolerance")) { long = Some (codes "tolerance"); required = true; parser = Some lengths }
+
+-- `--inner`, which has no value
+abbrev pub inner : Rule
+inner = record (new_rule (codes "inner")) { long = Some (codes "inner"); action = Some SetTrue }
+
+-- ---- commands
+
+-- the command of this name with an input, an output and the further arguments
+abbrev pub on_files : Text → List Rule → App
+on_files word more = fold with_rule (new_app word) (name (codes "IN") ∷ name (codes "OUT") ∷ more)
+
+abbrev pub validate_command : App
+validate_command = on_files (codes "validate") (gap ∷ [])
+
+abbrev pub clean_command : App
+clean_command = on_files (codes "clean") (rule ∷ gap ∷ [])
+
+abbrev pub simplify_command : App
+simplify_command = on_files (codes "simplify") (tolerance ∷ inner ∷ [])
+
+abbrev pub union_command : App
+union_command = on_files (codes "union") []
+
+abbrev pub node_command : App
+node_command = on_files (codes "node") []
+
+abbrev pub regions_command : App
+regions_command = on_files (codes "regions") []

@@ -1,0 +1,19 @@
+-- The operation that words name, as the code holds it.
+use Rattle.std.specs.Prelude.{◌≡◌, Option, Some, None}
+use Rattle.cover_words.specs.declared.operation.Operation as code
+use Rattle.cover_words.specs.declared.operation.Operation.TheVariants as operations
+use Rattle.cover_words.specs.Words.{Operation, Validate, Clean, Simplify, Union, Node, Regions}
+
+-- the operation with the names that its texts hold
+abbrev pub named : code.Operation → Operation
+named (operations.Validate gap from to) = Validate gap from.now to.now
+named (operations.Clean rule gap from to) = Clean rule gap from.now to.now
+named (operations.Simplify tolerance inner from to) = Simplify tolerance inner from.now to.now
+named (operations.Union from to) = Union from.now to.now
+named (operations.Node from to) = Node from.now to.now
+named (operations.Regions from to) = Regions from.now to.now
+
+-- the answer names the same operation, or none where there is none
+abbrev pub IsNamed : Option Operation → Option code.Operation → Type 0
+IsNamed expected None = expected ≡ None
+IsNamed expected (Some operation) = expected ≡ Some (named operation)

@@ -1,0 +1,31 @@
+//! The words of the program `cover`, read by `clap`.
+//!
+//! Its promise: `operation_named` answers the operation that the words name exactly where they are accepted. They are
+//! accepted where the first word names an operation, the command of that operation takes the words after it, and a
+//! merge rule that they name is one of the four. `specs/Commands.antt` writes out the arguments of each command.
+//!
+//! The operation's word is read by hand (`words`). A file for each operation makes its command of its `arguments`, has
+//! `matched` run it on the words after that, and makes the operation of the `values` that were found.
+#![tactic(auto)]
+
+mod arguments;
+mod clean;
+mod laws;
+mod matched;
+mod node;
+mod operation;
+mod regions;
+mod rule_name;
+mod simplify;
+mod union;
+mod validate;
+mod values;
+mod words;
+
+pub use laws::accepted_law;
+pub use operation::Operation;
+pub use rule_name::{RuleName, rule_named};
+pub use words::operation_named;
+
+#[cfg(test)]
+mod tests;

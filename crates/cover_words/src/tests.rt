@@ -1,0 +1,133 @@
+use crate::{Operation, RuleName, operation_named};
+use cov_types::NoMemory;
+use std::alloc::Global;
+use std::test::Fail;
+
+// The words of a line, cut at its spaces; `_` stands for the empty word.
+fn words_of(alloc: Global, line: &str) -> Result<Vec<String>, NoMemory> {
+    let mut words = Vec::new(alloc);
+    for word in line.split(' ') {
+        let text = if word == "_" { "" } else { word };
+        words.push(String::from_str(alloc, text)?)?;
+    }
+    Ok(words)
+}
+
+// The words of the line are not accepted.
+fn is_refused(alloc: Global, line: &str) -> Result<bool, NoMemory> {
+    let words = words_of(alloc, line)?;
+    Ok(operation_named(alloc, &words)?.is_none())
+}
+
+// The words of the line name the operation.
+fn names(alloc: Global, line: &str, wanted: Operation) -> Result<bool, NoMemory> {
+    let words = words_of(alloc, line)?;
+    Ok(operation_named(alloc, &words)? == Some(wanted))
+}
+
+static REFUSED: [&str; 19] = [
+    "_",
+    "measure a b",
+    "clean",
+    "clean a b",
+    "clean a --rule least-index",
+    "clean a b c --rule least-index",
+    "clean a b --rule largest",
+    "clean a b --rule least-index --rule least-index",
+    "validate a b --gap",
+    "validate a b --gap 1073741825",
+    "validate a b --gap 3 --gap 3",
+    "validate a b --gap -0",
+    "validate a b --gap 3x",
+    "validate a b --help",
+    "node -h a b",
+    "regions -a b",
+    "union a b --gap 3",
+    "simplify a b --inner",
+    "simplify a b --tolerance 8 --inner=true",
+];
+
+#[test]
+fn words_that_are_not_accepted(rt: HostRuntime) -> Result<(), Fail> {
+    for line in &REFUSED {
+        assert!(rt; is_refused(rt.alloc(), line)?, "{line}");
+    }
+    let none: [String; 0] = [];
+    assert!(rt; operation_named(rt.alloc(), &none)?.is_none());
+    Ok(())
+}
+
+#[test]
+fn options_stand_anywhere(rt: HostRuntime) -> Result<(), Fail> {
+    let alloc = rt.alloc();
+    let wanted = Operation::Clean {
+        rule: RuleName::LeastIndex,
+        gap: 3,
+        from: "a",
+        to: "b",
+    };
+    assert!(rt; names(alloc, "clean --gap 3 --rule least-index a b", wanted)?);
+    assert!(rt; names(alloc, "clean a b --rule least-index --gap=3", wanted)?);
+    assert!(rt; names(alloc, "clean a --gap=+003 b --rule=least-index", wanted)?);
+    Ok(())
+}
+
+#[test]
+fn gaps_from_0_to_their_limit(rt: HostRuntime) -> Result<(), Fail> {
+    let alloc = rt.alloc();
+    let (from, to) = ("a", "b");
+    let none = Operation::Validate { gap: 0, from, to };
+    assert!(rt; names(alloc, "validate a b", none)?);
+    assert!(rt; names(alloc, "validate a b --gap=-0", none)?);
+    let most = Operation::Validate {
+        gap: 1_073_741_824,
+        from,
+        to,
+    };
+    assert!(rt; names(alloc, "validate a b --gap 1073741824", most)?);
+    Ok(())
+}
+
+#[test]
+fn names_of_any_text(rt: HostRuntime) -> Result<(), Fail> {
+    let alloc = rt.alloc();
+    let dashes = Operation::Union {
+        from: "-a",
+        to: "--gap",
+    };
+    assert!(rt; names(alloc, "union -- -a --gap", dashes)?);
+    let empty = Operation::Node { from: "", to: "-" };
+    assert!(rt; names(alloc, "node _ -", empty)?);
+    let plain = Operation::Regions { from: "a", to: "a" };
+    assert!(rt; names(alloc, "regions a a", plain)?);
+    Ok(())
+}
+
+#[test]
+fn lines_inside_alone(rt: HostRuntime) -> Result<(), Fail> {
+    let alloc = rt.alloc();
+    let (tolerance, from, to) = (8, "a", "b");
+    let all = Operation::Simplify {
+        tolerance,
+        inner: false,
+        from,
+        to,
+    };
+    assert!(rt; names(alloc, "simplify a b --tolerance 8", all)?);
+    let inner = Operation::Simplify {
+        tolerance,
+        inner: true,
+        from,
+        to,
+    };
+    assert!(rt; names(alloc, "simplify --inner a b --tolerance 8", inner)?);
+    Ok(())
+}
+
+#[test]
+fn files_of_an_operation(rt: HostRuntime) -> Result<(), Fail> {
+    let union = Operation::Union { from: "a", to: "b" };
+    assert!(rt; union.inputs() == ["a"].as_slice());
+    assert!(rt; union.output() == "b");
+    Ok(())
+}

@@ -1,0 +1,56 @@
+ghost use Rattle.std.specs.Prelude.{◌≡◌, IfOk, map};
+ghost use Rattle.std.specs.String.{string_bytes};
+ghost use Rattle.cover_words.specs.Named.{IsNamed};
+ghost use Rattle.cover_words.specs.Words.{operation_by as operation_by_word, operation_of};
+
+use crate::clean::clean_named;
+use crate::node::node_named;
+use crate::operation::Operation;
+use crate::regions::regions_named;
+use crate::simplify::simplify_named;
+use crate::union::union_named;
+use crate::validate::validate_named;
+use cov_types::NoMemory;
+use std::alloc::Global;
+
+// The operation of this word that the words name.
+fn operation_by<'a>(
+    alloc: Global,
+    word: &str,
+    words: &'a [String],
+) -> Result<Option<Operation<'a>>, NoMemory>
+    ensures { IfOk result (IsNamed (operation_by_word word.now (map string_bytes words.now))) }
+{
+    if word == "validate" {
+        return validate_named(alloc, words);
+    }
+    if word == "clean" {
+        return clean_named(alloc, words);
+    }
+    if word == "simplify" {
+        return simplify_named(alloc, words);
+    }
+    if word == "union" {
+        return union_named(alloc, words);
+    }
+    if word == "node" {
+        return node_named(alloc, words);
+    }
+    if word == "regions" {
+        return regions_named(alloc, words);
+    }
+    Ok(None)
+}
+
+/// The operation that the words name, or None where they are not accepted. The first word is the operation's, as in
+/// `clean IN OUT --rule R`.
+///
+/// Takes memory and time in proportion to the words. The error says that there was no memory.
+pub fn operation_named(alloc: Global, words: &[String]) -> Result<Option<Operation<'_>>, NoMemory>
+    ensures { IfOk result (IsNamed (operation_of (map string_bytes words.now))) }
+{
+    match words {
+        [word, ..] => operation_by(alloc, word, words),
+        [] => Ok(None),
+    }
+}

@@ -1,0 +1,4 @@
+mod Steps
+mod Squares
+mod OwnSides
+mod Most

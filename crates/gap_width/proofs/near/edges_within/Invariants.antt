@@ -1,0 +1,6 @@
+use Rattle.std.proofs.Common.{◌≡◌, ◌*◌, take, filter, nat_lt}
+use Rattle.distance_laws.specs.Room.{reach}
+use Rattle.gap_width.proofs.near.edges_within.Given as goal
+
+abbrev pub invariant-loop-o : goal.invariant-loop-o
+invariant-loop-o l = l.within.items ≡ filter (λ o. nat_lt (reach l.c o.edge) (l.room * l.room)) (take l.o-index l.near)

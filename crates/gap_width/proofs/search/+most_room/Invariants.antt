@@ -1,0 +1,4 @@
+use Rattle.gap_width.proofs.search.+most_room.Given as goal
+
+abbrev pub decreases-most_room : goal.decreases-most_room
+decreases-most_room l = l.square.side

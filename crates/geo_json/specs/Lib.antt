@@ -1,0 +1,5 @@
+pub mod Shape
+pub mod Reading
+pub mod Fault
+pub mod Noting
+pub mod Collecting

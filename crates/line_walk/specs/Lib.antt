@@ -1,0 +1,4 @@
+pub mod Ends
+pub mod Partners
+pub mod Walk
+pub mod Line

@@ -1,6 +1,6 @@
 -- The words that a command takes have the values that its operation needs.
-use Rattle.std.proofs.Common.{◌≡◌, ◌∙◌, ◌&&◌, ◌||◌, ◌<◌, ◌≤◌, ◌^◌, ◌+◌, ℕ, Bool, cond, codes, true, false, not, refl, ap, sym, subst, arith, List, [], ◌∷◌, length, fold, find, Option, Some, None, is_some, option_and_then, unwrap_or, true≢false}
-use Rattle.std.specs.Prelude.{⊤, nat_lt, Result, Ok, Err, pos}
+use Rattle.std.proofs.Common.{◌≡◌, ◌∙◌, ◌&&◌, ◌||◌, ◌<◌, ◌≤◌, ◌^◌, ℕ, Bool, cond, codes, true, false, not, refl, ap, sym, subst, arith, List, [], ◌∷◌, length, find, Option, Some, None, is_some, option_and_then, unwrap_or, true≢false}
+use Rattle.std.specs.Prelude.{⊤, nat_lt}
 use Rattle.std.specs.List.{list_all, list_any}
 use Rattle.std.specs.Str.{bytes_eq}
 use Rattle.std.specs.Str.Parse.{ParsesUnsigned, digits_value, without_leading_plus}
@@ -11,24 +11,24 @@ use Rattle.clap.specs.Values.{read_as, reading_of}
 use Rattle.clap.specs.declared.builder.value_parser.ValueParser.{ValueParser}
 use Rattle.clap.specs.Matches.{ReadsOne}
 use Rattle.clap.specs.ValueTests.{accepts, is_unsigned_in}
-use Rattle.clap.specs.Walk.{Held, Names, Row, Rule, Text, arg_by_id, finished, first_of, has_row, nothing_held, one_of, settled, walk, walk_from, with_default}
+use Rattle.clap.specs.Walk.{Names, Row, Rule, Text, arg_by_id, finished, first_of, has_row, nothing_held, one_of, settled, walk, walk_from}
 use Rattle.clap.specs.Simple.{App, Shape, argument_words, built, entered, help_rule, is_simple, matches_of, names_of}
 use Rattle.clap.specs.Takes.{default_passes, entered_passes, is_given, is_valid, level_passes, settle_passes, takes, walk_passes}
 use Rattle.clap.specs.declared.builder.value_parser.ValueParser.TheVariants as vp
 use Rattle.clap.proofs.CallerReads.{signed_reads}
 use Rattle.clap.proofs.ValueTestLemmas.{accepts-Accepts, Accepts-accepts}
 use Rattle.clap.proofs.WalkLemmas.{both}
-use Rattle.cover_words.specs.Accepted.{AcceptedLaw, has_a_rule, is_accepted, is_accepted_by}
+use Rattle.cover_words.specs.Accepted.{AcceptedLaw, has_a_rule, is_accepted_by}
 use Rattle.cover_words.specs.Commands.{lengths, validate_command, clean_command, simplify_command, union_command, node_command, regions_command}
 use Rattle.cover_words.specs.Values.{flag_at, number_at, number_of, text_at, truth_of}
 use Rattle.cover_words.specs.declared.rule_name.RuleName.{RuleName}
-use Rattle.cover_words.specs.Words.{Operation, Union, Node, Regions, Validate, Clean, Simplify, clean_in, clean_with, files_with, node_in, operation_by, operation_of, regions_in, rule_named, simplify_in, simplify_with, taken, union_in, validate_in, validate_with}
+use Rattle.cover_words.specs.Words.{Operation, Union, Node, Regions, clean_in, clean_with, files_with, node_in, operation_by, regions_in, simplify_in, simplify_with, taken, union_in, validate_in, validate_with}
 use Rattle.cover_words.proofs.SoundRows.{AllOwn, AllSound, Present, defaults_have, defaults_sound, given_has, present, settled_sound, walk_sound}
 
 -- ---- the values of a command that takes the words
 
 -- the argument of this id, as building leaves it
-abbrev rule_at : App → Text → Rule
+abbrev pub rule_at : App → Text → Rule
 rule_at a id = unwrap_or (arg_by_id (built a).top.rules id) help_rule
 
 required_each : (rows : List Row) (p : Rule → Bool) (xs : List Rule) (a : Rule) → find p xs ≡ Some a → list_all (λ r. not r.required || is_given r.id rows) xs ≡ true
@@ -41,6 +41,7 @@ required_each rows p (x ∷ xs) a e all is =
     given : (r g : Bool) → (not r || g) ≡ true → r ≡ true → g ≡ true
     given true g h t = h
     given false g h t = absurd (true≢false (sym t))
+
     go : (t : Bool) → (find p xs ≡ Some a → is_given a.id rows ≡ true) → (not x.required || is_given x.id rows) ≡ true → cond t (Some x) (find p xs) ≡ Some a
         → is_given a.id rows ≡ true
     go true more here f =
@@ -61,7 +62,7 @@ valid_required s rows has kept e = past_all (not s.arg_required_else_help || (ha
     (list_all (λ (r : Rule). r.is_free) s.rules) s.subcommand_negates_reqs has (list_all (λ (r : Rule). not r.required || is_given r.id rows) s.rules) kept e
 
 -- an argument is required, or has a default
-abbrev is_sure : Rule → Bool
+abbrev pub is_sure : Rule → Bool
 is_sure r = r.required || nat_lt 0 (length r.defaults)
 
 module _ (s : Shape) (names : Names) (ws : List Text) (has : Bool) (own : AllOwn s.rules s.rules) (kept : s.subcommand_negates_reqs ≡ false) where
@@ -84,7 +85,7 @@ module _ (s : Shape) (names : Names) (ws : List Text) (has : Bool) (own : AllOwn
       go false is e all = defaults_have _ s.rules (settled s.rules (walk s.rules names nothing_held ws).held).rows r known (ltb-true _ _ e)
 
 -- an argument that is required or has a default has a value in words that the command takes
-taken_present : (a : App) (words : List Text) → AllOwn (built a).top.rules (built a).top.rules → (built a).top.subcommand_negates_reqs ≡ false → takes a words ≡ true
+pub taken_present : (a : App) (words : List Text) → AllOwn (built a).top.rules (built a).top.rules → (built a).top.subcommand_negates_reqs ≡ false → takes a words ≡ true
     → (r : Rule) → arg_by_id (built a).top.rules r.id ≡ Some r → is_sure r ≡ true → Present r (matches_of a words)
 taken_present a words own kept taken_by =
     let stop = (walk (built a).top.rules (names_of (built a)) nothing_held (argument_words a words)).stopped in
@@ -93,7 +94,7 @@ taken_present a words own kept taken_by =
 
 -- ---- numbers and flags
 
-number_reads : (t : Text) → ReadsOne {T = ℕ} {E = ⊤} (λ u x. ParsesUnsigned 32 10 u x) t (number_of t)
+pub number_reads : (t : Text) → ReadsOne {T = ℕ} {E = ⊤} (λ u x. ParsesUnsigned 32 10 u x) t (number_of t)
 number_reads t = go (is_unsigned_in 0 4294967295 t) refl
   where
     go : (b : Bool) → is_unsigned_in 0 4294967295 t ≡ b → ReadsOne {T = ℕ} {E = ⊤} (λ u x. ParsesUnsigned 32 10 u x) t (cond b (Some (digits_value 10 (without_leading_plus t))) None)
@@ -101,10 +102,13 @@ number_reads t = go (is_unsigned_in 0 4294967295 t) refl
         let fits = accepts-Accepts false (vp.Unsigned 0 4294967295) t e in
         let most : digits_value 10 (without_leading_plus t) ≤ 4294967295 = fits.3 in
         ((fits.0, omega arith), refl)
-    go false e = (tt, λ h.
-        let small : digits_value 10 (without_leading_plus t) < 2 ^ 32 = h.1 in
-        let fits = Accepts-accepts false (vp.Unsigned 0 4294967295) t (h.0, omega arith, omega arith, omega arith) in
-        true≢false (sym fits ∙ e))
+    go false e = (
+      tt,
+      λ h.
+          let small : digits_value 10 (without_leading_plus t) < 2 ^ 32 = h.1 in
+          let fits = Accepts-accepts false (vp.Unsigned 0 4294967295) t (h.0, omega arith, omega arith, omega arith) in
+          true≢false (sym fits ∙ e),
+    )
 
 number_some : (t : Text) → accepts false lengths t ≡ true → is_some (number_of (without_minus t)) ≡ true
 number_some t e =
@@ -165,26 +169,26 @@ flag_there r id rows same parser p =
     let passes : accepts r.ignore_case vp.Bool p.text ≡ true = subst (λ (q : Option ValueParser). accepts r.ignore_case (parser_of_value q) p.text ≡ true) parser p.passes in
     subst (λ (i : Text). is_some (flag_at i rows) ≡ true) same (ap (λ (o : Option Text). is_some (option_and_then truth_of o)) read ∙ truth_some p.text passes)
 
-own_validate : AllOwn (built validate_command).top.rules (built validate_command).top.rules
+pub own_validate : AllOwn (built validate_command).top.rules (built validate_command).top.rules
 own_validate = ((refl, refl), ((refl, refl), ((refl, refl), ((refl, refl), tt))))
 
-own_clean : AllOwn (built clean_command).top.rules (built clean_command).top.rules
+pub own_clean : AllOwn (built clean_command).top.rules (built clean_command).top.rules
 own_clean = ((refl, refl), ((refl, refl), ((refl, refl), ((refl, refl), ((refl, refl), tt)))))
 
-own_simplify : AllOwn (built simplify_command).top.rules (built simplify_command).top.rules
+pub own_simplify : AllOwn (built simplify_command).top.rules (built simplify_command).top.rules
 own_simplify = ((refl, refl), ((refl, refl), ((refl, refl), ((refl, refl), ((refl, refl), tt)))))
 
-own_union : AllOwn (built union_command).top.rules (built union_command).top.rules
+pub own_union : AllOwn (built union_command).top.rules (built union_command).top.rules
 own_union = ((refl, refl), ((refl, refl), ((refl, refl), tt)))
 
-own_node : AllOwn (built node_command).top.rules (built node_command).top.rules
+pub own_node : AllOwn (built node_command).top.rules (built node_command).top.rules
 own_node = ((refl, refl), ((refl, refl), ((refl, refl), tt)))
 
-own_regions : AllOwn (built regions_command).top.rules (built regions_command).top.rules
+pub own_regions : AllOwn (built regions_command).top.rules (built regions_command).top.rules
 own_regions = ((refl, refl), ((refl, refl), ((refl, refl), tt)))
 
 -- the argument of this id is one of the command, and is required or has a default
-abbrev is_at : App → Text → Type 0
+abbrev pub is_at : App → Text → Type 0
 is_at a id = (arg_by_id (built a).top.rules (rule_at a id).id ≡ Some (rule_at a id)) × (is_sure (rule_at a id) ≡ true) × ((rule_at a id).id ≡ id)
 
 module _ (a : App) (words : List Text) (own : AllOwn (built a).top.rules (built a).top.rules) (kept : (built a).top.subcommand_negates_reqs ≡ false) (by : takes a words ≡ true) where

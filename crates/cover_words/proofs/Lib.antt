@@ -1,5 +1,6 @@
 mod AcceptedWords
 mod Faultless
+mod Limits
 mod Readings
 mod SoundRows
 mod Takings

@@ -1,7 +1,7 @@
 -- The rows of words that a command takes: each value has passed its argument's parser, and none lacks a value.
-use Rattle.std.proofs.Common.{◌≡◌, ◌∙◌, ◌&&◌, ◌||◌, ◌++◌, ◌<◌, ◌+◌, ℕ, Bool, cond, true, false, not, zero, suc, refl, ap, sym, subst, arith, List, [], ◌∷◌, length, length-append, fold, drop, find, Option, Some, None, is_some, nat_le, true≢false, unwrap_or, option_map}
-use Rattle.std.specs.Prelude.{⊤, nat_lt, slice_get, option_and_then, encode_utf8}
-use Rattle.std.specs.List.{list_all, list_any}
+use Rattle.std.proofs.Common.{◌≡◌, ◌∙◌, ◌&&◌, ◌||◌, ◌++◌, ◌<◌, ℕ, Bool, cond, true, false, not, zero, suc, refl, ap, sym, subst, arith, List, [], ◌∷◌, length, length-append, fold, drop, find, Option, Some, None, is_some, nat_le, true≢false, unwrap_or}
+use Rattle.std.specs.Prelude.{⊤, nat_lt, slice_get, encode_utf8}
+use Rattle.std.specs.List.{list_all}
 use Rattle.std.specs.Option.{option_map_or}
 use Rattle.std.specs.Str.{bytes_eq, chars}
 use Rattle.std.proofs.lemmas.Bool.{leb-true, ltb-true, ne_eqb}
@@ -9,7 +9,7 @@ use Rattle.std.proofs.lemmas.Slice.Eq.{bytes_eq-Decides}
 use Rattle.clap.specs.Lexer.{long_of, short_of}
 use Rattle.clap.specs.Values.{is_request, read_as}
 use Rattle.clap.specs.Facts.{explicit_source, unwrap_or_range}
-use Rattle.clap.specs.Walk.{Held, Names, Outcome, Row, Rule, Step, Text, Waiting, Walk, action_of, after_flag, after_step, arg_by_id, arg_by_index, arg_by_long, arg_by_short, at_row, attached_value, bundle, bundle_met, bundle_step, default_rows, done, finished, first_of, flag_met, idle, positional, has_row, is_empty, is_pending, long_met, long_or_other, long_word, more_values, most_values, next, one_of, option, option_met, option_word, plain, plain_word, positional_held, reacted, reading_by, refused, settled, settled_rows, short_met, short_or_plain, short_word, subcommand, subcommand_met, subcommand_or_other, takes_several, takes_values, to_positional, trailing, used, used_as, used_by_id, value, values_or_missing, waits, walk, walk_from, walked, walked_from, with_default, with_values, without, word_met}
+use Rattle.clap.specs.Walk.{Held, Names, Outcome, Row, Rule, Step, Text, Waiting, Walk, action_of, after_flag, after_step, arg_by_id, arg_by_index, arg_by_long, arg_by_short, at_row, attached_value, bundle, bundle_met, bundle_step, default_rows, done, first_of, flag_met, idle, positional, has_row, is_empty, is_pending, long_met, long_or_other, more_values, most_values, next, one_of, option, option_met, option_word, plain, plain_word, positional_held, reacted, reading_by, refused, settled, settled_rows, short_met, short_or_plain, subcommand, subcommand_met, subcommand_or_other, takes_several, takes_values, to_positional, trailing, used, used_as, used_by_id, value, values_or_missing, waits, walked, walked_from, with_default, with_values, without, word_met}
 use Rattle.clap.specs.Simple.{Shape}
 use Rattle.clap.specs.Takes.{action_passes, bundle_step_passes, default_passes, flag_word_passes, flags_pass, is_given, long_passes, option_passes, other_passes, positional_passes, react_passes, settle_passes, short_passes, step_passes, turn_passes, use_passes, value_passes, values_pass, walk_passes, word_passes}
 use Rattle.clap.specs.declared.builder.action.ArgAction.{ArgAction}
@@ -83,8 +83,10 @@ module _ (c : List Rule) where
     where
       one : (b : Rule) → arg_by_id c a.id ≡ Some b → b ≡ a
       one b e = ap (λ o. unwrap_or o a) (sym e ∙ own)
+
       new : (b : Rule) → arg_by_id c a.id ≡ Some b → (0 < length vs) × (values_pass b vs ≡ true) × (reading_by a ≡ reading_by b)
       new b e = let same = one b e in rw same (some, pass, refl)
+
       changed : (r : Row) → bytes_eq r.id a.id ≡ true → Sound r → AllSound (more_values s vs r)
       changed r here sound =
           let id : r.id ≡ a.id = (bytes_eq-Decides r.id a.id).0 here in (
@@ -123,8 +125,8 @@ module _ (c : List Rule) where
         let most = both (nat_le (length values) (most_values a)) _ least.1 in
         used_as_sound (action_of a) a (values_or_missing a values) rows own.0
         (λ asks.
-            let valued = both (is_plain_action (action_of a)) _ (first_of_two (is_request (action_of a)) _ own.1 asks) in
-            (valued.0, some_value (unwrap_or_range a.range).start_inclusive a values valued.1 least.0))
+        let valued = both (is_plain_action (action_of a)) _ (first_of_two (is_request (action_of a)) _ own.1 asks) in
+        (valued.0, some_value (unwrap_or_range a.range).start_inclusive a values valued.1 least.0))
         most.1 all
 
     module _ (all_own : AllOwn c) where
@@ -135,6 +137,7 @@ module _ (c : List Rule) where
               → AllSound (used_by_id o p.1 h.rows)
           known p None owns e = all
           known p (Some a) owns e = used_sound a p.1 h.rows (owns a refl) e all
+
           go : (o : Option (Text × List Text)) → option_map_or (λ p. option_map_or (λ a. use_passes again a p.1 h.rows) (arg_by_id c p.0) true) o true ≡ true
               → AllSound (settled_rows c o h.rows)
           go None e = all
@@ -237,9 +240,11 @@ module _ (c : List Rule) where
       given : (values : List Text) → (is_empty values || values_pass a values) ≡ true → AllSound (default_rows a.id (reading_by a) values rows)
       given [] e = all
       given (v ∷ vs) e = with_values_sound a DefaultValue (v ∷ vs) rows own.0 (omega arith) (first_of_two (is_empty (v ∷ vs)) (values_pass a (v ∷ vs)) e (ne_eqb _ _ (λ none. omega arith))) all
+
       either : (x y z : Bool) → (x || (y && z)) ≡ true → (x || z) ≡ true
       either true y z e = refl
       either false y z e = (both y z e).1
+
       go : (t : Bool) → AllSound (cond t rows (default_rows a.id (reading_by a) a.defaults rows))
       go true = all
       go false = given a.defaults (either (is_empty a.defaults) _ (values_pass a a.defaults) pass)
@@ -284,6 +289,7 @@ module _ (s : Shape) (names : Names) (all_own : AllOwn s.rules s.rules) where
     where
       met : Held × Step
       met = word_met s.rules names w.is_trailing w.waiting w.position word w.held
+
       go : (o : Option (Text × List Text)) → (is_some o || (word_passes s names w.is_trailing w.waiting word w.held && step_passes s w.position met.0 met.1)) ≡ true
           → AllSound s.rules (walked_from s.rules names o w word).held.rows
       go (Some p) e = all
@@ -309,6 +315,7 @@ with_values_keeps id other how s vs (r ∷ rs) e = go (bytes_eq r.id other) (wit
     rest : (t : Bool) (x y : Bool) → (x ≡ true → y ≡ true) → (t || x) ≡ true → (t || y) ≡ true
     rest true x y f e = refl
     rest false x y f e = f e
+
     go : (t : Bool) → (has_row id rs ≡ true → has_row id (with_values other how s vs rs) ≡ true)
         → has_row id (cond t (more_values s vs r ++ rs) (r ∷ with_values other how s vs rs)) ≡ true
     go true more = e
@@ -380,6 +387,7 @@ present c a (r ∷ rs) own all has = go (bytes_eq r.id a.id) refl (present c a r
     values_of : (vs : List Text) → 0 < length vs → values_pass a vs ≡ true → (v : Text) × (slice_get vs 0 ≡ Some v) × (value_passes a v ≡ true)
     values_of [] lt e = absurd (omega arith)
     values_of (v ∷ vs) lt e = (v, refl, (both (value_passes a v) _ e).0)
+
     go : (t : Bool) → bytes_eq r.id a.id ≡ t → (has_row a.id rs ≡ true → Present a rs) → Present a (r ∷ rs)
     go true same more =
         let id : r.id ≡ a.id = (bytes_eq-Decides r.id a.id).0 same in

@@ -38,20 +38,26 @@ inner = record (new_rule (codes "inner")) { long = Some (codes "inner"); action 
 abbrev pub on_files : Text → List Rule → App
 on_files word more = fold with_rule (new_app word) (name (codes "IN") ∷ name (codes "OUT") ∷ more)
 
+-- `validate IN OUT [--gap W]`
 abbrev pub validate_command : App
 validate_command = on_files (codes "validate") (gap ∷ [])
 
+-- `clean IN OUT --rule R [--gap W]`
 abbrev pub clean_command : App
 clean_command = on_files (codes "clean") (rule ∷ gap ∷ [])
 
+-- `simplify IN OUT --tolerance T [--inner]`
 abbrev pub simplify_command : App
 simplify_command = on_files (codes "simplify") (tolerance ∷ inner ∷ [])
 
+-- `union IN OUT`
 abbrev pub union_command : App
 union_command = on_files (codes "union") []
 
+-- `node IN OUT`
 abbrev pub node_command : App
 node_command = on_files (codes "node") []
 
+-- `regions IN OUT`
 abbrev pub regions_command : App
 regions_command = on_files (codes "regions") []

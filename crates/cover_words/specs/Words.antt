@@ -1,5 +1,5 @@
 -- The words that the program takes.
-use Rattle.std.specs.Prelude.{ℕ, Bool, List, [], ◌∷◌, Option, Some, None, option_and_then, if◌then◌else◌, codes}
+use Rattle.std.specs.Prelude.{⊤, ◌≤◌, ℕ, Bool, List, [], ◌∷◌, Option, Some, None, option_and_then, if◌then◌else◌, codes}
 use Rattle.std.specs.Str.{bytes_eq}
 use Rattle.clap.specs.Walk.{Row, Text}
 use Rattle.clap.specs.Simple.{App, matches_of}
@@ -39,6 +39,13 @@ output_of (Union from to) = to
 output_of (Node from to) = to
 output_of (Regions from to) = to
 
+-- the gap width or the tolerance of the operation is at most 2^30 grid units
+abbrev pub IsWithinLimit : Operation → Type 0
+IsWithinLimit (Validate gap from to) = gap ≤ 1073741824
+IsWithinLimit (Clean rule gap from to) = gap ≤ 1073741824
+IsWithinLimit (Simplify tolerance inner from to) = tolerance ≤ 1073741824
+IsWithinLimit _ = ⊤
+
 -- the rule that a word names
 abbrev pub rule_named : Text → Option RuleName
 rule_named word =
@@ -50,6 +57,7 @@ rule_named word =
 
 -- ---- the operation that the matches of its command name
 
+-- of the values that were found, where all are there
 abbrev pub validate_with : Option Text → Option Text → Option ℕ → Option Operation
 validate_with (Some from) (Some to) (Some gap) = Some (Validate gap from to)
 validate_with _ _ _ = None
@@ -66,6 +74,7 @@ abbrev pub files_with : (Text → Text → Operation) → Option Text → Option
 files_with operation (Some from) (Some to) = Some (operation from to)
 files_with operation _ _ = None
 
+-- of the matches, by the ids of the arguments
 abbrev pub validate_in : List Row → Option Operation
 validate_in rows = validate_with (text_at (codes "IN") rows) (text_at (codes "OUT") rows) (number_at (codes "gap") rows)
 

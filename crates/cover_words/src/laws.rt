@@ -4,5 +4,4 @@ ghost use Rattle.cover_words.specs.Accepted.{AcceptedLaw};
 /// words that its command takes. Does nothing.
 pub fn accepted_law()
     ensures { AcceptedLaw }
-{
-}
+{}

@@ -1,7 +1,8 @@
-ghost use Rattle.std.specs.Prelude.{◌≡◌, IfOk, map};
+ghost use Rattle.std.specs.Prelude.{◌≡◌, IfOk, IfSome, is_some, map};
 ghost use Rattle.std.specs.String.{string_bytes};
-ghost use Rattle.cover_words.specs.Named.{IsNamed};
-ghost use Rattle.cover_words.specs.Words.{operation_by as operation_by_word, operation_of};
+ghost use Rattle.cover_words.specs.Accepted.{is_accepted};
+ghost use Rattle.cover_words.specs.Named.{IsNamed, named};
+ghost use Rattle.cover_words.specs.Words.{IsWithinLimit, operation_by as operation_by_word, operation_of};
 
 use crate::clean::clean_named;
 use crate::node::node_named;
@@ -47,7 +48,10 @@ fn operation_by<'a>(
 ///
 /// Takes memory and time in proportion to the words. The error says that there was no memory.
 pub fn operation_named(alloc: Global, words: &[String]) -> Result<Option<Operation<'_>>, NoMemory>
-    ensures { IfOk result (IsNamed (operation_of (map string_bytes words.now))) }
+    ensures named { IfOk result (IsNamed (operation_of (map string_bytes words.now))) }
+    // An operation is named exactly where the words are accepted.
+    ensures accepted { IfOk result (λ o. is_some o ≡ is_accepted (map string_bytes words.now)) }
+    ensures within { IfOk result (λ o. IfSome o (λ operation. IsWithinLimit (named operation))) }
 {
     match words {
         [word, ..] => operation_by(alloc, word, words),

@@ -1,13 +1,16 @@
 -- Texts that are put together piece by piece.
-use Rattle.std.proofs.Common.{◌≡◌, ℕ, ◌+◌, ◌<◌, ◌≤◌, List, [], ◌∷◌, ◌++◌, length, get_or, refl, ap, ◌∙◌, sym, subst, arith, append_assoc}
+use Rattle.std.proofs.Common.{◌≡◌, ℕ, ◌<◌, ◌≤◌, List, [], ◌∷◌, ◌++◌, length, get_or, ap, ◌∙◌, arith, append_assoc}
 use Rattle.std.specs.Prelude.{codes}
 use Rattle.cov_types.specs.declared.coord.Coord.{Coord}
 use Rattle.json_write.specs.Text.{separated, in_brackets, polygon_text, geometry_text, with_commas, collection_text}
 
+-- a piece more behind what was appended
+pub piece_more : (before a b after last : List ℕ) → after ≡ before ++ a → last ≡ after ++ b → last ≡ before ++ (a ++ b)
+piece_more before a b after last f s = s ∙ ap (λ (l : List ℕ). l ++ b) f ∙ append_assoc before a b
+
 -- three pieces, each appended to the one before
 pub three_pieces : (before a b c first second third : List ℕ) → first ≡ before ++ a → second ≡ first ++ b → third ≡ second ++ c → third ≡ before ++ (a ++ b ++ c)
-three_pieces before a b c first second third f s t =
-    t ∙ ap (λ (l : List ℕ). l ++ c) (s ∙ ap (λ (l : List ℕ). l ++ b) f ∙ append_assoc before a b) ∙ append_assoc before (a ++ b) c
+three_pieces before a b c first second third f s t = piece_more before (a ++ b) c second third (piece_more before a b first second f s) t
 
 -- the geometry of one polygon
 pub polygon_appended : (shown polys : List (List (List Coord))) (poly : List (List Coord)) (before first second third : List ℕ) → shown ≡ polys → 1 ≤ length shown → length shown < 2 → poly ≡ get_or shown 0 poly

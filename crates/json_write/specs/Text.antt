@@ -1,6 +1,6 @@
 -- The written form of features: one FeatureCollection (RFC 7946) as compact JSON text, the members of objects in the
 -- order of their names.
-use Rattle.std.specs.Prelude.{◌≡◌, ℕ, ◌≤◌, Bool, true, false, if◌then◌else◌, is_some, List, [], ◌∷◌, ◌++◌, take, flat_map, Some, codes, ⊤, IsUtf8}
+use Rattle.std.specs.Prelude.{◌≡◌, ℕ, ◌≤◌, false, if◌then◌else◌, is_some, List, [], ◌∷◌, ◌++◌, take, flat_map, Some, codes, ⊤}
 use Rattle.std.specs.Fmt.{signed_decimal}
 use Rattle.cov_types.specs.declared.coord.Coord.{Coord}
 use Rattle.json.specs.Lex.{tokens}
@@ -81,11 +81,11 @@ abbrev pub feature_text : Feature → List ℕ → List ℕ → List ℕ
 feature_text f id properties =
     codes "{\"geometry\":" ++ geometry_text f.polys ++ id_text f.id id ++ codes ",\"properties\":" ++ properties ++ codes ",\"type\":\"Feature\"}"
 
--- the text is that of the feature, but for the digits of floats in its id and its properties
+-- the text is that of the feature: the texts in it of its id, where that isn't null, and of its properties are texts of them
 pub record IsFeatureText (f : Feature) (text : List ℕ) : Type 0 where
   pub id : List ℕ
   pub properties : List ℕ
-  pub id_is : IsValueText f.id id
+  pub id_is : is_some (as_null f.id) ≡ false → IsValueText f.id id
   pub properties_is : IsValueText f.properties properties
   pub text_is : text ≡ feature_text f id properties
 

@@ -1,6 +1,5 @@
 use Rattle.std.proofs.Common.{◌≡◌, ℕ, List, [], ◌++◌, map, ap, ◌∙◌, subst}
 use Rattle.std.specs.Prelude.{codes}
-use Rattle.serde_json.specs.Data.{Data}
 use Rattle.serde_json.specs.View.{view}
 use Rattle.geo_json.specs.declared.features.Features.{Features}
 use Rattle.json_write.specs.Text.{Feature, AreFeatureTexts, with_commas, features_from}

@@ -1,0 +1,12 @@
+pub mod Hulls
+pub mod Placing
+pub mod Passing
+pub mod Numbering
+pub mod RingBoxes
+pub mod NextRing
+pub mod LeastHolder
+pub mod Positions
+pub mod Words
+pub mod Numbers
+pub mod Lines
+pub mod Capped

@@ -1,0 +1,34 @@
+use Rattle.std.proofs.Common.{◌≡◌, ◌<◌, ◌/◌, length, sym, subst, arith}
+use Rattle.box_tree.specs.declared.rect.Rect.{Rect}
+use Rattle.box_tree.specs.Rect.{IsInside}
+use Rattle.cov_locate.proofs.Hulls.{hull_within, in_level}
+use Rattle.cov_locate.proofs.Placing.{placed_inward}
+use Rattle.cov_locate.proofs.block.widest_block.Goals as goal
+use Rattle.cov_locate.specs.Blocks.{IsBlock}
+use Rattle.cov_locate.specs.Levels.{IsLevel}
+use Rattle.std.proofs.Common.{get_or}
+
+pub index-requires : goal.index-requires
+index-requires c =
+    let (boxes, (are, ends)) = c.requires.levels in
+    let level = c.level-item.result in
+    let is : IsLevel boxes level = subst (IsLevel boxes) (sym c.level-item.is) (are c.loop-level.level-index level c.loop-level-test.true) in
+    let block = hull_within boxes level c.args.from is (omega (arith, ends, c.requires.some)) in
+    omega (arith, block)
+
+pub loop-level-preserved : goal.loop-level-preserved
+loop-level-preserved c = λ boxes are ends.
+    let level = c.level-item.result in
+    let from = c.args.from in
+    let to = c.end_of_block-to.result in
+    let b = c.index.result.now in
+    let end = c.end_of_block-to.ensures in
+    let is : IsLevel boxes level = subst (IsLevel boxes) (sym c.level-item.is) (are c.loop-level.level-index level c.loop-level-test.true) in
+    record {
+      some = omega (arith, end.begins);
+      ends = end.within;
+      placed = λ k d low high.
+          placed_inward (get_or boxes k d) b c.args.p c.place_of-placed.result
+          (subst (IsInside (get_or boxes k d)) (sym c.index.ensures) (in_level boxes level from to k b d is end.block (omega (arith, end.within, ends)) low high))
+          c.place_of-placed.ensures;
+    }

@@ -1,0 +1,19 @@
+-- Where boxes lie about a point.
+use Rattle.std.specs.Prelude.{ℕ, ◌<◌, ◌≤◌, List, slice_index_or, ◌<ℤ◌, ◌⊎◌}
+use Rattle.box_tree.specs.declared.rect.Rect.{Rect}
+use Rattle.cov_locate.specs.declared.block.Block.{Block}
+use Rattle.cov_locate.specs.declared.block.Placed.{Placed}
+use Rattle.cov_locate.specs.declared.block.Placed.TheVariants.{Beside, Higher, Near}
+use Rattle.cov_types.specs.declared.coord.Coord.{Coord}
+
+-- the box is so placed about the point
+abbrev pub IsPlaced : Rect → Coord → Placed → Type 0
+IsPlaced b p Beside = (p.x <ℤ b.lo.x) ⊎ ((b.hi.x <ℤ p.x) ⊎ (b.hi.y <ℤ p.y))
+IsPlaced b p Higher = p.y <ℤ b.lo.y
+IsPlaced b p Near = Unit {0}
+
+-- the block has some boxes, and all of them are so placed
+pub record IsBlock (boxes : List Rect) (from end : ℕ) (p : Coord) (block : Block) : Type 0 where
+  pub some : from < block.to
+  pub ends : block.to ≤ end
+  pub placed : (k : ℕ) (d : Rect) → from ≤ k → k < block.to → IsPlaced (slice_index_or boxes k d) p block.placed

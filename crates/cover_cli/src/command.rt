@@ -2,7 +2,7 @@ ghost use Rattle.std.specs.Prelude.{◌≡◌, ◌⊎◌, map, None, IfSome};
 ghost use Rattle.std.specs.String.{string_bytes};
 ghost use Rattle.cover_cli.specs.Answers.{IsAnswer};
 ghost use Rattle.cover_words.specs.Named.{named};
-ghost use Rattle.cover_words.specs.Words.{IsWithinLimits, operation_of};
+ghost use Rattle.cover_words.specs.Words.{IsWithinLimit, operation_of};
 
 use crate::input::read_inputs;
 use crate::making::make;
@@ -15,7 +15,7 @@ use std::alloc::Global;
 
 // Reads what the operation reads, makes its whole text in memory, and then writes it.
 fn run<F: Files>(alloc: Global, operation: &Operation, files: &mut F) -> Outcome
-    requires { IsWithinLimits (named operation.now) }
+    requires { IsWithinLimit (named operation.now) }
     ensures { IsAnswer (named operation.now) (F.state files.old) (F.state files.new) result }
 {
     let inputs = match read_inputs(alloc, files, operation.inputs()) {

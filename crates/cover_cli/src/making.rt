@@ -3,7 +3,7 @@ ghost use Rattle.geo_text.specs.declared.reader.TheConstants.{LONGEST_INPUT};
 ghost use Rattle.cover_cli.specs.Made.{Makes, Refuses};
 ghost use Rattle.cover_words.specs.Named.{named};
 ghost use Rattle.cover_cli.specs.Refusal.{IsRefusedFor};
-ghost use Rattle.cover_words.specs.Words.{IsWithinLimits, inputs_of};
+ghost use Rattle.cover_words.specs.Words.{IsWithinLimit, inputs_of};
 
 use crate::outcome::Outcome;
 use cover_words::Operation;
@@ -20,7 +20,7 @@ pub struct Made {
 /// Makes all that the operation writes of the inputs that it read. An error is the outcome that refuses them.
 pub fn make(alloc: Global, operation: &Operation, mut inputs: Vec<Vec<u8>>) -> Result<Made, Outcome>
     requires count { length inputs.items ≡ length (inputs_of (named operation.now)) }
-    requires limits { IsWithinLimits (named operation.now) }
+    requires limits { IsWithinLimit (named operation.now) }
     requires within { All (λ i. length i.items ≤ LONGEST_INPUT) inputs.items }
     ensures made { IfOk result (λ made.
         Makes (named operation.now) (map (λ i. i.items) inputs.items) made.outcome made.text.items) }

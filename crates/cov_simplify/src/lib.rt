@@ -9,5 +9,7 @@
 mod coverage_lines;
 mod edges;
 mod side_holder;
+mod simplify;
 
 pub use coverage_lines::{Line, lines};
+pub use simplify::simplify;

@@ -9,7 +9,7 @@
 mod coverage_lines;
 mod edges;
 mod side_holder;
-mod simplify;
+mod simplifier;
 
 pub use coverage_lines::{Line, lines};
-pub use simplify::simplify;
+pub use simplifier::simplify;

@@ -5,7 +5,7 @@ use Rattle.cov_types.specs.declared.seg.Seg.{Seg}
 use Rattle.arrangement.specs.declared.odd_use.OddUse.{OddUse}
 use Rattle.arrangement.proofs.OddUses.{live_again_law}
 use Rattle.cov_admit.proofs.Segments.{noded_by_uses}
-use Rattle.cov_marks.proofs.marks.live_edges.Goals as goal
+use Rattle.cov_marks.proofs.marking.live_edges.Goals as goal
 
 pub plain-requires-clause-noded : goal.plain-requires-clause-noded
 plain-requires-clause-noded c = noded_by_uses c.args.uses.now c.requires.valid.ends

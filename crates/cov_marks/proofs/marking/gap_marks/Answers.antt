@@ -15,7 +15,7 @@ use Rattle.cov_admit.proofs.Admitted.{faultless_valid}
 use Rattle.cov_valid.specs.Marks.{AreMarksBy}
 use Rattle.cov_marks.specs.Beside.{IsBesideAny, IsUseOf}
 use Rattle.cov_marks.proofs.GapMarks.{gap_marks}
-use Rattle.cov_marks.proofs.marks.gap_marks.Goals as goal
+use Rattle.cov_marks.proofs.marking.gap_marks.Goals as goal
 
 pub live_edges-requires-clause-in_range : goal.live_edges-requires-clause-in_range
 live_edges-requires-clause-in_range c =

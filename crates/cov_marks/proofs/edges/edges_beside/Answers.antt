@@ -5,8 +5,8 @@ use Rattle.std.proofs.lemmas.Option.{slice_get-get_or}
 use Rattle.cov_types.specs.declared.seg.Seg.{Seg}
 use Rattle.plane.specs.Region.{AreRegions}
 use Rattle.cov_marks.proofs.Beside.{AreBesideBefore, IsAscendingTo, ascending_same, ascending_more, beside_same, beside_more, beside_all}
-use Rattle.cov_marks.proofs.beside.edges_beside.Goals.{then-is_beside+in_ok-push, else-is_beside}
-use Rattle.cov_marks.proofs.beside.edges_beside.Goals as goal
+use Rattle.cov_marks.proofs.edges.edges_beside.Goals.{then-is_beside+in_ok-push, else-is_beside}
+use Rattle.cov_marks.proofs.edges.edges_beside.Goals as goal
 
 pub loop-k-preserved : goal.loop-k-preserved
 loop-k-preserved c =

@@ -5,8 +5,8 @@ use Rattle.cov_valid.proofs.MarksSoFar.{AreMarksBefore, AreMarksBefore-skip, Are
 use Rattle.cov_valid.specs.declared.mark.Kind.TheVariants.{NarrowGap}
 use Rattle.cov_valid.specs.declared.mark.Mark.{Mark}
 use Rattle.cov_marks.specs.Beside.{IsUseOf}
-use Rattle.cov_marks.proofs.marks.marks_of_segments.Goals.{then-has_segment+in_ok-push, else-has_segment}
-use Rattle.cov_marks.proofs.marks.marks_of_segments.Goals as goal
+use Rattle.cov_marks.proofs.marking.marks_of_segments.Goals.{then-has_segment+in_ok-push, else-has_segment}
+use Rattle.cov_marks.proofs.marking.marks_of_segments.Goals as goal
 
 pub loop-place-preserved : goal.loop-place-preserved
 loop-place-preserved c =

@@ -4,7 +4,7 @@ use Rattle.std.proofs.lemmas.Result.{IfOk-weaker}
 use Rattle.cov_types.proofs.AllUses.{uses-members}
 use Rattle.cov_types.specs.Uses.{uses_of}
 use Rattle.cov_marks.proofs.GapMarks.{no_width, some_fault, none_faultless, marks_places, marks_members}
-use Rattle.cov_marks.proofs.marks.marks.Goals as goal
+use Rattle.cov_marks.proofs.marking.marks.Goals as goal
 
 pub gap_marks-requires-clause-faultless : goal.gap_marks-requires-clause-faultless
 gap_marks-requires-clause-faultless c = none_faultless (uses_of c.args.c.now) c.in_ok-faults.faults.items ? c.in_ok-faults.ensures.exact

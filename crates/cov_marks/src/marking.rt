@@ -10,7 +10,7 @@ ghost use Rattle.cov_valid.specs.Marks.{AreMarksBy};
 ghost use Rattle.cov_marks.specs.Beside.{IsUseOf};
 ghost use Rattle.cov_marks.specs.Marks.{AreMarks};
 
-use crate::beside::{edges_beside, has_segment};
+use crate::edges::{edges_beside, has_segment};
 use cov_types::{Coverage, EdgeUse, NoMemory, Seg, uses};
 use cov_valid::{Kind, Mark};
 use face_walk::Regions;

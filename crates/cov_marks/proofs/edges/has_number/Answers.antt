@@ -1,7 +1,7 @@
 use Rattle.std.proofs.Common.{sym, subst, Bool}
 use Rattle.std.specs.Prelude.{Contains, IsTrue, ◌↔◌}
 use Rattle.cov_marks.proofs.Searching.{number_found}
-use Rattle.cov_marks.proofs.beside.has_number.Goals as goal
+use Rattle.cov_marks.proofs.edges.has_number.Goals as goal
 
 pub returns : goal.returns
 returns c =

@@ -1,6 +1,6 @@
 use Rattle.std.proofs.Common.{◌≡◌, ◌∙◌, refl, sym, ap, subst, inl, inr, true≢false}
 use Rattle.std.specs.Prelude.{Contains, slice_index}
-use Rattle.cov_marks.proofs.beside.is_beside.Goals as goal
+use Rattle.cov_marks.proofs.edges.is_beside.Goals as goal
 
 pub returns-then-has_number : goal.returns-then-has_number
 returns-then-has_number c = λ numbers are.

@@ -2,7 +2,7 @@ use Rattle.std.proofs.Common.{sym, subst, Bool, ℕ, Result, length}
 use Rattle.std.specs.Prelude.{Contains, IsTrue, ◌↔◌}
 use Rattle.std.specs.List.Sorted.{IsSearchInRange}
 use Rattle.cov_marks.proofs.Searching.{segment_found}
-use Rattle.cov_marks.proofs.beside.has_segment.Goals as goal
+use Rattle.cov_marks.proofs.edges.has_segment.Goals as goal
 
 pub returns : goal.returns
 returns c =

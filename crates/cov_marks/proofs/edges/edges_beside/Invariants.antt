@@ -1,7 +1,7 @@
 use Rattle.std.proofs.Common.{ℕ, List}
 use Rattle.plane.specs.Region.{AreRegions}
 use Rattle.cov_marks.proofs.Beside.{AreBesideBefore, IsAscendingTo}
-use Rattle.cov_marks.proofs.beside.edges_beside.Given as goal
+use Rattle.cov_marks.proofs.edges.edges_beside.Given as goal
 
 abbrev pub invariant-loop-k : goal.invariant-loop-k
 invariant-loop-k l = record {

@@ -8,8 +8,11 @@
 //! edges beside the gaps; `GapMarks`, what the marks are (`fault_marks`, `gap_marks`), and that there is one list of them (`one_marks`).
 #![tactic(auto)]
 
+mod edges;
 mod laws;
 mod marking;
+#[cfg(test)]
+mod tests;
 
 pub use laws::marks_law;
 pub use marking::marks;

@@ -1,3 +1,9 @@
 pub mod EdgePlaces
 pub mod LineLists
 pub mod SidedLines
+pub mod Formed
+pub mod InnerLines
+pub mod MemberCounts
+pub mod Marks
+pub mod Withouts
+pub mod Simplified

@@ -1,15 +1,20 @@
-//! Simplifying a valid coverage: its lines, with the members beside them.
+//! Simplifying a valid coverage: its lines, with the members beside them, and the coverage without the points that a run over its lines
+//! removes.
 //!
 //! Its promise: `lines` answers all lines of a valid coverage in the order of their numbers, each with the members that hold the points
-//! on the left and on the right of its first segment. What these are is defined in `greedy_run`.
+//! on the left and on the right of its first segment. `simplify` answers the coverage of the last state of the run over these lines,
+//! which is valid and formed. What these are is defined in `greedy_run`.
 //!
-//! The files: `edges` has the segments of a valid coverage, `side_holder` the member that holds a side point, and `coverage_lines` the lines.
+//! The files: `edges` has the segments of a valid coverage, `side_holder` the member that holds a side point, and `coverage_lines` the
+//! lines. `inner` has the lines that may lose points, `without` a coverage without points, and `simplifying` the whole.
 #![tactic(auto)]
 
 mod coverage_lines;
 mod edges;
+mod inner;
 mod side_holder;
-mod simplifier;
+mod simplifying;
+mod without;
 
 pub use coverage_lines::{Line, lines};
-pub use simplifier::simplify;
+pub use simplifying::simplify;

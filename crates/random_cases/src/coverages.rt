@@ -24,6 +24,18 @@ pub fn random_coverage(alloc: Global, random: &mut Random) -> Result<Coverage, N
     if_in_range(alloc, coverage)
 }
 
+/// A coverage of few segments on a grid with room for points off them.
+pub fn roomy_coverage(alloc: Global, random: &mut Random) -> Result<Coverage, NoMemory>
+    ensures { IfOk result AllInRange }
+{
+    let coverage = if random.one_in(2) {
+        any_rings(alloc, Grid::Roomy, random)?
+    } else {
+        rectangles(alloc, Grid::Roomy, random)?
+    };
+    if_in_range(alloc, coverage)
+}
+
 // The coverage, or an empty one where it is out of range: none of these is, and so it is said.
 fn if_in_range(alloc: Global, coverage: Coverage) -> Result<Coverage, NoMemory>
     ensures { IfOk result AllInRange }

@@ -2,11 +2,13 @@
 //!
 //! `random_cases WHAT SEED COUNT` tries so many cases: the case with the number k, from 0, is made of the numbers of the seed
 //! SEED + k, so it is repeated by `random_cases WHAT (SEED + k) 1`. It ends with status 0 where no case differs, and with 1 at the
-//! first that does. With no words it tries a few cases of each. What is compared has a file each: `tree`, `columns`, `marks`, `node`.
+//! first that does. With no words it tries a few cases of each. What is compared has a file each: `tree`, `columns`, `marks`, `node`,
+//! `gaps`.
 #![tactic(auto)]
 
 mod columns;
 mod coverages;
+mod gaps;
 mod marks;
 mod node;
 mod points;
@@ -16,6 +18,7 @@ mod tree;
 
 use columns::columns_case;
 use cov_types::NoMemory;
+use gaps::gaps_case;
 use marks::marks_case;
 use node::node_case;
 use random::Random;
@@ -31,9 +34,16 @@ enum What {
     Columns,
     Marks,
     Node,
+    Gaps,
 }
 
-const ALL: [What; 4] = [What::Tree, What::Columns, What::Marks, What::Node];
+const ALL: [What; 5] = [
+    What::Tree,
+    What::Columns,
+    What::Marks,
+    What::Node,
+    What::Gaps,
+];
 
 impl What {
     fn name(self) -> &'static str {
@@ -42,6 +52,7 @@ impl What {
             What::Columns => "columns",
             What::Marks => "marks",
             What::Node => "node",
+            What::Gaps => "gaps",
         }
     }
 
@@ -52,6 +63,7 @@ impl What {
             What::Columns => 50,
             What::Marks => 50,
             What::Node => 50,
+            What::Gaps => 10,
         }
     }
 
@@ -62,6 +74,7 @@ impl What {
             What::Columns => columns_case(alloc, random),
             What::Marks => marks_case(alloc, random),
             What::Node => node_case(alloc, random),
+            What::Gaps => gaps_case(alloc, random),
         }
     }
 }
@@ -157,7 +170,7 @@ fn main(rt: HostRuntime) -> io::Result<ExitCode> {
     match trial {
         Some(trial) => Ok(status(run(&rt, trial)?)),
         None => {
-            println!(rt; "usage: random_cases tree|columns|marks|node SEED COUNT")?;
+            println!(rt; "usage: random_cases tree|columns|marks|node|gaps SEED COUNT")?;
             Ok(ExitCode::from(2))
         },
     }

@@ -13,7 +13,7 @@ use std::alloc::Global;
 /// A coverage: where its marks differ from the plain ones.
 pub fn marks_case(alloc: Global, random: &mut Random) -> Result<Option<String>, NoMemory> {
     let coverage = random_coverage(alloc, random)?;
-    let found = marks(alloc, &coverage, 0)?;
+    let found = marks(alloc, &coverage)?;
     let list = uses(alloc, &coverage)?;
     let plain = plain_marks(alloc, &list, members_of(&coverage))?;
     if found.as_slice() == plain.as_slice() {

@@ -5,6 +5,9 @@ ghost use Rattle.cov_types.specs.Range.{IsInRange};
 use crate::random::Random;
 use cov_types::{Coord, LIMIT};
 
+/// How wide the square with room is, in grid units.
+pub const ROOM: u32 = 40;
+
 /// Where points are taken from.
 #[derive(Clone, Copy)]
 pub enum Grid {
@@ -54,7 +57,7 @@ fn any_coordinate(grid: Grid, random: &mut Random) -> i64 {
     match grid {
         Grid::Narrow => random.below(5) as i64,
         Grid::Wide => random.below(10) as i64,
-        Grid::Roomy => random.below(40) as i64,
+        Grid::Roomy => random.below(ROOM) as i64,
         Grid::Borders => {
             let line = random.below(3) as i64 * LIMIT as i64;
             line - LIMIT as i64 + random.below(3) as i64 - 1

@@ -9,21 +9,16 @@ ghost use Rattle.cover_cli.specs.Text.{IsReadAnd, RefusesText};
 
 use crate::making::Made;
 use crate::outcome::Outcome;
-use cover_words::RuleName;
 use crate::text::coverage_of;
 use cov_clean::clean;
 use cov_types::{Coverage, NoMemory};
 use cov_write::text_of;
+use cover_words::RuleName;
 use merge_rule::{GreatestArea, LeastArea, LeastIndex, LongestBorder};
 use std::alloc::Global;
 
 // The coverage, cleaned by the rule of the name at the gap width.
-fn cleaned(
-    alloc: Global,
-    c: &Coverage,
-    rule: RuleName,
-    gap: u32,
-) -> Result<Coverage, NoMemory>
+fn cleaned(alloc: Global, c: &Coverage, rule: RuleName, gap: u32) -> Result<Coverage, NoMemory>
     requires in_range { AllInRange c.now }
     requires gap { gap ≤ 2 ^ 30 }
     ensures cleaned { IfOk result (λ out. IsCleaned c.now (rule_of rule) no_state gap out) }
@@ -38,12 +33,7 @@ fn cleaned(
 }
 
 // The text of the cleaned coverage.
-fn cleaning(
-    alloc: Global,
-    c: &Coverage,
-    rule: RuleName,
-    gap: u32,
-) -> Result<Made, NoMemory>
+fn cleaning(alloc: Global, c: &Coverage, rule: RuleName, gap: u32) -> Result<Made, NoMemory>
     requires in_range { AllInRange c.now }
     requires gap { gap ≤ 2 ^ 30 }
     ensures { IfOk result (λ made. IsCleaning rule gap c.now made.outcome made.text.items) }
@@ -57,12 +47,7 @@ fn cleaning(
 }
 
 /// Cleans the coverage that the input is read as, by the rule of the name at the gap width, in grid units.
-pub fn make(
-    alloc: Global,
-    rule: RuleName,
-    gap: u32,
-    input: Vec<u8>,
-) -> Result<Made, Outcome>
+pub fn make(alloc: Global, rule: RuleName, gap: u32, input: Vec<u8>) -> Result<Made, Outcome>
     requires length { length input.items ≤ LONGEST_INPUT }
     requires gap { gap ≤ 2 ^ 30 }
     ensures made { IfOk result (λ made.

@@ -6,8 +6,8 @@ ghost use Rattle.cover_cli.specs.Refusal.{IsRefusedFor};
 ghost use Rattle.cover_words.specs.Words.{IsWithinLimit, inputs_of};
 
 use crate::outcome::Outcome;
-use cover_words::Operation;
 use crate::{clean, node, regions, simplify, union, validate};
+use cover_words::Operation;
 use std::alloc::Global;
 
 /// What an operation made: the outcome, should the text be written whole, and that text.
@@ -31,7 +31,9 @@ pub fn make(alloc: Global, operation: &Operation, mut inputs: Vec<Vec<u8>>) -> R
         Operation::Validate { gap, .. } => validate::make(alloc, *gap, inputs.remove(0)),
         Operation::Clean { rule, gap, .. } => clean::make(alloc, *rule, *gap, inputs.remove(0)),
         Operation::Simplify {
-            tolerance, inner, ..
+            tolerance,
+            inner,
+            ..
         } => simplify::make(alloc, *tolerance, *inner, inputs.remove(0)),
         Operation::Union { .. } => union::make(alloc, inputs.remove(0)),
         Operation::Node { .. } => node::make(alloc, inputs.remove(0)),

@@ -79,7 +79,9 @@ fn mark_message(alloc: Global, member: u32, place: u64, kind: Kind) -> Result<St
         Kind::Repeated => format!(in alloc; "not valid: member {member} place {place} repeated")?,
         Kind::SameSide => format!(in alloc; "not valid: member {member} place {place} same side")?,
         Kind::Inside => format!(in alloc; "not valid: member {member} place {place} inside")?,
-        Kind::NarrowGap => format!(in alloc; "not valid: member {member} place {place} narrow gap")?,
+        Kind::NarrowGap => format!(in alloc;
+            "not valid: member {member} place {place} narrow gap"
+        )?,
     })
 }
 

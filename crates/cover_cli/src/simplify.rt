@@ -36,12 +36,7 @@ fn simplifying(
 }
 
 /// Simplifies the coverage that the input is read as, where it is valid, at the tolerance, in grid units.
-pub fn make(
-    alloc: Global,
-    tolerance: u32,
-    inner: bool,
-    input: Vec<u8>,
-) -> Result<Made, Outcome>
+pub fn make(alloc: Global, tolerance: u32, inner: bool, input: Vec<u8>) -> Result<Made, Outcome>
     requires length { length input.items ≤ LONGEST_INPUT }
     requires tolerance { tolerance ≤ 2 ^ 30 }
     ensures made { IfOk result (λ made.

@@ -9,9 +9,10 @@ use Rattle.cov_types.specs.declared.edge_use.EdgeUse.{EdgeUse}
 use Rattle.cov_types.proofs.AllUses.{uses-in_range}
 use Rattle.cov_types.proofs.EvenEnds.{even-ends}
 use Rattle.crossing_laws.proofs.Lists.{contains_here}
-use Rattle.cov_valid.specs.Marks.{IsMark, AreMarks}
+use Rattle.cov_valid.specs.Kinds.{IsFaultOf}
+use Rattle.cov_valid.specs.Marks.{IsMarkBy, AreFaultMarks}
 use Rattle.cov_valid.specs.declared.mark.Mark.{Mark}
-use Rattle.cov_valid.proofs.Unique.{AreMarks-unique}
+use Rattle.cov_valid.proofs.Unique.{AreFaultMarks-unique}
 use Rattle.plane.specs.Validity.{IsValid}
 use Rattle.cov_admit.specs.FirstMark.{IsFirstMark}
 use Rattle.cov_admit.proofs.Admitted.{faultless_valid}
@@ -25,7 +26,7 @@ module _ (members : Members) (formed : IsFormed members) where
   uses_in_range = uses-in_range members formed.in_range
 
   -- without marks the coverage is valid
-  valid_by_none : AreMarks uses (length members) 0 [] → IsValid uses
+  valid_by_none : AreFaultMarks uses [] → IsValid uses
   valid_by_none are = faultless_valid uses uses_in_range (even-ends members) (λ u has kind fault. (
       let at : slice_get uses has.0 ≡ Some u = slice_get-get_or uses has.0 u has.1 ∙ ap (λ (v : EdgeUse). Some v) has.2 in
       let m : Mark = record { member = u.member; place = has.0; kind = kind } in
@@ -33,25 +34,25 @@ module _ (members : Members) (formed : IsFormed members) where
       omega (arith, listed.1)))
 
   -- with a mark it is not
-  not_valid_by_mark : (m : Mark) → IsMark uses (length members) 0 m → ¬ IsValid uses
+  not_valid_by_mark : (m : Mark) → IsMarkBy (IsFaultOf uses) uses m → ¬ IsValid uses
   not_valid_by_mark m mark valid =
       let u : EdgeUse = mark.marked in
       let has : Contains uses u = (m.place, slice_get_within uses m.place u mark.at_place, get_or_from_slice_get uses m.place u u mark.at_place) in
       valid_faultless uses uses_in_range valid u has m.kind mark.kind
 
-  first_of_marks : (m : Mark) (ms : List Mark) → AreMarks uses (length members) 0 (m ∷ ms) → IsFirstMark members m
+  first_of_marks : (m : Mark) (ms : List Mark) → AreFaultMarks uses (m ∷ ms) → IsFirstMark members m
   first_of_marks m ms are = record {
     marks = m ∷ ms;
     are_marks = are;
     first = refl;
   }
 
-  pub first_or_valid : (marks : List Mark) → AreMarks uses (length members) 0 marks → MatchOption (slice_get marks 0) (IsValid uses) (λ m. IsFirstMark members m × ¬ IsValid uses)
+  pub first_or_valid : (marks : List Mark) → AreFaultMarks uses marks → MatchOption (slice_get marks 0) (IsValid uses) (λ m. IsFirstMark members m × ¬ IsValid uses)
   first_or_valid [] are = valid_by_none are
   first_or_valid (m ∷ ms) are = (first_of_marks m ms are, not_valid_by_mark m ((are.exact m).0 (contains_here m ms)))
 
 -- a coverage has one first mark
 pub one_first_mark : (members : Members) (m n : Mark) → IsFirstMark members m → IsFirstMark members n → m ≡ n
 one_first_mark members m n first second =
-    let same = AreMarks-unique (uses_of members) (length members) 0 first.marks second.marks first.are_marks second.are_marks in
+    let same = AreFaultMarks-unique (uses_of members) first.marks second.marks first.are_marks second.are_marks in
     same_Some m n (sym first.first ∙ ap (λ (l : List Mark). slice_get l 0) same ∙ second.first)

@@ -24,7 +24,7 @@ use Rattle.arrangement.proofs.Labels.{mapped}
 use Rattle.removal_laws.proofs.Counts.{has_times, times_has, repeated_of}
 use Rattle.cov_valid.specs.Kinds.{HasBadContact, IsSameSide, IsInside, IsFaultOf, AreFaultless}
 use Rattle.cov_valid.specs.declared.mark.Kind.{Kind}
-use Rattle.cov_valid.specs.declared.mark.Kind.TheVariants.{Meets, Repeated, SameSide, Inside}
+use Rattle.cov_valid.specs.declared.mark.Kind.TheVariants.{Meets, Repeated, SameSide, Inside, NarrowGap}
 use Rattle.cov_admit.proofs.Segments.{use_by, use_in_range}
 
 -- ---- the side points of a segment
@@ -113,6 +113,7 @@ module _ (uses : List EdgeUse) (in_range : All (λ u. IsSegInRange u.seg) uses) 
   none_at_fault u has Repeated h = valid.once u h.1
   none_at_fault u has SameSide h = not_alike u has h.2
   none_at_fault u has Inside h = not_inside u has h.3
+  none_at_fault u has NarrowGap h = h
 
 pub valid_faultless : (uses : List EdgeUse) → All (λ u. IsSegInRange u.seg) uses → IsValid uses → AreFaultless uses
 valid_faultless uses in_range valid u has = none_at_fault uses in_range valid u has

@@ -31,6 +31,6 @@ fn first_mark(alloc: Global, c: &Coverage) -> Result<Option<Mark>, NoMemory>
     requires { IsFormed c.now }
     ensures { IfOk result (λ found. MatchOption found (IsValid (uses_of c.now)) (λ m. IsFirstMark c.now m × ¬ IsValid (uses_of c.now))) }
 {
-    let marks = marks(alloc, c, 0)?;
+    let marks = marks(alloc, c)?;
     Ok(marks.first().copied())
 }

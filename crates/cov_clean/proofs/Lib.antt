@@ -4,4 +4,7 @@ pub mod SideOwners
 pub mod Candidates
 pub mod Overlays
 pub mod Results
+pub mod LongestSides
+pub mod Neighbour
+pub mod Filling
 pub mod Cleaning

@@ -12,7 +12,7 @@ use Rattle.arrangement.specs.Overlay.{Overlay, region_at, IsRegion, label_of}
 use Rattle.region_owners.specs.Candidates.{candidates_of}
 use Rattle.region_owners.specs.Facts.{RegionFacts}
 use Rattle.region_owners.specs.declared.candidate.Candidate.{Candidate}
-use Rattle.region_owners.specs.Owner.{Rule, IsLawful, facts_of, IsNarrowGap, owner_by, label_owner, state_before, AreOwners}
+use Rattle.region_owners.specs.Owner.{Rule, IsLawful, facts_of, IsNarrowGap, owner_by, label_owner, state_before}
 use Rattle.region_owners.proofs.Owners.{owner_below}
 use Rattle.cov_build.specs.Owners.{owner_in}
 use Rattle.cov_clean.specs.Asked.{owner_in_state, side_owner}
@@ -70,13 +70,10 @@ module _ {State : Type 0} (rule : Rule State) (state : State) (o : Overlay) wher
     read : (n : ℕ) (d : Option ℕ) → n < 2 * length o.edges → get_or owners n d ≡ side_owner rule state o n
     read n d less = ap (λ xs. get_or xs n d) are ∙ made_at (side_owner rule state o) (2 * length o.edges) n d less
 
-    of_region : (r : ℕ) → IsRegion o.edges r → owner_in owners r ≡ label_owner rule state o r
+    pub of_region : (r : ℕ) → IsRegion o.edges r → owner_in owners r ≡ label_owner rule state o r
     of_region r is =
         let own = one_region o.edges is.at (region_at o r) r (regions.each r is.at is.side) is.own in
         unwrap_or-slice_get owners r None ∙ read r None (side_within o.edges r is.at is.side) ∙ own_side r own
-
-    pub owners_are : AreOwners rule state o 0 (owner_in owners)
-    owners_are r is = inr (not_narrow o r, of_region r is)
 
     some_below : (n : ℕ) (found : Option ℕ) → label_owner rule state o n ≡ found → IfSome found (λ i. i < o.members)
     some_below n None is = tt

@@ -1,2 +1,4 @@
 pub mod Asked
+pub mod Filled
+pub mod Longest
 pub mod SnappedEdges

@@ -1,4 +1,4 @@
-ghost use Rattle.std.specs.Prelude.{◌≡◌, length, IfOk, IfErr};
+ghost use Rattle.std.specs.Prelude.{◌≡◌, ◌≤◌, ◌^◌, length, IfOk, IfErr};
 ghost use Rattle.cov_types.specs.Coverage.{AllInRange, IsFormed};
 ghost use Rattle.cov_types.specs.Uses.{uses_of};
 ghost use Rattle.arrangement.specs.Overlay.{Overlay, IsSnappedOverlay};
@@ -9,24 +9,28 @@ ghost use Rattle.sound_polygons.specs.Cleaned.{IsCleaned};
 ghost use Rattle.cov_clean.specs.SnappedEdges.{AreSnappedEdges};
 
 use crate::facts::areas_of_members;
+use crate::gaps::filled_owners;
 use crate::owners::owners_of_sides;
 use cov_build::polygons;
 use cov_types::{Coverage, NoMemory, uses};
 use face_walk::Regions;
 use half_edge::Arena;
 use merge_rule::MergeRule;
+use narrow_gaps::narrow_gaps;
 use owner_label::Labels;
 use snap_noder::{LiveEdges, live, node};
 use std::alloc::Global;
 
 /// The coverage, cleaned: it is snapped, each region goes to the one member that holds it or, where members overlap, to the one that the
-/// rule picks, and each member becomes the polygons of the regions that it has. The gap width, in grid units, is 0: no gap is filled.
+/// rule picks, each gap that is narrow at the gap width, in grid units, goes to the member with the longest owned border, and each member
+/// becomes the polygons of the regions that it has. At the gap width 0 no gap is filled.
 ///
 /// The rule is asked once for each region that several members hold, in ascending order. After running out of memory it has the state
 /// that it has after the first of these regions, be it none of them or all.
 ///
-/// Takes time in proportion to the edges and their logarithm, beside the noding, and for each region that several members hold to its
-/// sides times these members; and memory in proportion to the edges, the members and the lengths of the labels.
+/// Takes time in proportion to the edges and their logarithm, beside the noding and the search for room in each gap, and for each region
+/// that several members hold to its sides times these members; and memory in proportion to the edges, the members and the lengths of the
+/// labels.
 pub fn clean<R: MergeRule>(
     alloc: Global,
     c: &Coverage,
@@ -34,7 +38,7 @@ pub fn clean<R: MergeRule>(
     gap: u32,
 ) -> Result<Coverage, NoMemory>
     requires in_range { AllInRange c.now }
-    requires gap { gap ≡ 0 }
+    requires gap { gap ≤ 2 ^ 30 }
     ensures cleaned { IfOk result (λ out. IsCleaned c.now R.rule (R.state rule.old) gap out) }
     ensures valid { IfOk result (λ out. IsValid (uses_of out)) }
     ensures formed { IfOk result IsFormed }
@@ -51,7 +55,9 @@ pub fn clean<R: MergeRule>(
     let members = c.members.len() as u32;
     let areas = areas_of_members(alloc, &labels, members)?;
     let owners = owners_of_sides(alloc, &regions, &labels, &areas, arena.len(), rule)?;
-    polygons(alloc, &arena, &regions, &owners, members)
+    let gaps = narrow_gaps(alloc, &arena, &regions, &labels, gap)?;
+    let filled = filled_owners(alloc, &labels, &gaps, owners, members)?;
+    polygons(alloc, &arena, &regions, &filled, members)
 }
 
 // The live edges of the snapped members.

@@ -1,3 +1,4 @@
+ghost use Rattle.std.specs.Prelude.{◌≤◌, ◌^◌};
 ghost use Rattle.merge_rule.specs.InTurn.{calls_of, counted, in_turn};
 
 use crate::clean;
@@ -70,7 +71,7 @@ fn coverage(alloc: Global, members: Members) -> Result<Coverage, NoMemory> {
     Ok(Coverage { members: list })
 }
 
-/// The rule makes these members of those.
+/// The rule makes these members of those, and no gap is filled.
 fn expect_cleaned<R: MergeRule>(
     alloc: Global,
     rt: &impl Abort,
@@ -78,9 +79,23 @@ fn expect_cleaned<R: MergeRule>(
     members: Members,
     want: Members,
 ) -> Result<(), Fail> {
+    expect_filled(alloc, rt, rule, 0, members, want)
+}
+
+/// The rule makes these members of those at this gap width.
+fn expect_filled<R: MergeRule>(
+    alloc: Global,
+    rt: &impl Abort,
+    rule: &mut R,
+    gap: u32,
+    members: Members,
+    want: Members,
+) -> Result<(), Fail>
+    requires { gap ≤ 2 ^ 30 }
+{
     let given = coverage(alloc, members)?;
     assert!(rt; in_range(&given));
-    let cleaned = clean(alloc, &given, rule, 0)?;
+    let cleaned = clean(alloc, &given, rule, gap)?;
     assert!(rt;
         same_coverage(&cleaned, &coverage(alloc, want)?),
         "{cleaned:?}"
@@ -180,6 +195,54 @@ const MOVED_BY_BORDER: Members = &[
 #[test]
 fn the_border_of_a_candidate_is_that_with_what_it_has_alone(rt: HostRuntime) -> Result<(), Fail> {
     expect_cleaned(rt.alloc(), &rt, &mut LongestBorder, MOVED, MOVED_BY_BORDER)
+}
+
+/// A square with a hole of size 2, at whose middle there is room 2.
+const FRAME: Members = &[&[&[OUTER, &[(9, 9), (9, 11), (11, 11), (11, 9)]]]];
+
+/// The square with a hole in which there is no grid point.
+const PRICKED: Members = &[&[&[OUTER, &[(5, 5), (5, 6), (6, 5)]]]];
+
+const SQUARE: Members = &[&[&[OUTER]]];
+
+#[test]
+fn a_gap_is_filled_where_it_is_narrow(rt: HostRuntime) -> Result<(), Fail> {
+    let alloc = rt.alloc();
+    expect_filled(alloc, &rt, &mut LeastIndex, 3, FRAME, SQUARE)?;
+    expect_filled(alloc, &rt, &mut LeastIndex, 2, FRAME, FRAME)?;
+    expect_filled(alloc, &rt, &mut LeastIndex, 0, FRAME, FRAME)?;
+    expect_filled(alloc, &rt, &mut LeastIndex, 1, PRICKED, SQUARE)
+}
+
+const WEST: Points = &[
+    (0, 0),
+    (15, 0),
+    (15, 10),
+    (10, 10),
+    (10, 20),
+    (15, 20),
+    (15, 30),
+    (0, 30),
+];
+
+const EAST: Points = &[
+    (15, 0),
+    (30, 0),
+    (30, 30),
+    (15, 30),
+    (15, 20),
+    (20, 20),
+    (20, 10),
+    (15, 10),
+];
+
+#[test]
+fn a_gap_goes_to_the_member_with_the_longest_border(rt: HostRuntime) -> Result<(), Fail> {
+    const ISLAND: Points = &[(11, 11), (19, 11), (19, 19), (11, 19)];
+    const GROWN: Points = &[(10, 10), (15, 10), (20, 10), (20, 20), (15, 20), (10, 20)];
+    const GIVEN: Members = &[&[&[WEST]], &[&[EAST]], &[&[ISLAND]]];
+    const WANT: Members = &[&[&[WEST]], &[&[EAST]], &[&[GROWN]]];
+    expect_filled(rt.alloc(), &rt, &mut LeastIndex, 1, GIVEN, WANT)
 }
 
 #[test]

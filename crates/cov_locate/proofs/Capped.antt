@@ -1,5 +1,5 @@
 -- Numbers that are read with a capped size.
-use Rattle.std.proofs.Common.{◌≡◌, refl, sym, ◌∙◌, ap, subst, ℕ, ◌==◌, Bool, true, false, cond, List, ℤ, pos, neg_ℤ, ◌≤ℤ◌, ◌≤◌, ◌^◌, to_z, of_z, w32, arith}
+use Rattle.std.proofs.Common.{◌≡◌, refl, sym, ◌∙◌, subst, ℕ, ◌==◌, Bool, true, false, cond, List, ℤ, pos, neg_ℤ, ◌≤ℤ◌, ◌≤◌, ◌^◌, to_z, of_z, w32, arith}
 use Rattle.std.specs.Prelude.{Option, Some, None, slice_index}
 use Prim.Native.Nat.{min}
 use Rattle.std.proofs.lemmas.Int.{to_z-of_z}

@@ -1,5 +1,5 @@
 -- The next ring that holds a point.
-use Rattle.std.proofs.Common.{◌≡◌, refl, sym, ap, ◌∙◌, subst, ℕ, zero, suc, ◌+◌, ◌<◌, ◌≤◌, Bool, true, false, ◌&&◌, List, [], ◌∷◌, length, get_or, All, Contains, arith, inl, inr, ◌⊎◌}
+use Rattle.std.proofs.Common.{◌≡◌, refl, sym, ap, ◌∙◌, subst, ℕ, suc, ◌+◌, ◌<◌, ◌≤◌, Bool, true, false, List, [], ◌∷◌, length, get_or, All, arith, inl, inr, ◌⊎◌}
 use Prim.Native.Nat.{min}
 use Rattle.std.proofs.lemmas.Bool.{cases_lt}
 use Rattle.std.proofs.lemmas.List.{get_or_default}
@@ -7,7 +7,7 @@ use Rattle.box_tree.specs.declared.rect.Rect.{Rect}
 use Rattle.box_tree.specs.Rect.{box_of_segment}
 use Rattle.cov_locate.specs.Blocks.{IsPlaced}
 use Rattle.cov_locate.specs.Parts.{AreClear, IsRunTold}
-use Rattle.cov_locate.specs.Rings.{AreNumbersBelow, AreBoxesOf, IsNextIn, IsNextRing, IsAboutRun}
+use Rattle.cov_locate.specs.Rings.{AreNumbersBelow, IsNextIn, IsNextRing, IsAboutRun}
 use Rattle.cov_locate.specs.Where.{IsOnEdge}
 use Rattle.cov_locate.specs.declared.block.Placed.{Placed}
 use Rattle.cov_locate.specs.declared.block.Placed.TheVariants.{Beside, Higher, Near}

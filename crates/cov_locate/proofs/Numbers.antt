@@ -1,12 +1,11 @@
 -- Numbers of a line that are capped one past the range.
-use Rattle.std.proofs.Common.{◌≡◌, refl, sym, ◌∙◌, ap, subst, ◌+◌, ◌-◌, ◌*◌, ℕ, ◌<◌, Bool, true, false, ◌&&◌, cond, List, [], ◌∷◌, ◌++◌, length, get_or, take, int_le, IsTrue, ℤ, pos, neg_ℤ, ◌≤ℤ◌, arith, inl, inr}
-use Rattle.std.specs.Prelude.{fold, Some, None, if◌then◌else◌}
+use Rattle.std.proofs.Common.{◌≡◌, sym, ◌∙◌, ap, subst, ◌+◌, ◌-◌, ◌*◌, ℕ, ◌<◌, Bool, true, false, ◌&&◌, cond, List, length, get_or, take, int_le, ℤ, neg_ℤ, ◌≤ℤ◌, arith, inl, inr}
+use Rattle.std.specs.Prelude.{Some}
 use Prim.Native.Nat.{min}
 use Rattle.std.proofs.lemmas.Bool.{cases_Bool, cases_lt, and_parts, and_from}
-use Rattle.std.proofs.lemmas.List.{take_more, take_all}
+use Rattle.std.proofs.lemmas.List.{take_more}
 use Rattle.std.proofs.lemmas.List.Sums.{fold_push}
 use Rattle.cov_locate.specs.Points.{is_within, two_numbers}
-use Rattle.cov_locate.specs.declared.line.Line.{Line}
 use Rattle.cov_locate.specs.declared.line.Line.TheVariants.{Point, OutOfRange}
 use Rattle.cov_types.specs.Range.{IsInRange}
 use Rattle.cov_types.specs.declared.coord.Coord.{Coord}

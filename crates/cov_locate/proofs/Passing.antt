@@ -8,7 +8,7 @@ use Rattle.cov_locate.specs.Blocks.{IsPlaced}
 use Rattle.cov_locate.specs.Parts.{AreClear, IsPart}
 use Rattle.cov_locate.specs.declared.block.Placed.{Placed}
 use Rattle.cov_locate.specs.declared.run.Part.{Part}
-use Rattle.cov_locate.specs.declared.block.Placed.TheVariants.{Beside, Higher, Near}
+use Rattle.cov_locate.specs.declared.block.Placed.TheVariants.{Beside, Higher}
 use Rattle.cov_locate.proofs.Placing.{IsFar, not_on, not_over, higher_is}
 use Rattle.cov_types.specs.Range.{IsInRange, IsSegInRange}
 use Rattle.cov_types.specs.Rings.{IsRing}

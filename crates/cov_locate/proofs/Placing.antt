@@ -1,5 +1,5 @@
 -- Where boxes lie about a grid point, and what that tells of the segments in them.
-use Rattle.std.proofs.Common.{◌≡◌, sym, ap, ◌∙◌, ◌^◌, Bool, true, false, not, ◌&&◌, IsTrue, inl, inr, ◌⊎◌, ℤ, pos, neg_ℤ, ◌+ℤ◌, ◌-ℤ◌, ◌*ℤ◌, ◌<ℤ◌, ◌≤ℤ◌, arith}
+use Rattle.std.proofs.Common.{◌≡◌, ◌^◌, false, inl, inr, ℤ, pos, neg_ℤ, ◌+ℤ◌, ◌*ℤ◌, ◌≤ℤ◌, arith}
 use Rattle.std.proofs.lemmas.Bool.{cases_Bool}
 use Rattle.box_tree.specs.Rect.{IsInside, box_of_segment}
 use Rattle.box_tree.specs.declared.rect.Rect.{Rect}

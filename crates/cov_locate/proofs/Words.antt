@@ -1,12 +1,11 @@
 -- The words of a line, one after the other.
-use Rattle.std.proofs.Common.{◌≡◌, refl, sym, ◌∙◌, ap, subst, ℕ, suc, ◌+◌, ◌<◌, ◌==◌, Bool, true, false, not, ◌&&◌, ◌||◌, cond, List, [], ◌∷◌, length, take, drop, arith, inl, inr}
+use Rattle.std.proofs.Common.{◌≡◌, refl, sym, ◌∙◌, ap, subst, ℕ, suc, ◌+◌, Bool, true, false, not, cond, List, [], ◌∷◌, length, take, drop, arith, inl, inr}
 use Rattle.std.specs.Prelude.{nat_lt, filter, if◌then◌else◌}
 use Rattle.std.specs.List.{slice_split, onto_first, position_or_len}
 use Rattle.std.proofs.lemmas.Bool.{cases_Bool, lt-ltb}
 use Rattle.std.proofs.lemmas.List.Splits.{slice_split-cons_yes, slice_split-cons_no}
 use Rattle.cov_locate.specs.Points.{words_of, line_of_words, two_numbers, number_of}
 use Rattle.cov_locate.specs.Reading.{IsFirstWord}
-use Rattle.cov_locate.specs.declared.line.Line.{Line}
 use Rattle.cov_locate.specs.declared.line.Line.TheVariants.{Blank, Syntax}
 use Rattle.geo_text.specs.Token.{is_white}
 

@@ -1,5 +1,5 @@
 -- Points files: lines of two numbers each.
-use Rattle.std.specs.Prelude.{◌≡◌, ℕ, ◌+◌, Bool, ◌&&◌, ◌||◌, ◌==◌, cond, nat_lt, List, [], ◌∷◌, length, drop, filter, flat_map, Option, Some, None, ℤ, pos, neg_ℤ, int_le, slice_index, if◌then◌else◌}
+use Rattle.std.specs.Prelude.{◌≡◌, ℕ, ◌+◌, Bool, ◌&&◌, ◌||◌, ◌==◌, nat_lt, List, [], ◌∷◌, length, filter, flat_map, Option, Some, None, ℤ, neg_ℤ, int_le, slice_index, if◌then◌else◌}
 use Rattle.std.specs.List.{list_all, slice_split}
 use Rattle.cov_locate.specs.declared.line.Line.{Line}
 use Rattle.cov_locate.specs.declared.line.Line.TheVariants.{Blank, Point, Syntax, OutOfRange}
@@ -67,9 +67,15 @@ IsLineInRange OutOfRange = Unit {0}
 
 -- ---- a file
 
--- the parts between line feeds. Behind the last line feed there is an empty part, which says as much as no line
+-- the parts without an empty one at the end
+abbrev pub without_empty_end : List (List ℕ) → List (List ℕ)
+without_empty_end [] = []
+without_empty_end (part ∷ []) = if length part == 0 then [] else part ∷ []
+without_empty_end (part ∷ next ∷ parts) = part ∷ without_empty_end (next ∷ parts)
+
+-- the lines: the parts between line feeds, where nothing behind the last line feed is no line
 abbrev pub lines_of : List ℕ → List (List ℕ)
-lines_of bytes = slice_split (λ b. b == 10) bytes
+lines_of bytes = without_empty_end (slice_split (λ b. b == 10) bytes)
 
 -- the point of a line, if it has one
 abbrev pub point_of : Line → List Coord

@@ -40,5 +40,9 @@ pub fn place_in(index: &RingIndex, p: Coord) -> Where
 fn settled(member: u32, odd: bool) -> Where
     ensures { result ≡ (if odd then Where.Member member else Where.Nowhere) }
 {
-    if odd { Where::Member(member) } else { Where::Nowhere }
+    if odd {
+        Where::Member(member)
+    } else {
+        Where::Nowhere
+    }
 }

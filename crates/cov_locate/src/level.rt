@@ -42,9 +42,6 @@ fn level_of(alloc: Global, boxes: &[Rect], width: usize) -> Result<Level, NoMemo
 pub fn boxes_of(alloc: Global, uses: &[EdgeUse]) -> Result<Vec<Rect>, NoMemory>
     ensures { IfOk result (λ boxes. boxes.items ≡ map (λ u. box_of_segment u.seg) uses.now) }
 {
-    let boxes = uses
-        .iter()
-        .map(|u| Rect::of_segment(u.seg))
-        .collect(alloc)?;
+    let boxes = uses.iter().map(|u| Rect::of_segment(u.seg)).collect(alloc)?;
     Ok(boxes)
 }

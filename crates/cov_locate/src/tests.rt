@@ -55,8 +55,8 @@ fn a_polygon_in_another_is_a_hole(rt: HostRuntime) -> Result<(), Fail> {
 fn a_hundred_members_over_a_point(rt: HostRuntime) -> Result<(), Fail> {
     let alloc = rt.alloc();
     let mut members = Vec::new(alloc);
-    for k in 0..100 {
-        let half = 2 * k + 1;
+    for k in 0..100u8 {
+        let half = 2 * i32::from(k) + 1;
         members.push(member(alloc, &[(-half, -half, half, half)])?)?;
     }
     let locator = locator_of(&rt, Coverage { members })?;

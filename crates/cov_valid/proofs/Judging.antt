@@ -18,7 +18,7 @@ use Rattle.cov_valid.specs.Kinds.{HasBadContact, IsSameSide, IsInside, IsFaultOf
 use Rattle.cov_valid.specs.declared.entry.Entry.{Entry}
 use Rattle.cov_valid.specs.declared.group.Group.{Group}
 use Rattle.cov_valid.specs.declared.mark.Kind.{Kind}
-use Rattle.cov_valid.specs.declared.mark.Kind.TheVariants.{Meets, Repeated, SameSide, Inside}
+use Rattle.cov_valid.specs.declared.mark.Kind.TheVariants.{Meets, Repeated, SameSide, Inside, NarrowGap}
 use Rattle.parity_laws.proofs.Middle.{member_holds-upper}
 use Rattle.plane.specs.Contact.{MeetsBadly}
 use Rattle.plane.specs.Parity.{member_holds}
@@ -84,6 +84,7 @@ none_from_among uses s users holders member in_range users_of holders_of not_met
 none_from_among uses s users holders member in_range users_of holders_of not_met none Repeated = λ h. none.0 ((users_of.repeated member).1 h.1)
 none_from_among uses s users holders member in_range users_of holders_of not_met none SameSide = λ h. none.1 ((peer_is uses s users holders member in_range users_of holders_of).1 h.2)
 none_from_among uses s users holders member in_range users_of holders_of not_met none Inside = λ h. none.2 ((guest_inside uses s users holders users_of holders_of).1 h.3)
+none_from_among uses s users holders member in_range users_of holders_of not_met none NarrowGap = λ h. absurd h
 
 -- the fault among the users is that of the use
 pub kind_from_among : (uses : List EdgeUse) (s : Seg) (users holders : List ℕ) (member : ℕ) (kind : Option Kind) → All (λ u. IsSegInRange u.seg) uses → AreUsers uses s users → AreHolders uses (midpoint s) holders → ¬ HasBadContact uses s
@@ -99,6 +100,7 @@ kind_from_among uses s users holders member (Some Inside) in_range users_of hold
   λ h. is.1 ((peer_is uses s users holders member in_range users_of holders_of).1 h),
   (guest_inside uses s users holders users_of holders_of).0 is.2,
 )
+kind_from_among uses s users holders member (Some NarrowGap) in_range users_of holders_of not_met is = absurd is
 
 -- ---- segments that are met badly
 

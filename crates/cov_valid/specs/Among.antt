@@ -2,7 +2,7 @@
 use Rattle.std.specs.Prelude.{◌≡◌, ℕ, ◌+◌, ◌<◌, ◌↔◌, Bool, true, false, IsTrue, List, length, Contains, Option, Some, MatchOption, slice_get, slice_index_or}
 use Rattle.cov_valid.specs.declared.among.Faults.{Faults}
 use Rattle.cov_valid.specs.declared.mark.Kind.{Kind}
-use Rattle.cov_valid.specs.declared.mark.Kind.TheVariants.{Meets, Repeated, SameSide, Inside}
+use Rattle.cov_valid.specs.declared.mark.Kind.TheVariants.{Meets, Repeated, SameSide, Inside, NarrowGap}
 
 -- the number stands at two places
 pub record IsTwice (users : List ℕ) (member : ℕ) : Type 0 where
@@ -29,6 +29,7 @@ IsFaultAmong users holders member Meets = ⊥
 IsFaultAmong users holders member Repeated = IsTwice users member
 IsFaultAmong users holders member SameSide = ¬ IsTwice users member × HasPeer users holders member
 IsFaultAmong users holders member Inside = ¬ IsTwice users member × ¬ HasPeer users holders member × HasGuest users holders
+IsFaultAmong users holders member NarrowGap = ⊥
 
 -- the user is not at fault
 abbrev pub IsFaultlessAmong : List ℕ → List ℕ → ℕ → Type 0

@@ -3,7 +3,7 @@ use Rattle.std.specs.Prelude.{◌≡◌, ℕ, List, Contains, true}
 use Rattle.cov_types.specs.declared.edge_use.EdgeUse.{EdgeUse}
 use Rattle.cov_types.specs.declared.seg.Seg.{Seg}
 use Rattle.cov_valid.specs.declared.mark.Kind.{Kind}
-use Rattle.cov_valid.specs.declared.mark.Kind.TheVariants.{Meets, Repeated, SameSide, Inside}
+use Rattle.cov_valid.specs.declared.mark.Kind.TheVariants.{Meets, Repeated, SameSide, Inside, NarrowGap}
 use Rattle.plane.specs.Contact.{MeetsBadly}
 use Rattle.plane.specs.Parity.{member_holds}
 use Rattle.plane.specs.Segment.{midpoint, upper}
@@ -29,12 +29,13 @@ pub record IsInside (uses : List EdgeUse) (s : Seg) : Type 0 where
   pub without : ¬ Contains uses (record { member = member; seg = s })
   pub held : member_holds uses member (midpoint s) ≡ true
 
--- the fault of the use is of this kind: the first of the four that applies
+-- the fault of the use is of this kind: the first of the four that applies, and a narrow gap is no fault
 abbrev pub IsFaultOf : List EdgeUse → EdgeUse → Kind → Type 0
 IsFaultOf uses edge Meets = HasBadContact uses edge.seg
 IsFaultOf uses edge Repeated = ¬ HasBadContact uses edge.seg × IsRepeated uses edge
 IsFaultOf uses edge SameSide = ¬ HasBadContact uses edge.seg × ¬ IsRepeated uses edge × IsSameSide uses edge
 IsFaultOf uses edge Inside = ¬ HasBadContact uses edge.seg × ¬ IsRepeated uses edge × ¬ IsSameSide uses edge × IsInside uses edge.seg
+IsFaultOf uses edge NarrowGap = ⊥
 
 -- none of the four applies to the use
 abbrev pub IsFaultless : List EdgeUse → EdgeUse → Type 0
@@ -43,7 +44,3 @@ IsFaultless uses edge = (kind : Kind) → ¬ IsFaultOf uses edge kind
 -- none of the four applies to any use of the list
 abbrev pub AreFaultless : List EdgeUse → Type 0
 AreFaultless uses = (edge : EdgeUse) → Contains uses edge → IsFaultless uses edge
-
--- among so many members and at this gap width the use is marked with this kind: at the width 0 these are the faults alone
-abbrev pub IsOfKind : List EdgeUse → ℕ → ℕ → EdgeUse → Kind → Type 0
-IsOfKind uses members gap edge kind = IsFaultOf uses edge kind

@@ -1,6 +1,6 @@
 //! Validating a coverage: the segments that are at fault, each with the kind of its fault.
 //!
-//! Its promise: `marks` lists exactly the marks of a coverage, by ascending place.
+//! Its promise: `marks` lists exactly the marks of the faults of a coverage, by ascending place.
 #![tactic(auto)]
 
 mod among;

@@ -35,7 +35,7 @@ fn marked(
 ) -> Result<Vec<(u32, u64, Kind)>, Fail> {
     let c = Coverage { members };
     assert!(rt; in_range(&c));
-    let list: Vec<(u32, u64, Kind)> = marks(alloc, &c, 0)?
+    let list: Vec<(u32, u64, Kind)> = marks(alloc, &c)?
         .iter()
         .map(|m| (m.member, m.place, m.kind))
         .collect(alloc)?;
@@ -161,7 +161,7 @@ fn many_holes_in_a_mixed_order_are_without_fault(rt: HostRuntime) -> Result<(), 
     for edge in &list {
         assert!(rt; plain_kind(&list, 2, *edge).is_none());
     }
-    assert!(rt; marks(alloc, &c, 0)?.is_empty());
+    assert!(rt; marks(alloc, &c)?.is_empty());
     Ok(())
 }
 
@@ -182,12 +182,12 @@ fn the_marks_are_those_of_the_definition_read_use_by_use(rt: HostRuntime) -> Res
     let alloc = rt.alloc();
     let mut random = Random { state: 1 };
     let mut faultless = 0usize;
-    let mut kinds = [0usize; 4];
+    let mut kinds = [0usize; 5];
     for _ in 0..400 {
         let c = random.coverage(alloc)?;
         assert!(rt; in_range(&c));
         let list = uses(alloc, &c)?;
-        let found = marks(alloc, &c, 0)?;
+        let found = marks(alloc, &c)?;
         let mut next = found.iter();
         for (place, edge) in list.iter().enumerate() {
             match plain_kind(&list, c.members.len() as u32, *edge) {
@@ -204,18 +204,21 @@ fn the_marks_are_those_of_the_definition_read_use_by_use(rt: HostRuntime) -> Res
         assert!(rt; next.next().is_none());
     }
     assert!(rt; faultless > 0);
-    assert!(rt; kinds.iter().all(|count| *count > 0));
+    // A narrow gap is no fault.
+    assert!(rt; kinds.iter().take(4).all(|count| *count > 0));
+    assert_eq!(rt; kinds[4], 0);
     Ok(())
 }
 
 fn number_of(kind: Kind) -> usize
-    ensures { result < 4 }
+    ensures { result < 5 }
 {
     match kind {
         Kind::Meets => 0,
         Kind::Repeated => 1,
         Kind::SameSide => 2,
         Kind::Inside => 3,
+        Kind::NarrowGap => 4,
     }
 }
 

@@ -1,8 +1,8 @@
-ghost use Rattle.std.specs.Prelude.{◌≡◌, ℕ, ◌<◌, IfOk, All, length};
+ghost use Rattle.std.specs.Prelude.{◌<◌, IfOk, All, length};
 ghost use Rattle.cov_types.specs.Coverage.{AllInRange};
 ghost use Rattle.cov_types.specs.Uses.{uses_of};
 ghost use Rattle.cov_valid.specs.Judged.{AreKinds};
-ghost use Rattle.cov_valid.specs.Marks.{AreMarks};
+ghost use Rattle.cov_valid.specs.Marks.{AreFaultMarks};
 ghost use Rattle.cov_valid.specs.RunIndex.{IsInOrder};
 
 use crate::contacts::contacts;
@@ -14,18 +14,16 @@ use crate::table::by_place;
 use cov_types::{Coverage, EdgeUse, NoMemory, Outline};
 use std::alloc::Global;
 
-/// The marks of a coverage: each segment that is at fault, with its place among the uses. For n segments it takes time n log n
+/// The marks of the faults of a coverage: each segment that is at fault, with its place among the uses. For n segments it takes time n log n
 /// where few of their boxes and few boxes of rings overlap, and memory linear in n.
-pub fn marks(alloc: Global, c: &Coverage, gap: u32) -> Result<Vec<Mark>, NoMemory>
+pub fn marks(alloc: Global, c: &Coverage) -> Result<Vec<Mark>, NoMemory>
     requires in_range { AllInRange c.now }
-    requires no_gap { gap ≡ 0 }
-    ensures exact { IfOk result (λ v. AreMarks (uses_of c.now) (length c.now) gap v.items) }
+    ensures exact { IfOk result (λ v. AreFaultMarks (uses_of c.now) v.items) }
 
     // Every mark has the place of a use and the number of a member.
     ensures places { IfOk result (λ v. All (λ m. m.place < length (uses_of c.now)) v.items) }
     ensures members { IfOk result (λ v. All (λ m. m.member < length c.now) v.items) }
 {
-    let _ = gap;
     let outline = Outline::build(alloc, c)?;
     let kinds = kinds_by_place(alloc, &outline)?;
     let list = marks_of(alloc, &outline.uses, &kinds)?;
@@ -47,7 +45,7 @@ fn kinds_by_place(alloc: Global, outline: &Outline) -> Result<Vec<Option<Kind>>,
 // The marks of the uses at fault, by ascending place.
 fn marks_of(alloc: Global, uses: &[EdgeUse], kinds: &[Option<Kind>]) -> Result<Vec<Mark>, NoMemory>
     requires { AreKinds uses.now kinds.now }
-    ensures { IfOk result (λ v. (members : ℕ) (gap : ℕ) → AreMarks uses.now members gap v.items) }
+    ensures { IfOk result (λ v. AreFaultMarks uses.now v.items) }
 {
     let mut marks = Vec::new(alloc);
     for (place, edge) in uses.iter().enumerate() {

@@ -36,7 +36,7 @@ no_cause operation old inputs o p text read makes cause =
 -- ---- refusals
 
 -- memory ran out, before the output was created
-without_memory : (operation : Operation) (old new : State) → new.read_faults ≡ old.read_faults → KeepsOutput old new → IsAnswer operation old new NoMemory
+pub without_memory : (operation : Operation) (old new : State) → new.read_faults ≡ old.read_faults → KeepsOutput old new → IsAnswer operation old new NoMemory
 without_memory operation old new reads kept = record {
   usage = λ h. cc;
   written = λ told success. cc;

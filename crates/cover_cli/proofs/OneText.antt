@@ -15,7 +15,7 @@ use Rattle.cov_types.specs.Coverage.{Members, AllInRange}
 use Rattle.cov_types.specs.Uses.{uses_of}
 use Rattle.cov_types.specs.declared.coord.Coord.{Coord}
 use Rattle.cov_types.specs.declared.seg.Seg.{Seg}
-use Rattle.cov_valid.proofs.Unique.{AreMarks-unique}
+use Rattle.cov_marks.proofs.GapMarks.{one_marks}
 use Rattle.cov_valid.specs.declared.mark.Mark.{Mark}
 use Rattle.cov_write.specs.Rows.{inner_row}
 use Rattle.cov_write.specs.Written.{lines_text}
@@ -52,7 +52,7 @@ use Rattle.merge_rule.specs.RuleState.{no_state}
 
 one_validation : (gap : ℕ) (members : List (List (List (List Coord)))) (o p : Outcome) (text other : List ℕ) → IsValidation gap members o text → IsValidation gap members p other → (o ≡ p) × (text ≡ other)
 one_validation gap members o p text other v w =
-    let same : v.marks ≡ w.marks = AreMarks-unique (uses_of members) (length members) gap v.marks w.marks v.marked w.marked in
+    let same : v.marks ≡ w.marks = one_marks (uses_of members) (length members) gap v.marks w.marks v.marked w.marked in
     let listing : List Mark → List ℕ = λ marks. lines_text (member_lists (marked_uses (uses_of members) marks) members) in
     (v.counted ∙ ap (λ (marks : List Mark). marking (length marks)) same ∙ sym w.counted, v.lines ∙ ap listing same ∙ sym w.lines)
 

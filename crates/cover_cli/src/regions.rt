@@ -26,16 +26,17 @@ fn rows_of(
     arena: &Arena,
     regions: &Regions,
     labels: &Labels,
+    gaps: &GapSearch,
 ) -> Result<Vec<u8>, NoMemory>
     requires regions { regions.now ≡ arena.now }
     requires labels { labels.now.edges ≡ arena.now }
+    requires gaps { gaps.now ≡ arena.now }
     ensures { IfOk result (λ text. (o : Overlay) → IsOverlay labels.now o → AreRows o (region_numbers o) text.items) }
 {
-    let gaps = GapSearch::build(alloc, arena, regions)?;
     let mut text = Vec::new(alloc);
     for side in 0..arena.len() {
         if regions.region_of(side) == side {
-            append_row(&mut text, regions, labels, &gaps, side)?;
+            append_row(&mut text, regions, labels, gaps, side)?;
         }
     }
     Ok(text)
@@ -92,7 +93,8 @@ fn region_list(alloc: Global, c: &Coverage) -> Result<Made, NoMemory>
     let arena = Arena::build(alloc, live.edges.to_vec(alloc)?)?;
     let regions = Regions::build(alloc, &arena)?;
     let labels = Labels::build(alloc, &arena, &regions, &live)?;
-    let text = rows_of(alloc, &arena, &regions, &labels)?;
+    let gaps = GapSearch::build(alloc, &arena, &regions)?;
+    let text = rows_of(alloc, &arena, &regions, &labels, &gaps)?;
     Ok(Made {
         outcome: Outcome::Done,
         text,

@@ -10,7 +10,7 @@ use crate::making::Made;
 use crate::outcome::Outcome;
 use crate::text::features_of;
 use cov_types::{Coverage, NoMemory, uses};
-use cov_valid::marks;
+use cov_marks::marks;
 use cov_write::lines_of;
 use std::alloc::Global;
 

@@ -36,11 +36,7 @@ impl<'a> Model for GapSearch<'a> {
 
 impl<'a> GapSearch<'a> {
     /// A search in the regions of the arena. Takes time and memory in proportion to the edges.
-    pub fn build(
-        alloc: Global,
-        a: &'a Arena,
-        r: &Regions<'a>,
-    ) -> Result<GapSearch<'a>, NoMemory>
+    pub fn build(alloc: Global, a: &'a Arena, r: &Regions<'a>) -> Result<GapSearch<'a>, NoMemory>
         requires regions { r.now ≡ a.now }
         ensures { IfOk result (λ g. g ≡ a.now) }
     {
@@ -107,12 +103,7 @@ pub fn narrow(
 }
 
 /// The clearance of a region that is not outer, in half grid units.
-pub fn clearance(
-    alloc: Global,
-    a: &Arena,
-    r: &Regions,
-    region: usize,
-) -> Result<u32, NoMemory>
+pub fn clearance(alloc: Global, a: &Arena, r: &Regions, region: usize) -> Result<u32, NoMemory>
     requires regions { r.now ≡ a.now }
     requires region { IsRegion a.now region }
     requires not_outer { ¬ IsOuterRegion a.now region }

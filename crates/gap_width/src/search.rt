@@ -54,7 +54,14 @@ pub fn most_room(
     let best = most_room(alloc, own, &near, known.quarter(east, north), best, enough)?;
     let best = most_room(alloc, own, &near, known.quarter(!east, north), best, enough)?;
     let best = most_room(alloc, own, &near, known.quarter(east, !north), best, enough)?;
-    most_room(alloc, own, &near, known.quarter(!east, !north), best, enough)
+    most_room(
+        alloc,
+        own,
+        &near,
+        known.quarter(!east, !north),
+        best,
+        enough,
+    )
 }
 
 // The quarter whose centre has the most room, to be searched first: whether it is an eastern one, and a northern one.

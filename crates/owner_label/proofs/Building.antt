@@ -1,10 +1,9 @@
 -- The sides of live edges, with their regions.
 use mathlib.Core.List.{[], ◌∷◌}
-use Rattle.std.proofs.Common.{◌≡◌, refl, ◌∙◌, ap, subst, ℕ, ◌*◌, ◌<◌, ◌==◌, ◌↔◌, true, false, List, length, IsTrue, Option, Some, None, inl, inr, arith}
+use Rattle.std.proofs.Common.{◌≡◌, refl, ◌∙◌, ap, subst, ℕ, ◌<◌, ◌==◌, ◌↔◌, true, false, List, length, IsTrue, Option, Some, None, inl, inr}
 use Rattle.std.specs.Prelude.{All, IsNone, IfSome}
 use Rattle.std.specs.List.{list_any}
 use Rattle.std.proofs.lemmas.Bool.{both_ways, cases_Bool, or_cases}
-use Rattle.std.proofs.lemmas.Option.{slice_get_within}
 use Rattle.cov_types.specs.declared.seg.Seg.{Seg}
 use Rattle.cov_types.specs.Uses.{HasEvenEnds}
 use Rattle.plane.specs.Point.{Point}
@@ -19,7 +18,6 @@ use Rattle.owner_label.specs.Lists.{AreRegionLabels, sided_of, AreLabels}
 use Rattle.owner_label.specs.Members.{has, members_of}
 use Rattle.owner_label.specs.Sided.{Sided, AreSided, region_on, IsOuterOf}
 use Rattle.owner_label.proofs.Ascending.{has_first}
-use Rattle.owner_label.proofs.Sides.{sides-length}
 use Rattle.owner_label.proofs.Toggles.{AreOddAscending, members_chosen, members_skipped}
 
 -- an edge that some odd pair names is odd for its member

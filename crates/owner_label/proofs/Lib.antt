@@ -9,6 +9,7 @@ pub mod Listing
 pub mod Spreading
 pub mod Overlays
 pub mod Sums
+pub mod OwnedSides
 pub mod Building
 pub mod Gains
 pub mod Trapezoids

@@ -1,17 +1,14 @@
 -- Elements of a list that was written, and of lists by key.
 use mathlib.Core.List.{[], ◌∷◌}
-use Rattle.std.proofs.Common.{◌≡◌, refl, sym, ◌∙◌, ap, subst, ℕ, zero, suc, ◌+◌, ◌≤◌, ◌<◌, ◌==◌, ◌↔◌, ◌⊎◌, Bool, true, false, cond, List, ◌++◌, map, set, filter, length, get_or, take, Contains, Some, slice_get, inl, inr, arith}
+use Rattle.std.proofs.Common.{◌≡◌, refl, sym, ◌∙◌, ap, subst, ℕ, zero, suc, ◌≤◌, ◌<◌, ◌==◌, ◌↔◌, ◌⊎◌, Bool, true, false, cond, List, ◌++◌, map, set, filter, length, get_or, take, Contains, Some, slice_get, inl, inr, arith}
 use Rattle.std.specs.Prelude.{All}
 use Rattle.std.proofs.Math.Seq.{take-suc}
 use Rattle.std.proofs.lemmas.Bool.{cases_eq, eqb-true, eq-eqb}
-use Rattle.std.proofs.lemmas.List.{length-set, length-map, get_or-map, get_or-set_same, get_or-set_other, get_or_push, get_or_append_left, length_push, map-append, take_all}
+use Rattle.std.proofs.lemmas.List.{length-set, length-map, get_or-map, get_or-set_same, get_or-set_other, map-append, take_all}
 use Rattle.std.proofs.lemmas.List.Elements.{filter-append, Contains-get_or}
 use Rattle.std.proofs.lemmas.Option.{slice_get-get_or, get_or_from_slice_get, slice_get_within, same_Some}
 use Rattle.arrangement.specs.declared.odd_use.OddUse.{OddUse}
 use Rattle.owner_label.specs.Members.{members_of, members_at, member_of, pair_edges}
-use Rattle.cov_types.specs.declared.seg.Seg.{Seg}
-use Rattle.plane.specs.Point.{Point}
-use Rattle.plane.specs.Region.{IsSide, IsRegionOf}
 use Rattle.plane.specs.Label.{numbers_below}
 use Rattle.counting_sort.specs.Grouped.{places_of, IsGrouped}
 use Rattle.owner_label.specs.Sided.{Sided, region_on}

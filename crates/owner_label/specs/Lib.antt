@@ -6,3 +6,4 @@ pub mod Lists
 pub mod Spread
 pub mod Sides
 pub mod Laws
+pub mod OwnedSides

@@ -1,4 +1,4 @@
-ghost use Rattle.std.specs.Prelude.{◌≡◌, ℕ, ◌*◌, ◌<◌, ◌≤◌, ◌^◌, length, [], IfOk, Some, slice_get, slice_index, unsigned_abs};
+ghost use Rattle.std.specs.Prelude.{◌≡◌, ℕ, ◌*◌, ◌<◌, ◌≤◌, ◌^◌, length, [], All, IfOk, IfSome, Some, slice_get, slice_index, unsigned_abs};
 ghost use Rattle.cov_types.specs.Uses.{HasEvenEnds};
 ghost use Rattle.cov_types.specs.declared.seg.Seg.{Seg};
 ghost use Rattle.plane.specs.Label.{label_at};
@@ -10,10 +10,12 @@ ghost use Rattle.arrangement.specs.Measure.{member_area2, region_area2, border, 
 ghost use Rattle.arrangement.specs.Noding.{odd_uses};
 ghost use Rattle.arrangement.specs.Overlay.{Overlay, IsRegion, label_of, region_at, AreBeside};
 ghost use Rattle.owner_label.specs.Labelled.{IsOverlay, owner_in};
+ghost use Rattle.owner_label.specs.OwnedSides.{IsOwnedSide, length_by_any, owned_length};
 ghost use Rattle.owner_label.specs.Sides.{pair_gain, side_length, is_single, is_owned};
 
 use crate::label_table::LabelTable;
 use crate::measure::{area_of_side, length_of_side, odd_of, trapezoid_of};
+use crate::owned_side::OwnedSide;
 use crate::sided::SidedEdges;
 use crate::spread::labels_of_regions;
 use arrangement::OddUse;
@@ -128,19 +130,46 @@ impl<'a> Labels<'a> {
         border
     }
 
-    /// The owned border of the region with a member, in 1/256 units: the length shared with the regions that have a label and are owned
-    /// by the member. There is one owner for each side, read at the numbers of regions. Takes time in proportion to the sides of the
-    /// region.
-    pub fn border_by(&self, region: usize, owners: &[Option<u32>], member: u32) -> u128
+    /// The sides of the region beyond which a region with a label has an owner, each with that owner and its length. So the lengths of the
+    /// sides of one owner add up to the owned border with it. There is one owner for each side, read at the numbers of regions. Takes
+    /// time and memory in proportion to the sides of the region.
+    pub fn owned_sides(
+        &self,
+        alloc: Global,
+        region: usize,
+        owners: &[Option<u32>],
+    ) -> Result<Vec<OwnedSide>, NoMemory>
         requires region { IsRegion self.now.edges region }
         requires owners { length owners.now ≡ 2 * length self.now.edges }
-        ensures { (o : Overlay) → IsOverlay self.now o → result ≡ owned_border o (owner_in owners.now) region member }
+        ensures borders { IfOk result (λ v. (o : Overlay) (member : ℕ) → IsOverlay self.now o → owned_length v.items member ≡ owned_border o (owner_in owners.now) region member) }
+        ensures each { IfOk result (λ v. All (IsOwnedSide owners.now) v.items) }
     {
-        let mut border = 0;
+        let mut list = Vec::new(alloc);
         for side in self.sides.group(region) {
-            border += self.length_if_owned(Side::of_number(*side), owners, member);
+            if let Some(owned) = self.owned_side(Side::of_number(*side), owners) {
+                list.push(owned)?;
+            }
         }
-        border
+        Ok(list)
+    }
+
+    // The side with the owner of the region across it, where that has a label and an owner.
+    fn owned_side(&self, side: Side, owners: &[Option<u32>]) -> Option<OwnedSide>
+        requires within { side.number < 2 * length self.now.edges }
+        requires owners { length owners.now ≡ 2 * length self.now.edges }
+        ensures exact { (o : Overlay) (member : ℕ) → IsOverlay self.now o → length_by_any member result ≡ side_length o (is_owned o (owner_in owners.now) member) side.number }
+        ensures each { IfSome result (IsOwnedSide owners.now) }
+    {
+        if self.label_across(side).is_empty() {
+            return None;
+        }
+        match owners[self.region_across(side)] {
+            Some(member) => Some(OwnedSide {
+                member,
+                length: length_of_side(self.edges, side),
+            }),
+            None => None,
+        }
     }
 
     // What an odd pair adds to the doubled area of its member: the trapezoid of its edge where the member holds the lower side, less that
@@ -176,22 +205,6 @@ impl<'a> Labels<'a> {
         ensures small { result < 2 ^ 64 }
     {
         if self.label_across(side) == [member].as_slice() {
-            return length_of_side(self.edges, side);
-        }
-        0
-    }
-
-    // The length of the side, if the region across it has a label and the member owns it.
-    fn length_if_owned(&self, side: Side, owners: &[Option<u32>], member: u32) -> u128
-        requires within { side.number < 2 * length self.now.edges }
-        requires owners { length owners.now ≡ 2 * length self.now.edges }
-        ensures exact { (o : Overlay) → IsOverlay self.now o → result ≡ side_length o (is_owned o (owner_in owners.now) member) side.number }
-        ensures small { result < 2 ^ 64 }
-    {
-        if self.label_across(side).is_empty() {
-            return 0;
-        }
-        if owners[self.region_across(side)] == Some(member) {
             return length_of_side(self.edges, side);
         }
         0

@@ -13,6 +13,7 @@ mod label_table;
 mod labels;
 mod laws;
 mod measure;
+mod owned_side;
 mod sided;
 mod spread;
 #[cfg(test)]
@@ -21,3 +22,4 @@ mod toggle;
 
 pub use labels::Labels;
 pub use laws::label_law;
+pub use owned_side::OwnedSide;

@@ -5,7 +5,7 @@ ghost use Rattle.arrangement.specs.Noding.{odd_uses};
 ghost use Rattle.arrangement.specs.Overlay.{IsRegion};
 ghost use Rattle.sector_laws.specs.Sector.{IsPlanar, AreDistinct};
 
-use crate::Labels;
+use crate::{Labels, OwnedSide};
 use cov_types::{Coord, Coverage, Member, NoMemory, Poly, Ring, in_range, uses};
 use face_walk::Regions;
 use half_edge::Arena;
@@ -217,8 +217,7 @@ fn expect_labels(
     }
     expect_borders(rt, &regions, &labels, arena.len(), expected.borders);
     let owners = owners_by_region(alloc, rt, arena.len(), expected.owners)?;
-    expect_owned(rt, &regions, &labels, &owners, expected.owned);
-    Ok(())
+    expect_owned(alloc, rt, &regions, &labels, &owners, expected.owned)
 }
 
 /// The rows have all regions, with their labels and areas.
@@ -256,23 +255,33 @@ fn expect_borders(
 
 /// The regions have these borders with what members own.
 fn expect_owned(
+    alloc: Global,
     rt: &impl Abort,
     regions: &Regions,
     labels: &Labels,
     owners: &[Option<u32>],
     borders: &[(usize, u32, u128)],
-)
+) -> Result<(), Fail>
     requires walked { regions.now ≡ labels.now.edges }
     requires owners { length owners.now ≡ 2 * length labels.now.edges }
 {
     for (number, member, border) in borders {
         let region = region_of(rt, regions, labels, owners.len(), *number);
-        assert_eq!(rt;
-            labels.border_by(region, owners, *member),
-            *border,
-            "region {region}"
-        );
+        let sides = labels.owned_sides(alloc, region, owners)?;
+        assert_eq!(rt; length_by(&sides, *member), *border, "region {region}");
     }
+    Ok(())
+}
+
+/// The length of the sides of the member.
+fn length_by(sides: &[OwnedSide], member: u32) -> u128 {
+    let mut length: u128 = 0;
+    for side in sides {
+        if side.member == member {
+            length = length.wrapping_add(side.length);
+        }
+    }
+    length
 }
 
 /// The owner of each region by its number.

@@ -5,15 +5,16 @@ use Rattle.std.proofs.lemmas.Result.{IfOk-weaker}
 use Rattle.cov_types.specs.declared.seg.Seg.{Seg}
 use Rattle.cov_types.specs.Coverage.{Members}
 use Rattle.plane.specs.Region.{IsOuterRegion, AreRegions}
-use Rattle.arrangement.specs.Overlay.{Overlay}
+use Rattle.arrangement.specs.Overlay.{Overlay, IsRegion}
 use Rattle.arrangement.specs.declared.odd_use.OddUse.{OddUse}
-use Rattle.owner_label.specs.Labelled.{Labelled}
+use Rattle.owner_label.specs.Labelled.{Labelled, IsOverlay}
 use Rattle.cov_build.specs.Owners.{owner_in}
 use Rattle.sound_polygons.specs.Cleaned.{IsBuilt}
 use Rattle.cleaned_laws.proofs.Cleaned.{cleaned_valid}
+use Rattle.cov_clean.specs.Filled.{AreFilled}
 use Rattle.cov_clean.proofs.Asking.{asked_all}
 use Rattle.cov_clean.proofs.Candidates.{areas_long, areas_all}
-use Rattle.cov_clean.proofs.Cleaning.{sides_count, sides_below, sides_outer, cleaned, built_count}
+use Rattle.cov_clean.proofs.Cleaning.{sides_count, sides_below, gaps_regions, filled_count, members_below, outer_unfilled, cleaned, built_count}
 use Rattle.cov_clean.proofs.Overlays.{snapped_labels}
 use Rattle.cov_clean.proofs.Results.{if_ok, if_err}
 use Rattle.cov_clean.proofs.cleaner.clean.Goals as goal
@@ -36,30 +37,82 @@ pub returns-in_err-owners-clause-no_memory : goal.returns-in_err-owners-clause-n
 returns-in_err-owners-clause-no_memory g c = if_err c.from_residual-in_err-owners.result _ (λ o is.
     c.in_err-owners.ensures.no_memory o (snapped_labels c.args.c.now c.requires.in_range c.in_ok-live.live.edges.items c.in_ok-live.live.odd.items c.in_ok-live.ensures c.in_ok-labels.labels c.in_ok-labels.ensures o is))
 
+-- the rule was asked for all shared regions
+asked : goal.returns-in_err-gaps-clause-no_memory
+asked g c = if_err c.from_residual-in_err-gaps.result _ (λ o is.
+    asked_all o g.R.MergeRule.rule (g.R.MergeRule.state c.args.rule.now) (g.R.MergeRule.state c.owners_of_sides.new.rule)
+    (c.in_ok-owners.ensures.state o (snapped_labels c.args.c.now c.requires.in_range c.in_ok-live.live.edges.items c.in_ok-live.live.odd.items c.in_ok-live.ensures c.in_ok-labels.labels c.in_ok-labels.ensures o is)))
+
+pub returns-in_err-gaps-clause-no_memory : goal.returns-in_err-gaps-clause-no_memory
+returns-in_err-gaps-clause-no_memory g c = asked g c
+
+pub returns-in_err-filled-clause-no_memory : goal.returns-in_err-filled-clause-no_memory
+returns-in_err-filled-clause-no_memory g c = if_err c.from_residual-in_err-filled.result _ (λ o is.
+    asked_all o g.R.MergeRule.rule (g.R.MergeRule.state c.args.rule.now) (g.R.MergeRule.state c.owners_of_sides.new.rule)
+    (c.in_ok-owners.ensures.state o (snapped_labels c.args.c.now c.requires.in_range c.in_ok-live.live.edges.items c.in_ok-live.live.odd.items c.in_ok-live.ensures c.in_ok-labels.labels c.in_ok-labels.ensures o is)))
+
+pub filled_owners-requires-clause-owners : goal.filled_owners-requires-clause-owners
+filled_owners-requires-clause-owners g c =
+    let edges = c.in_ok-live.live.edges.items in
+    let between : c.in_ok-arena.arena ≡ edges = c.in_ok-arena.ensures ∙ c.in_ok-to_vec.ensures.items_if_clones_equal (λ x y e. e) ∙ c.deref.ensures.value in
+    sides_count g.R.MergeRule.rule (g.R.MergeRule.state c.args.rule.now) c.args.c.now c.requires.in_range edges c.in_ok-live.live.odd.items c.in_ok-live.ensures
+    c.in_ok-labels.labels c.in_ok-labels.ensures c.len.result (c.len.ensures.count ∙ ap (λ (es : List Seg). 2 * length es) between) c.in_ok-owners.owners.items c.in_ok-owners.ensures.owners
+    ∙ ap (λ (l : Labelled). 2 * length l.edges) (sym c.in_ok-labels.ensures)
+
+pub filled_owners-requires-clause-below : goal.filled_owners-requires-clause-below
+filled_owners-requires-clause-below g c =
+    let edges = c.in_ok-live.live.edges.items in
+    let between : c.in_ok-arena.arena ≡ edges = c.in_ok-arena.ensures ∙ c.in_ok-to_vec.ensures.items_if_clones_equal (λ x y e. e) ∙ c.deref.ensures.value in
+    let many : c.len-members.result ≡ length c.args.c.now = search rules in
+    subst (λ (n : ℕ). All (λ found. IfSome found (λ i. i < n)) c.in_ok-owners.owners.items) (sym many) (sides_below g.R.MergeRule.rule (g.R.MergeRule.state c.args.rule.now) c.args.c.now c.requires.in_range edges c.in_ok-live.live.odd.items c.in_ok-live.ensures
+    c.in_ok-labels.labels c.in_ok-labels.ensures c.len.result (c.len.ensures.count ∙ ap (λ (es : List Seg). 2 * length es) between) c.in_ok-owners.owners.items c.in_ok-owners.ensures.owners)
+
+pub filled_owners-requires-clause-gaps : goal.filled_owners-requires-clause-gaps
+filled_owners-requires-clause-gaps g c =
+    let edges = c.in_ok-live.live.edges.items in
+    let between : c.in_ok-arena.arena ≡ edges = c.in_ok-arena.ensures ∙ c.in_ok-to_vec.ensures.items_if_clones_equal (λ x y e. e) ∙ c.deref.ensures.value in
+    subst (λ (ns : List ℕ). All (IsRegion c.in_ok-labels.labels.edges) ns) (sym c.deref-3.ensures.value) (gaps_regions g.R.MergeRule.rule (g.R.MergeRule.state c.args.rule.now) c.args.c.now c.requires.in_range edges c.in_ok-live.live.odd.items c.in_ok-live.ensures
+    c.in_ok-labels.labels c.in_ok-labels.ensures c.len.result (c.len.ensures.count ∙ ap (λ (es : List Seg). 2 * length es) between) c.in_ok-owners.owners.items c.in_ok-owners.ensures.owners
+    c.args.gap c.in_ok-gaps.gaps.items c.in_ok-gaps.ensures.exact)
+
+-- what is filled, as it is said of the list of gaps and of the members
+fills_are : (l : Labelled) (owners filled : List (Option ℕ)) (slice gaps : List ℕ) (n members : ℕ) → slice ≡ gaps → n ≡ members → ((o : Overlay) → IsOverlay l o → o.members ≡ n → AreFilled o owners slice filled)
+    → (o : Overlay) → IsOverlay l o → o.members ≡ members → AreFilled o owners gaps filled
+fills_are l owners filled slice gaps n members same many fills o is count = subst (λ (ns : List ℕ). AreFilled o owners ns filled) same (fills o is (count ∙ sym many))
+
 pub polygons-requires-clause-count : goal.polygons-requires-clause-count
 polygons-requires-clause-count g c =
     let edges = c.in_ok-live.live.edges.items in
-    let between : c.in_ok-arena.arena ≡ edges = search rules in
-    ap length c.deref-3.ensures.value ∙ sides_count g.R.MergeRule.rule (g.R.MergeRule.state c.args.rule.now) c.args.c.now c.requires.in_range edges c.in_ok-live.live.odd.items c.in_ok-live.ensures
+    let between : c.in_ok-arena.arena ≡ edges = c.in_ok-arena.ensures ∙ c.in_ok-to_vec.ensures.items_if_clones_equal (λ x y e. e) ∙ c.deref.ensures.value in
+    let many : c.len-members.result ≡ length c.args.c.now = search rules in
+    ap length c.deref-4.ensures.value ∙ filled_count g.R.MergeRule.rule (g.R.MergeRule.state c.args.rule.now) c.args.c.now c.requires.in_range edges c.in_ok-live.live.odd.items c.in_ok-live.ensures
     c.in_ok-labels.labels c.in_ok-labels.ensures c.len.result (c.len.ensures.count ∙ ap (λ (es : List Seg). 2 * length es) between) c.in_ok-owners.owners.items c.in_ok-owners.ensures.owners
+    c.args.gap c.in_ok-gaps.gaps.items c.in_ok-gaps.ensures.exact c.in_ok-filled.filled.items
+    (fills_are c.in_ok-labels.labels c.in_ok-owners.owners.items c.in_ok-filled.filled.items c.deref-3.result.now c.in_ok-gaps.gaps.items c.len-members.result (length c.args.c.now) c.deref-3.ensures.value many c.in_ok-filled.ensures)
     ∙ ap (λ (es : List Seg). 2 * length es) (sym between)
 
 pub polygons-requires-clause-below : goal.polygons-requires-clause-below
 polygons-requires-clause-below g c =
     let edges = c.in_ok-live.live.edges.items in
-    let between : c.in_ok-arena.arena ≡ edges = search rules in
+    let between : c.in_ok-arena.arena ≡ edges = c.in_ok-arena.ensures ∙ c.in_ok-to_vec.ensures.items_if_clones_equal (λ x y e. e) ∙ c.deref.ensures.value in
     let many : c.len-members.result ≡ length c.args.c.now = search rules in
-    let below = sides_below g.R.MergeRule.rule (g.R.MergeRule.state c.args.rule.now) c.args.c.now c.requires.in_range edges c.in_ok-live.live.odd.items c.in_ok-live.ensures
-    c.in_ok-labels.labels c.in_ok-labels.ensures c.len.result (c.len.ensures.count ∙ ap (λ (es : List Seg). 2 * length es) between) c.in_ok-owners.owners.items c.in_ok-owners.ensures.owners in
-    let counted : All (λ found. IfSome found (λ i. i < c.len-members.result)) c.in_ok-owners.owners.items = subst (λ (n : ℕ). All (λ found. IfSome found (λ i. i < n)) c.in_ok-owners.owners.items) (sym many) below in
-    subst (λ (os : List (Option ℕ)). All (λ found. IfSome found (λ i. i < c.len-members.result)) os) (sym c.deref-3.ensures.value) counted
+    let filled = c.in_ok-filled.filled.items in
+    let below = members_below g.R.MergeRule.rule (g.R.MergeRule.state c.args.rule.now) c.args.c.now c.requires.in_range edges c.in_ok-live.live.odd.items c.in_ok-live.ensures
+    c.in_ok-labels.labels c.in_ok-labels.ensures c.len.result (c.len.ensures.count ∙ ap (λ (es : List Seg). 2 * length es) between) c.in_ok-owners.owners.items c.in_ok-owners.ensures.owners
+    c.args.gap c.in_ok-gaps.gaps.items c.in_ok-gaps.ensures.exact c.in_ok-filled.filled.items
+    (fills_are c.in_ok-labels.labels c.in_ok-owners.owners.items c.in_ok-filled.filled.items c.deref-3.result.now c.in_ok-gaps.gaps.items c.len-members.result (length c.args.c.now) c.deref-3.ensures.value many c.in_ok-filled.ensures) in
+    let counted : All (λ found. IfSome found (λ i. i < c.len-members.result)) filled = subst (λ (n : ℕ). All (λ found. IfSome found (λ i. i < n)) filled) (sym many) below in
+    subst (λ (os : List (Option ℕ)). All (λ found. IfSome found (λ i. i < c.len-members.result)) os) (sym c.deref-4.ensures.value) counted
 
 pub polygons-requires-clause-outer : goal.polygons-requires-clause-outer
 polygons-requires-clause-outer g c = λ n outer.
     (let edges = c.in_ok-live.live.edges.items in
-    let between : c.in_ok-arena.arena ≡ edges = search rules in
-    ap (λ (os : List (Option ℕ)). owner_in os n) c.deref-3.ensures.value ∙ sides_outer g.R.MergeRule.rule (g.R.MergeRule.state c.args.rule.now) c.args.c.now c.requires.in_range edges c.in_ok-live.live.odd.items c.in_ok-live.ensures
+    let between : c.in_ok-arena.arena ≡ edges = c.in_ok-arena.ensures ∙ c.in_ok-to_vec.ensures.items_if_clones_equal (λ x y e. e) ∙ c.deref.ensures.value in
+    let many : c.len-members.result ≡ length c.args.c.now = search rules in
+    ap (λ (os : List (Option ℕ)). owner_in os n) c.deref-4.ensures.value ∙ outer_unfilled g.R.MergeRule.rule (g.R.MergeRule.state c.args.rule.now) c.args.c.now c.requires.in_range edges c.in_ok-live.live.odd.items c.in_ok-live.ensures
     c.in_ok-labels.labels c.in_ok-labels.ensures c.len.result (c.len.ensures.count ∙ ap (λ (es : List Seg). 2 * length es) between) c.in_ok-owners.owners.items c.in_ok-owners.ensures.owners
+    c.args.gap c.in_ok-gaps.gaps.items c.in_ok-gaps.ensures.exact c.in_ok-filled.filled.items
+    (fills_are c.in_ok-labels.labels c.in_ok-owners.owners.items c.in_ok-filled.filled.items c.deref-3.result.now c.in_ok-gaps.gaps.items c.len-members.result (length c.args.c.now) c.deref-3.ensures.value many c.in_ok-filled.ensures)
     n (subst (λ (es : List Seg). IsOuterRegion es n) between outer))
 
 -- what is built, as it is said of the list of owners and of the members
@@ -72,11 +125,13 @@ built_is arena edges slice owners n members out between same many built o is reg
 is_cleaned : goal.returns-clause-cleaned
 is_cleaned g c =
     let edges = c.in_ok-live.live.edges.items in
-    let between : c.in_ok-arena.arena ≡ edges = search rules in
+    let between : c.in_ok-arena.arena ≡ edges = c.in_ok-arena.ensures ∙ c.in_ok-to_vec.ensures.items_if_clones_equal (λ x y e. e) ∙ c.deref.ensures.value in
     let many : c.len-members.result ≡ length c.args.c.now = search rules in
     IfOk-weaker c.polygons.result _ _ (λ (out : Members) built. cleaned g.R.MergeRule.rule (g.R.MergeRule.state c.args.rule.now) c.args.c.now c.requires.in_range edges c.in_ok-live.live.odd.items c.in_ok-live.ensures
     c.in_ok-labels.labels c.in_ok-labels.ensures c.len.result (c.len.ensures.count ∙ ap (λ (es : List Seg). 2 * length es) between) c.in_ok-owners.owners.items c.in_ok-owners.ensures.owners
-    c.args.gap c.requires.gap out (built_is c.in_ok-arena.arena edges c.deref-3.result.now c.in_ok-owners.owners.items c.len-members.result (length c.args.c.now) out between c.deref-3.ensures.value many built)) c.polygons.ensures.polygons
+    c.args.gap c.in_ok-gaps.gaps.items c.in_ok-gaps.ensures.exact c.in_ok-filled.filled.items
+    (fills_are c.in_ok-labels.labels c.in_ok-owners.owners.items c.in_ok-filled.filled.items c.deref-3.result.now c.in_ok-gaps.gaps.items c.len-members.result (length c.args.c.now) c.deref-3.ensures.value many c.in_ok-filled.ensures)
+    out (built_is c.in_ok-arena.arena edges c.deref-4.result.now c.in_ok-filled.filled.items c.len-members.result (length c.args.c.now) out between c.deref-4.ensures.value many built)) c.polygons.ensures.polygons
 
 pub returns-clause-cleaned : goal.returns-clause-cleaned
 returns-clause-cleaned g c = is_cleaned g c
@@ -88,11 +143,11 @@ returns-clause-valid g c =
 pub returns-clause-count : goal.returns-clause-count
 returns-clause-count g c =
     let edges = c.in_ok-live.live.edges.items in
-    let between : c.in_ok-arena.arena ≡ edges = search rules in
+    let between : c.in_ok-arena.arena ≡ edges = c.in_ok-arena.ensures ∙ c.in_ok-to_vec.ensures.items_if_clones_equal (λ x y e. e) ∙ c.deref.ensures.value in
     let many : c.len-members.result ≡ length c.args.c.now = search rules in
     IfOk-weaker c.polygons.result _ _ (λ (out : Members) built. built_count g.R.MergeRule.rule (g.R.MergeRule.state c.args.rule.now) c.args.c.now c.requires.in_range edges c.in_ok-live.live.odd.items c.in_ok-live.ensures
     c.in_ok-labels.labels c.in_ok-labels.ensures c.len.result (c.len.ensures.count ∙ ap (λ (es : List Seg). 2 * length es) between) c.in_ok-owners.owners.items c.in_ok-owners.ensures.owners
-    out (built_is c.in_ok-arena.arena edges c.deref-3.result.now c.in_ok-owners.owners.items c.len-members.result (length c.args.c.now) out between c.deref-3.ensures.value many built)) c.polygons.ensures.polygons
+    c.in_ok-filled.filled.items out (built_is c.in_ok-arena.arena edges c.deref-4.result.now c.in_ok-filled.filled.items c.len-members.result (length c.args.c.now) out between c.deref-4.ensures.value many built)) c.polygons.ensures.polygons
 
 pub returns-clause-state : goal.returns-clause-state
 returns-clause-state g c = if_ok c.polygons.result _ (λ o is.

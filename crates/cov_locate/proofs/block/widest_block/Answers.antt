@@ -1,10 +1,8 @@
-use Rattle.std.proofs.Common.{◌≡◌, ◌<◌, ◌/◌, length, sym, subst, arith}
-use Rattle.box_tree.specs.declared.rect.Rect.{Rect}
+use Rattle.std.proofs.Common.{sym, subst, arith}
 use Rattle.box_tree.specs.Rect.{IsInside}
 use Rattle.cov_locate.proofs.Hulls.{hull_within, in_level}
 use Rattle.cov_locate.proofs.Placing.{placed_inward}
 use Rattle.cov_locate.proofs.block.widest_block.Goals as goal
-use Rattle.cov_locate.specs.Blocks.{IsBlock}
 use Rattle.cov_locate.specs.Levels.{IsLevel}
 use Rattle.std.proofs.Common.{get_or}
 

@@ -1,11 +1,10 @@
-use Rattle.std.proofs.Common.{◌≡◌, ◌<◌, ◌∙◌, Bool, true, false, not, List, length, get_or, sym, ap, subst, arith, inl, inr}
+use Rattle.std.proofs.Common.{◌≡◌, ◌<◌, ◌∙◌, Bool, true, false, not, List, length, get_or, sym, ap, subst, arith}
 use Rattle.std.proofs.lemmas.Bool.{ne_eqb}
 use Rattle.std.proofs.lemmas.List.{get_or_default}
 use Rattle.cov_locate.proofs.LeastHolder.{seen_more, settled_where, other_holds}
 use Rattle.cov_locate.proofs.holder.place_in.Goals as goal
 use Rattle.cov_locate.proofs.holder.place_in.Goals.{else-odd-via-then-odd+else-owner-member, else-odd-via-else-odd, then-owner-member-2, else-owner-member-2}
 use Rattle.cov_locate.specs.Where.{IsWhere}
-use Rattle.cov_locate.specs.declared.place.Where.{Where}
 use Rattle.cov_types.specs.declared.ring_run.RingRun.{RingRun}
 
 pub returns-then-number-rings : goal.returns-then-number-rings

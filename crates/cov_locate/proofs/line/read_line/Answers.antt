@@ -1,9 +1,9 @@
-use Rattle.std.proofs.Common.{◌≡◌, ◌∙◌, ◌==◌, ℕ, List, length, sym, ap, ap₂}
+use Rattle.std.proofs.Common.{◌∙◌, length, sym, ap₂}
 use Rattle.std.proofs.lemmas.Bool.{eqb-true, eqb-false}
 use Rattle.cov_locate.proofs.Capped.{number_is, read_capped}
 use Rattle.cov_locate.proofs.Words.{two_words}
 use Rattle.cov_locate.proofs.line.read_line.Goals as goal
-use Rattle.cov_locate.specs.Points.{two_numbers, number_of, digits_of}
+use Rattle.cov_locate.specs.Points.{two_numbers}
 
 pub returns-in-Some-Some-clause-exact : goal.returns-in-Some-Some-clause-exact
 returns-in-Some-Some-clause-exact c =

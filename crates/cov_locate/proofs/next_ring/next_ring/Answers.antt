@@ -14,7 +14,7 @@ loop-from-preserved c =
     let (first, second, either) = lesser_of c.loop-from.next c.in_ok-part.part.next c.min-next.result c.min-next.ensures in (
       part.ends,
       next_joined index.outline.uses.items index.outline.rings.items index.numbers.items c.args.p c.args.least 0 c.loop-from.from c.in_ok-part.part.to c.loop-from.next c.in_ok-part.part.next c.min-next.result
-      first second either c.loop-from.invariant.1 part.next,
+          first second either c.loop-from.invariant.1 part.next,
     )
 
 pub returns : goal.returns

@@ -1,4 +1,4 @@
-use Rattle.std.proofs.Common.{◌≡◌, ◌<◌, ◌≤◌, All, length, get_or, sym, subst, arith, inl, inr}
+use Rattle.std.proofs.Common.{◌<◌, ◌≤◌, All, length, get_or, sym, subst, arith, inl, inr}
 use Rattle.box_tree.specs.Rect.{box_of_point}
 use Rattle.cov_locate.specs.Levels.{IsLevel}
 use Rattle.cov_locate.proofs.NextRing.{next_far, far_run}

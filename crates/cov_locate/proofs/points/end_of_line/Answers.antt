@@ -1,4 +1,4 @@
-use Rattle.std.proofs.Common.{◌==◌, ℕ, length, rules, tests}
+use Rattle.std.proofs.Common.{◌==◌, ℕ, rules, tests}
 use Rattle.std.proofs.lemmas.Iterator.{YieldsList-from_slice}
 use Rattle.std.proofs.lemmas.Iterator.Search.{position_from_yields_List}
 use Rattle.cov_locate.proofs.Positions.{place_exact, place_within}

@@ -1,7 +1,7 @@
-use Rattle.std.proofs.Common.{◌≡◌, ◌<◌, ◌∙◌, List, [], ◌∷◌, ◌++◌, All, length, sym, ap, subst, refl, append-nil, arith}
+use Rattle.std.proofs.Common.{◌≡◌, ◌<◌, ◌∙◌, [], ◌∷◌, ◌++◌, All, length, sym, ap, subst, refl, append-nil, arith}
 use Rattle.std.proofs.lemmas.Bool.{eqb-false}
 use Rattle.std.proofs.lemmas.List.Elements.{All-push}
-use Rattle.cov_locate.proofs.Lines.{IsReadTo, read_more, fault_found}
+use Rattle.cov_locate.proofs.Lines.{read_more, fault_found}
 use Rattle.cov_locate.proofs.points.read_points.Goals as goal
 use Rattle.cov_locate.proofs.points.read_points.Goals.{in-Blank, in-Point+in_ok-push-in-Point}
 use Rattle.cov_locate.specs.Points.{line_of, IsLineInRange}
@@ -12,12 +12,14 @@ use Rattle.cov_types.specs.declared.coord.Coord.{Coord}
 
 pub returns-in-Syntax-clause-exact : goal.returns-in-Syntax-clause-exact
 returns-in-Syntax-clause-exact c =
-    fault_found c.args.bytes.now c.loop-rest.rest.now c.loop-rest.number c.loop-rest.points.items Syntax (fault.Syntax c.loop-rest.number)
+    let apart = eqb-false (length c.loop-rest.rest.now) 0 (sym c.is_empty.ensures ∙ c.loop-rest-test.true) in
+    fault_found c.args.bytes.now c.loop-rest.rest.now c.loop-rest.number c.loop-rest.points.items Syntax (fault.Syntax c.loop-rest.number) (omega arith)
     (sym c.in-Syntax.is ∙ c.read_line.ensures.exact ∙ ap line_of c.split_line.ensures.line) (λ found. refl) c.loop-rest.invariant.0
 
 pub returns-in-OutOfRange-clause-exact : goal.returns-in-OutOfRange-clause-exact
 returns-in-OutOfRange-clause-exact c =
-    fault_found c.args.bytes.now c.loop-rest.rest.now c.loop-rest.number c.loop-rest.points.items OutOfRange (fault.OutOfRange c.loop-rest.number)
+    let apart = eqb-false (length c.loop-rest.rest.now) 0 (sym c.is_empty.ensures ∙ c.loop-rest-test.true) in
+    fault_found c.args.bytes.now c.loop-rest.rest.now c.loop-rest.number c.loop-rest.points.items OutOfRange (fault.OutOfRange c.loop-rest.number) (omega arith)
     (sym c.in-OutOfRange.is ∙ c.read_line.ensures.exact ∙ ap line_of c.split_line.ensures.line) (λ found. refl) c.loop-rest.invariant.0
 
 pub loop-rest-preserved : goal.loop-rest-preserved

@@ -2,7 +2,7 @@ use Rattle.std.proofs.Common.{◌≡◌, ◌+◌, ◌++◌, ◌∷◌, [], Optio
 use Rattle.std.specs.Prelude.{slice_get}
 use Rattle.std.proofs.lemmas.Option.{MatchOption-at_some, MatchOption-at_none}
 use Rattle.cov_types.specs.declared.edge_use.EdgeUse.{EdgeUse}
-use Rattle.cov_valid.proofs.MarksSoFar.{AreMarksBefore, AreMarksBefore-skip, AreMarksBefore-push, AreMarksBefore-all, use_at}
+use Rattle.cov_valid.proofs.MarksSoFar.{same_kind, AreMarksBefore, AreMarksBefore-skip, AreMarksBefore-push, AreMarksBefore-all, use_at}
 use Rattle.cov_valid.proofs.validator.marks_of.Goals as goal
 use Rattle.cov_valid.proofs.validator.marks_of.Goals.{in-Some+in_ok-push, in_default}
 use Rattle.cov_valid.specs.Judged.{IsKindOf}
@@ -11,7 +11,7 @@ use Rattle.cov_valid.specs.declared.mark.Kind.{Kind}
 use Rattle.cov_valid.specs.declared.mark.Mark.{Mark}
 
 pub loop-place-preserved : goal.loop-place-preserved
-loop-place-preserved c = λ members gap.
+loop-place-preserved c =
     let uses = c.args.uses.now in
     let i = c.loop-place.place in
     let u = c.index-uses-place.result in
@@ -23,14 +23,14 @@ loop-place-preserved c = λ members gap.
           let fault : IsFaultOf uses u w.in-Some.kind = MatchOption-at_some (IsFaultless uses u) (IsFaultOf uses u) w.in-Some.kind w.in-Some.is told in
           let mark : Mark = record { member = u.member; place = i; kind = w.in-Some.kind } in
           let items : c.match-kinds-place.marks.items ≡ c.loop-place.marks.items ++ mark ∷ [] = ap (λ (v : Vec Mark Global). v.items) w.marks-is ∙ w.in_ok-push.ensures.items in
-          subst (AreMarksBefore uses members gap (i + 1)) (sym items)
-          (AreMarksBefore-push uses members gap i u mark c.loop-place.marks.items (c.loop-place.invariant members gap) at refl refl fault)
+          subst (AreMarksBefore (IsFaultOf uses) uses (i + 1)) (sym items)
+          (AreMarksBefore-push (IsFaultOf uses) uses i u mark c.loop-place.marks.items c.loop-place.invariant at refl refl fault (λ kind other. same_kind uses u w.in-Some.kind kind fault other))
       | in_default w ↦
           let faultless : IsFaultless uses u = MatchOption-at_none (IsFaultless uses u) (IsFaultOf uses u) w.in_default.is told in
           let items : c.match-kinds-place.marks.items ≡ c.loop-place.marks.items = ap (λ (v : Vec Mark Global). v.items) w.marks-is in
-          subst (AreMarksBefore uses members gap (i + 1)) (sym items)
-          (AreMarksBefore-skip uses members gap i u c.loop-place.marks.items (c.loop-place.invariant members gap) at faultless)
+          subst (AreMarksBefore (IsFaultOf uses) uses (i + 1)) (sym items)
+          (AreMarksBefore-skip (IsFaultOf uses) uses i u c.loop-place.marks.items c.loop-place.invariant at faultless)
     ]
 
 pub returns : goal.returns
-returns c = λ members gap. AreMarksBefore-all c.args.uses.now members gap c.loop-place.place c.loop-place.marks.items c.loop-place-test.false (c.loop-place.invariant members gap)
+returns c = AreMarksBefore-all (IsFaultOf c.args.uses.now) c.args.uses.now c.loop-place.place c.loop-place.marks.items c.loop-place-test.false c.loop-place.invariant

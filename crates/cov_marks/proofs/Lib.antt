@@ -1,0 +1,4 @@
+pub mod Alike
+pub mod Searching
+pub mod Beside
+pub mod GapMarks

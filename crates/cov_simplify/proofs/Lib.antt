@@ -1,0 +1,3 @@
+pub mod EdgePlaces
+pub mod LineLists
+pub mod SidedLines

@@ -11,6 +11,8 @@ mod borders;
 mod cleaning;
 mod files;
 #[cfg(test)]
+mod geo_json;
+#[cfg(test)]
 mod hostile;
 #[cfg(test)]
 mod rows;

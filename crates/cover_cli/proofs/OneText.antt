@@ -68,8 +68,8 @@ IsExactAs to r = (is_json to ≡ false) ⊎ HasNoFloat r
 
 one_as : (to : List ℕ) (r : Reading) (v w : Members) (text other : List ℕ) → v ≡ w → IsWrittenAs to (with_members r v) text → IsWrittenAs to (with_members r w) other → IsExactAs to r → text ≡ other
 one_as to r v w text other same written again (inl is_text) = one_text_form to (with_members r w) text other is_text (subst (λ (ms : Members). IsWrittenAs to (with_members r ms) text) same written) again
-one_as to r v w text other same written again (inr no) =
-    one_form to (with_members r w) text other (record { properties = no.properties; ids = no.ids }) (subst (λ (ms : Members). IsWrittenAs to (with_members r ms) text) same written) again
+one_as to r v w text other same written again (inr free) =
+    one_form to (with_members r w) text other (record { properties = free.properties; ids = free.ids }) (subst (λ (ms : Members). IsWrittenAs to (with_members r ms) text) same written) again
 
 one_cleaning : (rule : RuleName) (gap : ℕ) (to : List ℕ) (r : Reading) (o p : Outcome) (text other : List ℕ) → AllInRange r.members → IsCleaning rule gap to r o text → IsCleaning rule gap to r p other
     → (o ≡ p) × (IsExactAs to r → text ≡ other)

@@ -82,7 +82,7 @@ fn a_float_of_the_properties_is_passed_on(rt: HostRuntime) -> Result<(), Fail> {
     assert_eq!(rt; came, Outcome::Done, "clean");
     let begin = b"{\"features\":[{\"geometry\":{\"coordinates\":[[[0,0],[4,0],[0,4],[0,0]]],\"type\":\"Polygon\"},\"properties\":";
     let end = b",\"type\":\"Feature\"}],\"type\":\"FeatureCollection\"}\n";
-    let held = files.held("b.json").unwrap_or(b"");
+    let held = files.held("b.json").unwrap_or(&[]);
     assert!(rt; held.starts_with(begin), "begin");
     assert!(rt; held.ends_with(end), "end");
     Ok(())

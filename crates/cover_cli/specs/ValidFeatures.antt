@@ -2,7 +2,7 @@
 use Rattle.std.specs.Prelude.{map}
 use Rattle.geo_json.specs.Reading.{Reading}
 use Rattle.serde_json.specs.View.{view}
-use Rattle.cover_cli.specs.declared.valid.ValidFeatures.{ValidFeatures}
+use Rattle.cover_cli.specs.declared.valid_features.ValidFeatures.{ValidFeatures}
 
 -- the members with their properties and ids
 abbrev pub held_valid : ValidFeatures → Reading

@@ -10,7 +10,8 @@ ghost use Rattle.cover_cli.specs.ValidFeatures.{held_valid};
 
 use crate::making::Made;
 use crate::outcome::Outcome;
-use crate::valid::{ValidFeatures, valid_features_of};
+use crate::valid::valid_features_of;
+use crate::valid_features::ValidFeatures;
 use cov_simplify::simplify;
 use cov_types::NoMemory;
 use feature_files::text_for;

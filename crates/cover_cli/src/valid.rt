@@ -1,4 +1,4 @@
-ghost use Rattle.std.specs.Prelude.{◌≡◌, ◌≤◌, length, IfOk, IfErr};
+ghost use Rattle.std.specs.Prelude.{◌≤◌, length, IfOk, IfErr};
 ghost use Rattle.cov_types.specs.Coverage.{IsFormed};
 ghost use Rattle.cov_types.specs.Uses.{uses_of};
 ghost use Rattle.plane.specs.Validity.{IsValid};
@@ -10,18 +10,9 @@ ghost use Rattle.cover_cli.specs.ValidFeatures.{held_valid};
 
 use crate::outcome::Outcome;
 use crate::text::features_of;
-use cov_admit::{ValidCoverage, admit};
-use serde_json::Value;
+use crate::valid_features::ValidFeatures;
+use cov_admit::admit;
 use std::alloc::Global;
-
-/// Features whose coverage is valid, and beside each member its properties and its id.
-#[derive(Drop)]
-pub struct ValidFeatures {
-    pub coverage: ValidCoverage,
-    pub properties: Vec<Value>,
-    pub ids: Vec<Value>,
-    pub ghost even: { (length properties.items ≡ length coverage) × (length ids.items ≡ length coverage) },
-}
 
 /// Reads an input of this name as features and admits their coverage where it is valid. An error is the outcome that refuses it.
 pub fn valid_features_of(

@@ -29,13 +29,13 @@ fn each_name_has_its_form(rt: HostRuntime) -> Result<(), Fail> {
     let json = read_features(alloc, "a.geojson", JSON.as_bytes());
     assert!(rt; json.is_ok(), "GeoJSON");
     if let Ok(features) = json {
-        assert!(rt; text_for(alloc, "b.json", &features)? == JSON.as_bytes(), "GeoJSON kept");
-        assert!(rt; text_for(alloc, "b", &features)? == TEXT.as_bytes(), "GeoJSON to text");
+        assert!(rt; text_for(alloc, "b.json", &features)?.as_slice() == JSON.as_bytes(), "GeoJSON kept");
+        assert!(rt; text_for(alloc, "b", &features)?.as_slice() == TEXT.as_bytes(), "GeoJSON to text");
     }
     let text = read_features(alloc, "a", TEXT.as_bytes());
     assert!(rt; text.is_ok(), "text");
     if let Ok(features) = text {
-        assert!(rt; text_for(alloc, "b", &features)? == TEXT.as_bytes(), "text kept");
+        assert!(rt; text_for(alloc, "b", &features)?.as_slice() == TEXT.as_bytes(), "text kept");
     }
     Ok(())
 }
@@ -63,6 +63,6 @@ fn no_members_have_no_features(rt: HostRuntime) -> Result<(), Fail> {
     let alloc = rt.alloc();
     let features = bare_features(alloc, Coverage { members: Vec::new(alloc) })?;
     let text = text_for(alloc, "b.json", &features)?;
-    assert!(rt; text == b"{\"features\":[],\"type\":\"FeatureCollection\"}\n", "written");
+    assert!(rt; text.as_slice() == "{\"features\":[],\"type\":\"FeatureCollection\"}\n".as_bytes(), "written");
     Ok(())
 }

@@ -16,7 +16,6 @@ use Rattle.feature_files.specs.declared.error.FileError.TheVariants.{Fault, NoMe
 use Rattle.feature_files.specs.declared.error.FileFault.TheVariants.{Text, Json}
 use Rattle.geo_json.specs.Reading.{Reading}
 use Rattle.cover_cli.specs.Invalid.{TellsMark, RefusesInvalid}
-use Rattle.cover_cli.specs.Union.{IsUniting}
 use Rattle.cover_cli.specs.Made.{IsOneAnd, Makes, Refuses}
 use Rattle.cover_cli.specs.Refusal.{outcome_of_file, outcome_of_refusal, IsRefusedFor}
 use Rattle.cover_cli.specs.Text.{IsReadAnd, RefusesInput}

@@ -10,22 +10,17 @@ ghost use Rattle.cover_cli.specs.Text.{IsReadAnd, RefusesInput};
 
 use crate::making::Made;
 use crate::outcome::Outcome;
-use cover_words::RuleName;
 use crate::text::features_of;
 use cov_clean::clean;
 use cov_types::{Coverage, NoMemory};
+use cover_words::RuleName;
 use feature_files::text_for;
 use geo_json::Features;
 use merge_rule::{GreatestArea, LeastArea, LeastIndex, LongestBorder};
 use std::alloc::Global;
 
 // The coverage, cleaned by the rule of the name at the gap width.
-fn cleaned(
-    alloc: Global,
-    c: &Coverage,
-    rule: RuleName,
-    gap: u32,
-) -> Result<Coverage, NoMemory>
+fn cleaned(alloc: Global, c: &Coverage, rule: RuleName, gap: u32) -> Result<Coverage, NoMemory>
     requires in_range { AllInRange c.now }
     requires gap { gap ≤ 2 ^ 30 }
     ensures cleaned { IfOk result (λ out. IsCleaned c.now (rule_of rule) no_state gap out) }

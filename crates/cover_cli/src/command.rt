@@ -8,9 +8,9 @@ use crate::input::read_inputs;
 use crate::making::make;
 use crate::outcome::Outcome;
 use crate::output::written;
-use cover_words::{Operation, operation_named};
 use cov_io::Files;
 use cov_types::NoMemory;
+use cover_words::{Operation, operation_named};
 use std::alloc::Global;
 
 // Reads what the operation reads, makes its whole text in memory, and then writes it.

@@ -6,8 +6,8 @@ ghost use Rattle.cover_cli.specs.Refusal.{IsRefusedFor};
 ghost use Rattle.cover_words.specs.Words.{IsWithinLimit, inputs_of};
 
 use crate::outcome::Outcome;
-use cover_words::Operation;
 use crate::{clean, node, regions, simplify, union, validate};
+use cover_words::Operation;
 use std::alloc::Global;
 
 /// What an operation made: the outcome, should the text be written whole, and that text.
@@ -28,7 +28,12 @@ pub fn make(alloc: Global, operation: &Operation, mut inputs: Vec<Vec<u8>>) -> R
         (IsRefusedFor (Refuses (named operation.now) (map (λ i. i.items) inputs.items))) }
 {
     match operation {
-        Operation::Validate { gap, from, .. } => validate::make(alloc, *gap, from, inputs.remove(0)),
+        Operation::Validate { gap, from, .. } => validate::make(
+            alloc,
+            *gap,
+            from,
+            inputs.remove(0),
+        ),
         Operation::Clean {
             rule,
             gap,

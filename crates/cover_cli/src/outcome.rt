@@ -84,7 +84,9 @@ fn mark_message(alloc: Global, member: u32, place: u64, kind: Kind) -> Result<St
         Kind::Repeated => format!(in alloc; "not valid: member {member} place {place} repeated")?,
         Kind::SameSide => format!(in alloc; "not valid: member {member} place {place} same side")?,
         Kind::Inside => format!(in alloc; "not valid: member {member} place {place} inside")?,
-        Kind::NarrowGap => format!(in alloc; "not valid: member {member} place {place} narrow gap")?,
+        Kind::NarrowGap => format!(in alloc;
+            "not valid: member {member} place {place} narrow gap"
+        )?,
     })
 }
 
@@ -108,10 +110,18 @@ fn json_fault_message(alloc: Global, fault: JsonFault) -> Result<String, NoMemor
 {
     Ok(match fault {
         JsonFault::NotJson => String::from_str(alloc, "json: not JSON")?,
-        JsonFault::BadShape { feature } => format!(in alloc; "json: bad shape in feature {feature}")?,
-        JsonFault::NotPlanar { feature } => format!(in alloc; "json: not planar in feature {feature}")?,
-        JsonFault::NotWhole { feature } => format!(in alloc; "json: not whole in feature {feature}")?,
-        JsonFault::OutOfRange { feature } => format!(in alloc; "json: out of range in feature {feature}")?,
+        JsonFault::BadShape { feature } => format!(in alloc;
+            "json: bad shape in feature {feature}"
+        )?,
+        JsonFault::NotPlanar { feature } => format!(in alloc;
+            "json: not planar in feature {feature}"
+        )?,
+        JsonFault::NotWhole { feature } => format!(in alloc;
+            "json: not whole in feature {feature}"
+        )?,
+        JsonFault::OutOfRange { feature } => format!(in alloc;
+            "json: out of range in feature {feature}"
+        )?,
         JsonFault::RingShort { ring } => format!(in alloc; "json: ring {ring} is short")?,
         JsonFault::RingOpen { ring } => format!(in alloc; "json: ring {ring} is open")?,
     })

@@ -66,11 +66,7 @@ fn append_row(
 }
 
 // The clearance of a region that no member holds, by its label.
-fn clearance_told(
-    gaps: &GapSearch,
-    label: &[u32],
-    region: usize,
-) -> Result<Option<u32>, NoMemory>
+fn clearance_told(gaps: &GapSearch, label: &[u32], region: usize) -> Result<Option<u32>, NoMemory>
     requires region { IsRegion gaps.now region }
     requires inner { ¬ IsOuterRegion gaps.now region }
     ensures { IfOk result (λ clearance. (o : Overlay) → o.edges ≡ gaps.now → label.now ≡ label_of o region → IsClearanceTold o region clearance) }

@@ -9,8 +9,8 @@ use crate::lines::{lists_by_member, uses_at_marks};
 use crate::making::Made;
 use crate::outcome::Outcome;
 use crate::text::features_of;
-use cov_types::{Coverage, NoMemory, uses};
 use cov_marks::marks;
+use cov_types::{Coverage, NoMemory, uses};
 use cov_write::lines_of;
 use std::alloc::Global;
 

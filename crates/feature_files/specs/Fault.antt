@@ -1,5 +1,5 @@
 -- The one fault of a file, by its name.
-use Rattle.std.specs.Prelude.{◌≡◌, ℕ, Bool, true, false, List, ⊤}
+use Rattle.std.specs.Prelude.{ℕ, Bool, true, false, List, ⊤}
 use Rattle.geo_json.specs.Fault as json
 use Rattle.geo_json.specs.declared.error.JsonError.{JsonError}
 use Rattle.geo_json.specs.declared.error.JsonError.TheVariants as json_errors

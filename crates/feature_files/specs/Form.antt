@@ -1,7 +1,6 @@
 -- The written form of features, by the name of the file.
 use Rattle.std.specs.Prelude.{◌≡◌, ℕ, Bool, true, false, List, All}
 use Rattle.cov_write.specs.Written.{coverage_text}
-use Rattle.serde_json.specs.Data.{Data}
 use Rattle.serde_json.specs.Written.{has_float}
 use Rattle.geo_json.specs.Reading.{Reading}
 use Rattle.json_write.specs.Text.{features_of, IsWritten}

@@ -6,7 +6,8 @@ use std::test::Fail;
 
 const TEXT: &str = "POLYGON ((0 0, 4 0, 0 4, 0 0))\n";
 
-const JSON: &str = "{\"features\":[{\"geometry\":{\"coordinates\":[[[0,0],[4,0],[0,4],[0,0]]],\"type\":\"Polygon\"},\
+const JSON: &str =
+    "{\"features\":[{\"geometry\":{\"coordinates\":[[[0,0],[4,0],[0,4],[0,0]]],\"type\":\"Polygon\"},\
     \"id\":7,\"properties\":{\"h\":1},\"type\":\"Feature\"}],\"type\":\"FeatureCollection\"}\n";
 
 #[test]
@@ -29,13 +30,22 @@ fn each_name_has_its_form(rt: HostRuntime) -> Result<(), Fail> {
     let json = read_features(alloc, "a.geojson", JSON.as_bytes());
     assert!(rt; json.is_ok(), "GeoJSON");
     if let Ok(features) = json {
-        assert!(rt; text_for(alloc, "b.json", &features)?.as_slice() == JSON.as_bytes(), "GeoJSON kept");
-        assert!(rt; text_for(alloc, "b", &features)?.as_slice() == TEXT.as_bytes(), "GeoJSON to text");
+        assert!(rt;
+            text_for(alloc, "b.json", &features)?.as_slice() == JSON.as_bytes(),
+            "GeoJSON kept"
+        );
+        assert!(rt;
+            text_for(alloc, "b", &features)?.as_slice() == TEXT.as_bytes(),
+            "GeoJSON to text"
+        );
     }
     let text = read_features(alloc, "a", TEXT.as_bytes());
     assert!(rt; text.is_ok(), "text");
     if let Ok(features) = text {
-        assert!(rt; text_for(alloc, "b", &features)?.as_slice() == TEXT.as_bytes(), "text kept");
+        assert!(rt;
+            text_for(alloc, "b", &features)?.as_slice() == TEXT.as_bytes(),
+            "text kept"
+        );
     }
     Ok(())
 }
@@ -51,7 +61,11 @@ fn each_name_has_its_faults(rt: HostRuntime) -> Result<(), Fail> {
     }
     match read_features(alloc, "a", JSON.as_bytes()) {
         Err(FileError::Fault(fault)) => {
-            assert_eq!(rt; fault, FileFault::Text(TextFault::Syntax { at: 0 }), "GeoJSON");
+            assert_eq!(rt;
+                fault,
+                FileFault::Text(TextFault::Syntax { at: 0 }),
+                "GeoJSON"
+            );
         }
         _ => assert!(rt; false, "GeoJSON is no text"),
     }
@@ -61,8 +75,16 @@ fn each_name_has_its_faults(rt: HostRuntime) -> Result<(), Fail> {
 #[test]
 fn no_members_have_no_features(rt: HostRuntime) -> Result<(), Fail> {
     let alloc = rt.alloc();
-    let features = bare_features(alloc, Coverage { members: Vec::new(alloc) })?;
+    let features = bare_features(
+        alloc,
+        Coverage {
+            members: Vec::new(alloc),
+        },
+    )?;
     let text = text_for(alloc, "b.json", &features)?;
-    assert!(rt; text.as_slice() == "{\"features\":[],\"type\":\"FeatureCollection\"}\n".as_bytes(), "written");
+    assert!(rt;
+        text.as_slice() == "{\"features\":[],\"type\":\"FeatureCollection\"}\n".as_bytes(),
+        "written"
+    );
     Ok(())
 }

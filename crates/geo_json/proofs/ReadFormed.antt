@@ -1,10 +1,10 @@
 -- The reading of a document without a fault is formed.
-use Rattle.std.proofs.Common.{◌≡◌, ℕ, ◌+◌, ◌≤◌, List, length, map, Option, Some, None, inl, inr, refl, ap, sym, subst, arith}
+use Rattle.std.proofs.Common.{◌≡◌, ℕ, ◌+◌, ◌≤◌, List, length, Option, Some, None, inr, refl, ap, sym, subst, arith}
 use Rattle.std.proofs.lemmas.List.{length-map}
 use Rattle.cov_types.specs.Coverage.{IsFormed}
 use Rattle.geo_text.specs.declared.reader.TheConstants.{LONGEST_INPUT}
 use Rattle.serde_json.specs.Data.{Data}
-use Rattle.geo_json.specs.Shape.{FeatureShape, document_of}
+use Rattle.geo_json.specs.Shape.{document_of}
 use Rattle.geo_json.specs.Reading.{Reading, StandsFor, Reads}
 use Rattle.geo_json.specs.Fault.{faults_from, fault_of, HasNoFault}
 use Rattle.geo_json.specs.declared.error.JsonFault.{JsonFault}

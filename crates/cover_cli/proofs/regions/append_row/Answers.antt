@@ -1,5 +1,5 @@
 -- A region that is not that of the outer points has its label, its area and its clearance in its row.
-use Rattle.std.proofs.Common.{◌≡◌, List, sym, subst, ◌∙◌, FitsSigned, rules}
+use Rattle.std.proofs.Common.{List, sym, subst, ◌∙◌, FitsSigned, rules}
 use mir.Syntax.{w128}
 use Rattle.std.proofs.lemmas.Int.{to_z-of_z}
 use Rattle.cov_types.specs.declared.seg.Seg.{Seg}

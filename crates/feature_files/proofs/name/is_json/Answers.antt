@@ -1,5 +1,5 @@
 -- The name ends in the second suffix, and not in the first.
-use Rattle.std.proofs.Common.{◌≡◌, ◌∙◌, ◌||◌, Bool, false, List, ℕ, ap, sym, codes, eqb}
+use Rattle.std.proofs.Common.{◌∙◌, ◌||◌, Bool, List, ℕ, ap, sym, codes, eqb}
 use Rattle.std.specs.List.{ends_with}
 use Rattle.std.proofs.lemmas.Str.Pattern.{ends_text}
 use Rattle.feature_files.proofs.name.is_json.Goals as goal

@@ -1,5 +1,5 @@
 -- Lists of marks by two readings of their kinds, which say the same of each use.
-use Rattle.std.proofs.Common.{◌≡◌, List}
+use Rattle.std.proofs.Common.{List}
 use Rattle.std.specs.Prelude.{Contains, ◌↔◌}
 use Rattle.std.proofs.lemmas.Option.{slice_get_within, get_or_from_slice_get}
 use Rattle.cov_types.specs.declared.edge_use.EdgeUse.{EdgeUse}

@@ -51,10 +51,10 @@ no_width uses members w marks zero_width are = only_faults uses members w marks 
     by h = elim h.narrow [ inl up ↦ (let wide = up.narrow.wide in omega (arith, wide, zero_width)) | inr down ↦ (let wide = down.narrow.wide in omega (arith, wide, zero_width)) ]
 
 -- with a fault there are no other marks
-pub some_fault : (uses : List EdgeUse) (members w : ℕ) (marks : List Mark) → 0 < length marks → AreFaultMarks uses marks → AreMarks uses members w marks
-some_fault uses members w [] some are = absurd (omega (arith, some))
+pub some_fault : (uses : List EdgeUse) (members w : ℕ) (marks : List Mark) → (length marks ≡ 0 → ⊥) → AreFaultMarks uses marks → AreMarks uses members w marks
+some_fault uses members w [] some are = absurd (some refl)
 some_fault uses members w (m ∷ marks) some are =
-    let mark = (are.exact m).0 (0, (omega arith, refl)) in
+    let mark = (are.exact m).0 (0, omega arith, refl) in
     let has : Contains uses mark.marked = (m.place, slice_get_within uses m.place mark.marked mark.at_place, get_or_from_slice_get uses m.place mark.marked mark.marked mark.at_place) in
     only_faults uses members w (m ∷ marks) (λ edge h. h.0 mark.marked has m.kind mark.kind) are
 

@@ -1,5 +1,5 @@
 -- What a binary search finds in an ascending list.
-use Rattle.std.proofs.Common.{◌≡◌, ◌⊎◌, refl, sym, ◌∙◌, ap, subst, ℕ, ◌<◌, ◌≤◌, Bool, true, false, List, length, get_or, Result, Ok, Err, nat_cmp, is_lt, is_gt, Ordering, Less, Equal, Greater, true≢false, inl, inr, arith}
+use Rattle.std.proofs.Common.{◌≡◌, refl, sym, ◌∙◌, ap, subst, ℕ, ◌<◌, ◌≤◌, true, List, length, get_or, Result, Ok, Err, nat_cmp, is_lt, is_gt, Ordering, Less, Equal, Greater, true≢false, inl, inr, arith}
 use Rattle.std.specs.Prelude.{AllPairs, Contains, IsTrue, ◌↔◌, is_ok}
 use Rattle.std.specs.List.Sorted.{IsBinarySearchResult}
 use Rattle.std.specs.Ordering.{ordering_index}

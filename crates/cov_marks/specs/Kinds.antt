@@ -6,7 +6,7 @@ use Rattle.arrangement.specs.Overlay.{Overlay, IsOverlayOf, region_above, region
 use Rattle.region_owners.specs.Owner.{IsNarrowGap}
 use Rattle.cov_valid.specs.Kinds.{IsFaultOf, AreFaultless}
 use Rattle.cov_valid.specs.declared.mark.Kind.{Kind}
-use Rattle.cov_valid.specs.declared.mark.Kind.TheVariants.{Meets, Repeated, SameSide, Inside, NarrowGap}
+use Rattle.cov_valid.specs.declared.mark.Kind.TheVariants.{NarrowGap}
 
 -- one side of the segment is in a gap that is narrow at the width, between the segments of so many members
 pub record IsBesideNarrowGap (uses : List EdgeUse) (members w : ℕ) (s : Seg) : Type 0 where

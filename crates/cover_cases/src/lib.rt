@@ -11,11 +11,15 @@ mod borders;
 mod cleaning;
 mod files;
 #[cfg(test)]
+mod gaps;
+#[cfg(test)]
 mod geo_json;
 #[cfg(test)]
 mod hostile;
 #[cfg(test)]
 mod rows;
+#[cfg(test)]
+mod simplifying;
 #[cfg(test)]
 mod tests;
 #[cfg(test)]

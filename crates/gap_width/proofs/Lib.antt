@@ -2,3 +2,4 @@ mod Steps
 mod Squares
 mod OwnSides
 mod Most
+mod Round

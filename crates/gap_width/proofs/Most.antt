@@ -1,26 +1,24 @@
 -- From the search in the whole range to clearances and widths.
-use Rattle.std.proofs.Common.{◌≡◌, sym, ◌∙◌, subst, ℕ, ◌+◌, ◌-◌, ◌*◌, ◌<◌, ◌≤◌, ◌^◌, ◌↔◌, Bool, true, false, List, length, All, Contains, Some, slice_get, nat_lt, IsTrue, inl, inr, ℤ, pos, neg_ℤ, ◌*ℤ◌, ◌<ℤ◌, ◌≤ℤ◌, ◌⊎◌, ◌==◌, get_or, arith}
+use Rattle.std.proofs.Common.{◌≡◌, sym, subst, ℕ, ◌-◌, ◌*◌, ◌<◌, ◌≤◌, ◌↔◌, Bool, true, false, List, length, All, Contains, Option, Some, IfSome, nat_lt, IsTrue, inl, inr, ◌⊎◌, ◌==◌, get_or, arith}
 use Rattle.std.proofs.lemmas.Bool.{cases_lt, ltb-true, lt-ltb}
 use Rattle.std.proofs.lemmas.List.{length-map}
-use Rattle.std.proofs.lemmas.List.Elements.{All-contains, Contains-get_or}
-use Rattle.integer_laws.proofs.Ring.{lin, mul_one}
+use Rattle.std.proofs.lemmas.List.Elements.{Contains-get_or}
 use Rattle.cov_types.specs.declared.coord.Coord.{Coord}
-use Rattle.cov_types.specs.declared.coord.TheConstants.{LIMIT}
 use Rattle.cov_types.specs.declared.seg.Seg.{Seg}
-use Rattle.cov_types.specs.Range.{IsInRange, IsSegInRange}
 use Rattle.plane.specs.Label.{numbers_below}
-use Rattle.plane.specs.Point.{at_coord}
+use Rattle.plane.specs.Point.{Point, at_coord}
 use Rattle.plane.specs.Segment.{upper, lower}
-use Rattle.plane.specs.Region.{IsOuterRegion, IsRegionOf}
-use Rattle.sector_laws.specs.Sector.{HalfEdge, left, AreDistinct, IsPlanar}
+use Rattle.plane.specs.Region.{IsSide, IsOuterRegion, IsRegionOf}
+use Rattle.crossing_laws.proofs.Located.{side_at, region-joined}
+use Rattle.sector_laws.specs.Sector.{left, AreDistinct, IsPlanar}
 use Rattle.region_laws.proofs.Numbered.{side_half_edge}
 use Rattle.arrangement.specs.Overlay.{IsRegion}
 use Rattle.arrangement.proofs.LiveOverlays.{kept_is, below_number}
 use Rattle.counting_sort.specs.Grouped.{places_of}
-use Rattle.distance_laws.specs.Room.{HasRoom, doubled}
+use Rattle.distance_laws.specs.Room.{doubled}
 use Rattle.distance_laws.proofs.Reach.{doubled_room}
-use Rattle.region_owners.specs.Box.{IsEdgeOf, IsCornerOf, IsInBoxOf}
-use Rattle.region_owners.specs.Gap.{HasRoomWithin, IsClearance, IsNarrow}
+use Rattle.region_owners.specs.Box.{IsEdgeOf, IsInBoxOf}
+use Rattle.region_owners.specs.Gap.{IsClearance, IsNarrow}
 use Rattle.region_owners.proofs.RegionBox.{in_box}
 use Rattle.clearance_laws.specs.Quarter.{IsInSquare}
 use Rattle.clearance_laws.proofs.Near.{less_room}
@@ -31,42 +29,14 @@ use Rattle.gap_width.specs.Search.{IsBest, IsMost}
 
 -- ---- the points of a region
 
-corner_in_range : (edges : List Seg) (r : ℕ) (c : Coord) → IsPlanar edges → IsCornerOf edges r c → IsInRange c
-corner_in_range edges r c planar corner =
-    let range = All-contains IsSegInRange edges corner.edge planar.in_range corner.of.among in
-    elim corner.is [ inl lo ↦ subst IsInRange (sym lo) range.lo | inr hi ↦ subst IsInRange (sym hi) range.hi ]
-
-less_one : (q c : ℤ) → q <ℤ (c *ℤ pos 1) → c ≤ℤ LIMIT → q <ℤ LIMIT
-less_one q c less small = omega (arith, lin, mul_one c)
-
-more_one : (q c : ℤ) → (c *ℤ pos 1) <ℤ q → (neg_ℤ LIMIT) ≤ℤ c → (neg_ℤ LIMIT) ≤ℤ q
-more_one q c more small = omega (arith, lin, mul_one c)
-
 module _ (edges : List Seg) (planar : IsPlanar edges) (distinct : AreDistinct edges) (r : ℕ) (inner : ¬ IsOuterRegion edges r) where
-  -- what the search finds in a square that has all grid points within the range is the most room
-  pub most_is : (enough best found : ℕ) (s : Square) → ((q : Coord) → IsInRange q → q.x <ℤ LIMIT → q.y <ℤ LIMIT → IsInSquare s.corner s.side (doubled q))
+  -- what the search finds in a square that has all grid points inside the box of the region is the most room
+  pub most_is : (enough best found : ℕ) (s : Square) → ((q : Coord) → IsInBoxOf edges r (at_coord q) → IsInSquare s.corner s.side (doubled q))
       → IsBest edges r enough s best found → IsMost edges r enough best found
   most_is enough best found s wide is = record {
     no_less = is.no_less;
     reached = is.reached;
-    greatest = λ less w has.
-        let q = has.at in
-        let box = in_box edges planar distinct r inner (at_coord q) has.within in
-        let left = box.left in
-        let right = box.right in
-        let bottom = box.bottom in
-        let top = box.top in
-        let right_range = corner_in_range edges r right.0 planar right.1.0 in
-        let top_range = corner_in_range edges r top.0 planar top.1.0 in
-        let x = less_one q.x right.0.x right.1.1 right_range.right in
-        let y = less_one q.y top.0.y top.1.1 top_range.top in
-        let range : IsInRange q = record {
-          left = more_one q.x left.0.x left.1.1 (corner_in_range edges r left.0 planar left.1.0).left;
-          right = omega (arith, lin, x);
-          bottom = more_one q.y bottom.0.y bottom.1.1 (corner_in_range edges r bottom.0 planar bottom.1.0).bottom;
-          top = omega (arith, lin, y);
-        } in
-        is.greatest less q w (wide q range x y) has.within (λ e of. has.room e of.among);
+    greatest = λ less w has. is.greatest less has.at w (wide has.at (in_box edges planar distinct r inner (at_coord has.at) has.within)) has.within (λ e of. has.room e of.among);
   }
 
 -- ---- clearances and widths
@@ -108,3 +78,17 @@ has_edge edges r is =
 
 pub some_of : (own : List OwnEdge) (e : Seg) → Contains (edges_in own) e → 0 < length own
 some_of own e (k, below, _) = omega (arith, below, length-map own (λ o. o.edge))
+
+-- the region of a side is a region
+pub region_from : (edges : List Seg) (side r : ℕ) → side < 2 * length edges → ((p : Point) → IsSide edges side p → IsRegionOf edges p r) → IsRegion edges r
+region_from edges side r below is =
+    let (p, at) = side_at edges side below in
+    let its = is p at in
+    record { at = its.joined.at; side = its.joined.side; own = region-joined edges p its.joined.at r its.joined.joined its }
+
+-- one region is outer
+pub one_outer : (edges : List Seg) (r s : ℕ) → IsOuterRegion edges r → IsOuterRegion edges s → r ≡ s
+one_outer edges r s a b = (let first = a.least s b.outer in let second = b.least r a.outer in omega (arith, first, second))
+
+pub outer_at : (P : ℕ → Type 0) (o : Option ℕ) (n : ℕ) → o ≡ Some n → IfSome o P → P n
+outer_at P o n is h = subst (λ x. IfSome x P) is h

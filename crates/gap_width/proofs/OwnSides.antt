@@ -1,6 +1,6 @@
 -- The own edges of a region by its sides.
 use mathlib.Core.List.{[], ◌∷◌}
-use Rattle.std.proofs.Common.{◌≡◌, refl, sym, ◌∙◌, ap, subst, ℕ, suc, ◌+◌, ◌*◌, ◌/◌, ◌%◌, ◌<◌, ◌==◌, ◌↔◌, Bool, true, false, cond, List, ◌++◌, length, map, filter, All, Contains, Some, slice_get, inl, inr, IsTrue, ℤ, pos, neg_ℤ, ◌+ℤ◌, ◌-ℤ◌, arith}
+use Rattle.std.proofs.Common.{◌≡◌, refl, sym, ◌∙◌, ap, subst, ℕ, suc, ◌+◌, ◌*◌, ◌/◌, ◌%◌, ◌<◌, ◌==◌, ◌↔◌, Bool, true, false, cond, List, ◌++◌, length, filter, All, Contains, Some, slice_get, inl, inr, ℤ, pos, neg_ℤ, ◌+ℤ◌, ◌-ℤ◌, arith}
 use Rattle.std.specs.Prelude.{slice_index}
 use Rattle.std.proofs.lemmas.Bool.{ne_eqb, true≢false}
 use Rattle.std.proofs.lemmas.Bool.Decides.{Decides-eqb}
@@ -14,7 +14,6 @@ use Rattle.cov_types.specs.Range.{IsSegInRange}
 use Rattle.plane.specs.Label.{numbers_below}
 use Rattle.plane.specs.Point.{Point}
 use Rattle.plane.specs.Ray.{is_over}
-use Rattle.plane.specs.Segment.{upper, lower}
 use Rattle.plane.specs.Region.{IsOuterRegion, IsRegionOf, AreRegions}
 use Rattle.plane.proofs.Same.{same_tests}
 use Rattle.crossing_laws.specs.Crossing.{crossing_sum, int_sum_by}
@@ -22,13 +21,14 @@ use Rattle.crossing_laws.proofs.Located.{one_region, side_within}
 use Rattle.sector_laws.specs.Sector.{HalfEdge, left, IsHalfEdge, AreDistinct, IsPlanar}
 use Rattle.sector_laws.proofs.Numbers.{half_edge_side, half_edge_among, forwards_number, back_number, half_edge_at}
 use Rattle.region_laws.specs.Weights.{side_weight, weigh_sides}
-use Rattle.arrangement.proofs.LiveOverlays.{kept, kept_is, number_below, below_number}
+use Rattle.arrangement.proofs.LiveOverlays.{kept, kept_is, number_below}
 use Rattle.counting_sort.specs.Grouped.{places_of}
 use Rattle.region_owners.specs.Box.{IsEdgeOf}
 use Rattle.region_owners.proofs.OwnEdges.{passes, own_passes, passes_own}
-use Rattle.clearance_laws.specs.Inside.{TellsSides, IsOffOwn}
+use Rattle.clearance_laws.specs.Inside.{TellsSides}
 use Rattle.clearance_laws.proofs.Inside.{inside_is}
 use Rattle.gap_width.specs.declared.own.OwnEdge.{OwnEdge}
+use Rattle.gap_width.proofs.Steps.{sum-append}
 use Rattle.gap_width.specs.Own.{edges_in, weighed, IsSmallEdge, AreOwn, AreOfSides, weight_of_side, weight_by}
 
 -- ---- sums over lists
@@ -56,10 +56,6 @@ two_more g i =
     ap (λ n. int_sum_by g (numbers_below n)) twice ∙ omega (arith, lin)
 
 -- ---- one more side
-
-sum-append : (xs : List OwnEdge) (o : OwnEdge) (p : Point) → crossing_sum (weighed (xs ++ o ∷ [])) p ≡ crossing_sum (weighed xs) p +ℤ cond (is_over o.edge p) o.weight (pos 0)
-sum-append [] o p = omega (arith, lin)
-sum-append (x ∷ xs) o p = let rest = sum-append xs o p in omega (arith, lin)
 
 one_within : (n : ℕ) (w : ℤ) → w ≡ weight_of_side n → IsWithin 1 w
 one_within n w is = by (n % 2 == 0) is

@@ -26,7 +26,8 @@ use Rattle.gap_width.specs.declared.own.OwnEdge.{OwnEdge}
 use Rattle.gap_width.specs.Own.{weighed}
 use Rattle.gap_width.specs.Search.{IsLeastReach, IsRoom}
 
-sum-append : (xs : List OwnEdge) (o : OwnEdge) (p : Point) → crossing_sum (weighed (xs ++ o ∷ [])) p ≡ crossing_sum (weighed xs) p +ℤ cond (is_over o.edge p) o.weight (pos 0)
+-- the sum with one edge more
+pub sum-append : (xs : List OwnEdge) (o : OwnEdge) (p : Point) → crossing_sum (weighed (xs ++ o ∷ [])) p ≡ crossing_sum (weighed xs) p +ℤ cond (is_over o.edge p) o.weight (pos 0)
 sum-append [] o p = omega (arith, lin)
 sum-append (x ∷ xs) o p = let rest = sum-append xs o p in omega (arith, lin)
 

@@ -8,7 +8,7 @@ ghost use Rattle.gap_width.specs.Search.{IsMost};
 
 use crate::own::own_edges;
 use crate::search::most_room;
-use crate::square::whole_range;
+use crate::square::square_round;
 use counting_sort::Grouped;
 use cov_types::{NoMemory, Seg};
 use face_walk::Regions;
@@ -81,7 +81,7 @@ impl<'a> GapSearch<'a> {
         ensures most { IfOk result (IsMost self.now region enough best) }
     {
         let own = own_edges(self.alloc, self.edges, self.sides.group(region))?;
-        most_room(self.alloc, &own, &own, whole_range(), best, enough)
+        most_room(self.alloc, &own, &own, square_round(&own), best, enough)
     }
 }
 

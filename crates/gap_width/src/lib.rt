@@ -20,5 +20,7 @@ mod near;
 mod own;
 mod search;
 mod square;
+#[cfg(test)]
+mod tests;
 
 pub use gaps::{GapSearch, clearance, narrow};

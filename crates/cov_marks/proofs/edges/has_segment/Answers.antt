@@ -6,6 +6,6 @@ use Rattle.cov_marks.proofs.edges.has_segment.Goals as goal
 
 pub returns : goal.returns
 returns c =
-    subst (λ (b : Bool). IsTrue b ↔ Contains c.args.list.now c.args.s) (sym c.is_ok.ensures)
+    subst (λ (b : Bool). IsTrue b ↔ Contains c.args.list.now c.args.s) (sym c.is_ok.ensures.value)
     (segment_found c.args.list.now c.args.s c.requires c.binary_search.result
     (λ i is. subst (λ (r : Result ℕ ℕ). IsSearchInRange r (length c.args.list.now)) is c.binary_search.ensures.bound) c.binary_search.ensures.position)

@@ -1,4 +1,4 @@
-use Rattle.std.proofs.Common.{◌≡◌, ◌∙◌, refl, sym, ap, subst, inl, inr, true≢false}
+use Rattle.std.proofs.Common.{◌∙◌, refl, sym, ap, subst, inl, inr, true≢false}
 use Rattle.std.specs.Prelude.{Contains, slice_index}
 use Rattle.cov_marks.proofs.edges.is_beside.Goals as goal
 

@@ -1,6 +1,6 @@
 -- The segments of a coverage without faults meet in ends alone, and the marks are those beside narrow gaps.
-use Rattle.std.proofs.Common.{◌≡◌, ◌∙◌, sym, ap, subst, ℕ, ◌<◌, List, length}
-use Rattle.std.specs.Prelude.{All, AllPairs, Contains, ◌↔◌}
+use Rattle.std.proofs.Common.{◌≡◌, ◌∙◌, sym, subst, ℕ, List, length}
+use Rattle.std.specs.Prelude.{All, Contains, ◌↔◌}
 use Rattle.std.proofs.lemmas.Result.{IfOk-weaker}
 use Rattle.cov_types.proofs.AllUses.{uses-in_range, uses-members}
 use Rattle.cov_types.proofs.EvenEnds.{even-ends}

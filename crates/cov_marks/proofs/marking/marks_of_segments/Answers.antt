@@ -1,6 +1,5 @@
 use Rattle.std.proofs.Common.{◌≡◌, ◌+◌, ◌++◌, ◌∷◌, [], ◌∙◌, Some, Vec, Global, refl, sym, ap, subst, true≢false}
 use Rattle.std.specs.Prelude.{slice_get}
-use Rattle.cov_types.specs.declared.edge_use.EdgeUse.{EdgeUse}
 use Rattle.cov_valid.proofs.MarksSoFar.{AreMarksBefore, AreMarksBefore-skip, AreMarksBefore-push, AreMarksBefore-all, use_at}
 use Rattle.cov_valid.specs.declared.mark.Kind.TheVariants.{NarrowGap}
 use Rattle.cov_valid.specs.declared.mark.Mark.{Mark}

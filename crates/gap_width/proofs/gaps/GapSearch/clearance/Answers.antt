@@ -1,4 +1,4 @@
-use Rattle.std.proofs.Common.{ℕ, ◌≤◌, ◌^◌, arith}
+use Rattle.std.proofs.Common.{◌≤◌, ◌^◌, arith}
 use Rattle.region_owners.specs.Gap.{IsClearance}
 use Rattle.gap_width.specs.Search.{IsMost}
 use Rattle.gap_width.proofs.Squares.{if_ok_both}

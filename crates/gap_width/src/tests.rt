@@ -1,0 +1,105 @@
+ghost use Rattle.std.specs.Prelude.{◌≡◌};
+ghost use Rattle.plane.specs.Region.{IsOuterRegion};
+ghost use Rattle.arrangement.specs.Overlay.{IsRegion};
+
+use crate::{GapSearch, clearance, narrow};
+use cov_types::{Coord, NoMemory, Seg};
+use face_walk::Regions;
+use half_edge::{Arena, are_arranged};
+use std::alloc::Global;
+use std::process::Abort;
+use std::test::Fail;
+
+/// The edges between these points, as given.
+fn edges_between(
+    alloc: Global,
+    rt: &impl Abort,
+    numbers: &[(i32, i32, i32, i32)],
+) -> Result<Vec<Seg>, NoMemory> {
+    let mut edges = Vec::new(alloc);
+    for (a, b, c, d) in numbers {
+        let edge = Seg::between(Coord { x: *a, y: *b }, Coord { x: *c, y: *d });
+        edges.push(edge.expect(rt, "two points"))?;
+    }
+    Ok(edges)
+}
+
+/// The region of the side, which is not the outer one.
+fn inner_region(rt: &impl Abort, arena: &Arena, regions: &Regions, side: usize) -> usize
+    requires { regions.now ≡ arena.now }
+    ensures region { IsRegion arena.now result }
+    ensures not_outer { ¬ IsOuterRegion arena.now result }
+{
+    assert!(rt; side < arena.len());
+    let region = regions.region_of(side);
+    let outer = regions.outer().expect(rt, "there is an edge");
+    assert!(rt; region != outer);
+    region
+}
+
+/// The regions of these sides have these clearances.
+fn expect_clearances(
+    alloc: Global,
+    rt: &impl Abort,
+    numbers: &[(i32, i32, i32, i32)],
+    want: &[(usize, u32)],
+) -> Result<(), Fail> {
+    let edges = edges_between(alloc, rt, numbers)?;
+    assert!(rt; are_arranged(alloc, &edges)?);
+    let arena = Arena::build(alloc, edges)?;
+    let regions = Regions::build(alloc, &arena)?;
+    let search = GapSearch::build(alloc, &arena, &regions)?;
+    for (side, wide) in want {
+        let region = inner_region(rt, &arena, &regions, *side);
+        let width = *wide;
+        assert!(rt; width < 1073741824);
+        assert_eq!(rt; search.clearance(region)?, width);
+        assert_eq!(rt; clearance(alloc, &arena, &regions, region)?, width);
+        assert!(rt; !search.narrow(region, width)?);
+        assert!(rt; search.narrow(region, width + 1)?);
+        assert!(rt; narrow(alloc, &arena, &regions, region, width + 1)?);
+    }
+    Ok(())
+}
+
+#[test]
+fn a_hole_is_as_wide_as_its_middle_is_from_its_edges(rt: HostRuntime) -> Result<(), Fail> {
+    let frame = [
+        (0, 0, 0, 20),
+        (0, 0, 20, 0),
+        (0, 20, 20, 20),
+        (9, 9, 9, 11),
+        (9, 9, 11, 9),
+        (9, 11, 11, 11),
+        (11, 9, 11, 11),
+        (20, 0, 20, 20),
+    ];
+    expect_clearances(rt.alloc(), &rt, &frame, &[(7, 2), (1, 10)])
+}
+
+#[test]
+fn a_triangle_without_a_grid_point_has_no_width(rt: HostRuntime) -> Result<(), Fail> {
+    let triangle = [(5, 5, 5, 6), (5, 5, 6, 5), (5, 6, 6, 5)];
+    expect_clearances(rt.alloc(), &rt, &triangle, &[(1, 0)])
+}
+
+#[test]
+fn a_sliver_between_grid_points_has_no_width(rt: HostRuntime) -> Result<(), Fail> {
+    let sliver = [
+        (0, 0, 1000, 999),
+        (0, 0, 1000, 1000),
+        (1000, 999, 1000, 1000),
+    ];
+    expect_clearances(rt.alloc(), &rt, &sliver, &[(0, 0)])
+}
+
+#[test]
+fn a_wide_square_has_half_its_side_all_round(rt: HostRuntime) -> Result<(), Fail> {
+    let square = [
+        (-16777000, -16777000, -16777000, 16777000),
+        (-16777000, -16777000, 16777000, -16777000),
+        (-16777000, 16777000, 16777000, 16777000),
+        (16777000, -16777000, 16777000, 16777000),
+    ];
+    expect_clearances(rt.alloc(), &rt, &square, &[(1, 33554000)])
+}

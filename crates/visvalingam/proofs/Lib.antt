@@ -1,0 +1,11 @@
+pub mod Ready
+pub mod Queues
+pub mod Chained
+pub mod Joining
+pub mod Spots
+pub mod Stepping
+pub mod Removing
+pub mod Fewer
+pub mod Removed
+pub mod Begun
+pub mod Running

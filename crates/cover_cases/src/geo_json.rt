@@ -36,7 +36,7 @@ fn answer(
     from: &str,
     to: &str,
     input: &str,
-) -> Result<(Outcome, Shelf), AllocError> {
+) -> Result<(Outcome, Shelf), Fail> {
     let mut words = Vec::new(alloc);
     for word in line.split_whitespace() {
         words.push(String::from_str(alloc, word)?)?;

@@ -13,6 +13,8 @@ mod files;
 #[cfg(test)]
 mod gaps;
 #[cfg(test)]
+mod geo_json;
+#[cfg(test)]
 mod hostile;
 #[cfg(test)]
 mod rows;

@@ -5,6 +5,7 @@ pub mod Text
 pub mod Validate
 pub mod Clean
 pub mod Invalid
+pub mod ValidFeatures
 pub mod Simplify
 pub mod Union
 pub mod Node

@@ -28,15 +28,26 @@ pub fn make(alloc: Global, operation: &Operation, mut inputs: Vec<Vec<u8>>) -> R
         (IsRefusedFor (Refuses (named operation.now) (map (λ i. i.items) inputs.items))) }
 {
     match operation {
-        Operation::Validate { gap, .. } => validate::make(alloc, *gap, inputs.remove(0)),
-        Operation::Clean { rule, gap, .. } => clean::make(alloc, *rule, *gap, inputs.remove(0)),
+        Operation::Validate { gap, from, .. } => validate::make(
+            alloc,
+            *gap,
+            from,
+            inputs.remove(0),
+        ),
+        Operation::Clean {
+            rule,
+            gap,
+            from,
+            to,
+        } => clean::make(alloc, *rule, *gap, from, to, inputs.remove(0)),
         Operation::Simplify {
             tolerance,
             inner,
-            ..
-        } => simplify::make(alloc, *tolerance, *inner, inputs.remove(0)),
-        Operation::Union { .. } => union::make(alloc, inputs.remove(0)),
-        Operation::Node { .. } => node::make(alloc, inputs.remove(0)),
-        Operation::Regions { .. } => regions::make(alloc, inputs.remove(0)),
+            from,
+            to,
+        } => simplify::make(alloc, *tolerance, *inner, from, to, inputs.remove(0)),
+        Operation::Union { from, to } => union::make(alloc, from, to, inputs.remove(0)),
+        Operation::Node { from, .. } => node::make(alloc, from, inputs.remove(0)),
+        Operation::Regions { from, .. } => regions::make(alloc, from, inputs.remove(0)),
     }
 }

@@ -4,13 +4,13 @@ ghost use Rattle.cov_types.specs.Coverage.{AllInRange};
 ghost use Rattle.geo_text.specs.declared.reader.TheConstants.{LONGEST_INPUT};
 ghost use Rattle.cover_cli.specs.Refusal.{IsRefusedFor};
 ghost use Rattle.cover_cli.specs.Regions.{IsClearanceTold, IsRow, AreRows, IsRegionList};
-ghost use Rattle.cover_cli.specs.Text.{IsReadAnd, RefusesText};
+ghost use Rattle.cover_cli.specs.Text.{IsReadAnd, RefusesInput};
 ghost use Rattle.owner_label.specs.Labelled.{IsOverlay};
 ghost use Rattle.plane.specs.Region.{IsOuterRegion};
 
 use crate::making::Made;
 use crate::outcome::Outcome;
-use crate::text::coverage_of;
+use crate::text::features_of;
 use cov_types::{Coverage, NoMemory, uses};
 use cov_write::{append_inner_row, append_outer_row};
 use face_walk::Regions;
@@ -97,13 +97,13 @@ fn region_list(alloc: Global, c: &Coverage) -> Result<Made, NoMemory>
     })
 }
 
-/// Lists the regions of the coverage that the input is read as.
-pub fn make(alloc: Global, input: Vec<u8>) -> Result<Made, Outcome>
+/// Lists the regions of the coverage that the input of this name is read as.
+pub fn make(alloc: Global, from: &str, input: Vec<u8>) -> Result<Made, Outcome>
     requires { length input.items ≤ LONGEST_INPUT }
     ensures made { IfOk result (λ made.
-        IsReadAnd input.items (λ members. IsRegionList members made.outcome made.text.items)) }
-    ensures refused { IfErr result (IsRefusedFor (RefusesText input.items)) }
+        IsReadAnd from.now input.items (λ r. IsRegionList r.members made.outcome made.text.items)) }
+    ensures refused { IfErr result (IsRefusedFor (RefusesInput from.now input.items)) }
 {
-    let coverage = coverage_of(alloc, input)?;
-    Ok(region_list(alloc, &coverage)?)
+    let features = features_of(alloc, from, input)?;
+    Ok(region_list(alloc, &features.coverage)?)
 }

@@ -6,43 +6,59 @@ ghost use Rattle.cover_cli.specs.Invalid.{RefusesInvalid};
 ghost use Rattle.cover_cli.specs.Refusal.{IsRefusedFor};
 ghost use Rattle.cover_cli.specs.Simplify.{IsSimplifying};
 ghost use Rattle.cover_cli.specs.Text.{IsReadAnd};
+ghost use Rattle.cover_cli.specs.ValidFeatures.{held_valid};
 
 use crate::making::Made;
 use crate::outcome::Outcome;
-use crate::valid::valid_coverage_of;
-use cov_admit::ValidCoverage;
+use crate::valid::valid_features_of;
+use crate::valid_features::ValidFeatures;
 use cov_simplify::simplify;
 use cov_types::NoMemory;
-use cov_write::text_of;
+use feature_files::text_for;
+use geo_json::Features;
 use std::alloc::Global;
 
-// The text of a valid coverage, simplified.
+// The text of features of a valid coverage, simplified, for an output of this name.
 fn simplifying(
     alloc: Global,
-    v: ValidCoverage,
+    v: ValidFeatures,
     tolerance: u32,
     inner: bool,
+    to: &str,
 ) -> Result<Made, NoMemory>
-    requires valid { IsValid (uses_of v) }
+    requires valid { IsValid (uses_of v.coverage) }
     requires tolerance { tolerance ≤ 2 ^ 30 }
-    ensures { IfOk result (λ made. IsSimplifying tolerance inner v made.outcome made.text.items) }
+    ensures { IfOk result (λ made. IsSimplifying tolerance inner to.now (held_valid v) made.outcome made.text.items) }
 {
-    let simplified = simplify(alloc, v, tolerance, inner)?;
-    let text = text_of(alloc, simplified.coverage())?;
+    let simplified = simplify(alloc, v.coverage, tolerance, inner)?;
+    let features = Features {
+        coverage: simplified.into_coverage(),
+        properties: v.properties,
+        ids: v.ids,
+    };
+    let text = text_for(alloc, to, &features)?;
     Ok(Made {
         outcome: Outcome::Done,
         text,
     })
 }
 
-/// Simplifies the coverage that the input is read as, where it is valid, at the tolerance, in grid units.
-pub fn make(alloc: Global, tolerance: u32, inner: bool, input: Vec<u8>) -> Result<Made, Outcome>
+/// Simplifies the features that the input is read as, where their coverage is valid, at the tolerance, in grid units. The
+/// names of the input and of the output say which of the two is GeoJSON.
+pub fn make(
+    alloc: Global,
+    tolerance: u32,
+    inner: bool,
+    from: &str,
+    to: &str,
+    input: Vec<u8>,
+) -> Result<Made, Outcome>
     requires length { length input.items ≤ LONGEST_INPUT }
     requires tolerance { tolerance ≤ 2 ^ 30 }
     ensures made { IfOk result (λ made.
-        IsReadAnd input.items (λ members. IsSimplifying tolerance inner members made.outcome made.text.items)) }
-    ensures refused { IfErr result (IsRefusedFor (RefusesInvalid input.items)) }
+        IsReadAnd from.now input.items (λ r. IsSimplifying tolerance inner to.now r made.outcome made.text.items)) }
+    ensures refused { IfErr result (IsRefusedFor (RefusesInvalid from.now input.items)) }
 {
-    let valid = valid_coverage_of(alloc, input)?;
-    Ok(simplifying(alloc, valid, tolerance, inner)?)
+    let valid = valid_features_of(alloc, from, input)?;
+    Ok(simplifying(alloc, valid, tolerance, inner, to)?)
 }

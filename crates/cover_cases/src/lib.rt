@@ -9,11 +9,11 @@
 mod borders;
 #[cfg(test)]
 mod cleaning;
+#[cfg(test)]
+mod documents;
 mod files;
 #[cfg(test)]
 mod gaps;
-#[cfg(test)]
-mod geo_json;
 #[cfg(test)]
 mod hostile;
 #[cfg(test)]

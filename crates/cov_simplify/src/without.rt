@@ -28,11 +28,7 @@ fn set_of(alloc: Global, points: &[Coord]) -> Result<HashSet<Coord>, AllocError>
 }
 
 // The member without the points.
-fn member_without(
-    alloc: Global,
-    member: Member,
-    gone: &HashSet<Coord>,
-) -> Result<Member, NoMemory>
+fn member_without(alloc: Global, member: Member, gone: &HashSet<Coord>) -> Result<Member, NoMemory>
     ensures { IfOk result (λ m. (removed : List Point) → AreGone gone.now removed → m ≡ member_without removed member) }
 {
     let mut polys = Vec::new(alloc);

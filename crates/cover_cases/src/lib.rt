@@ -9,11 +9,17 @@
 mod borders;
 #[cfg(test)]
 mod cleaning;
+#[cfg(test)]
+mod documents;
 mod files;
+#[cfg(test)]
+mod gaps;
 #[cfg(test)]
 mod hostile;
 #[cfg(test)]
 mod rows;
+#[cfg(test)]
+mod simplifying;
 #[cfg(test)]
 mod tests;
 #[cfg(test)]

@@ -296,7 +296,7 @@ fn regions_lists_each_region_with_its_label_and_doubled_area(
              POLYGON ((15 0, 30 0, 30 30, 15 30, 15 20, 20 20, 20 10, 15 10, 15 0))\n\
              POLYGON ((11 11, 19 11, 19 19, 11 19, 11 11))\n",
             Outcome::Done,
-            "0 outer - - -\n1 single 0 800 -\n7 gap - 72 -\n13 single 2 128 -\n19 single 1 800 -\n",
+            "0 outer - - -\n1 single 0 800 -\n7 gap - 72 0\n13 single 2 128 -\n19 single 1 800 -\n",
         ),
     ];
     expect_answers(&rt, rt.alloc(), "regions in out", &cases)
@@ -310,13 +310,13 @@ fn regions_tells_gaps_from_members(rt: HostRuntime) -> Result<(), test::Fail> {
             "POLYGON ((-16777216 -16777216, 16777216 -16777216, 16777216 16777216, -16777216 16777216, -16777216 -16777216), \
              (-16777000 -16777000, -16777000 16777000, 16777000 16777000, 16777000 -16777000, -16777000 -16777000))",
             Outcome::Done,
-            "0 outer - - -\n1 single 0 57981685248 -\n7 gap - 2251741832000000 -\n",
+            "0 outer - - -\n1 single 0 57981685248 -\n7 gap - 2251741832000000 33554000\n",
         ),
         (
             "a hole of one member alone is a gap",
             "POLYGON ((0 0, 20 0, 20 20, 0 20, 0 0), (9 9, 9 11, 11 11, 11 9, 9 9))",
             Outcome::Done,
-            "0 outer - - -\n1 single 0 792 -\n7 gap - 8 -\n",
+            "0 outer - - -\n1 single 0 792 -\n7 gap - 8 2\n",
         ),
         (
             "three members have one square",
@@ -348,7 +348,7 @@ fn regions_are_those_of_the_bent_and_odd_edges(rt: HostRuntime) -> Result<(), te
             "a hole touches its shell in a vertex",
             "POLYGON ((0 0, 10 0, 10 10, 0 10, 0 0), (0 0, 3 6, 6 3, 0 0))",
             Outcome::Done,
-            "0 outer - - -\n1 single 0 173 -\n3 gap - 27 -\n",
+            "0 outer - - -\n1 single 0 173 -\n3 gap - 27 2\n",
         ),
         (
             "two squares of one member that share a side have one region",
@@ -427,15 +427,16 @@ fn words_name_the_operation_and_its_files(rt: HostRuntime) -> Result<(), test::F
 }
 
 #[test]
-fn clean_takes_a_rule_of_four_in_its_place(rt: HostRuntime) -> Result<(), test::Fail> {
+fn options_are_taken_as_the_operation_has_them(rt: HostRuntime) -> Result<(), test::Fail> {
     for line in [
         "clean in out",
         "clean in out --rule",
         "clean in out --rule largest",
         "clean in out --rule Least-index",
         "clean in out --gap least-index",
-        "clean --rule least-index in out",
-        "clean in out --rule least-index --gap 1",
+        "clean in out --rule least-index --rule least-area",
+        "simplify in out",
+        "simplify in out --tolerance -1",
         "clean in -out --rule least-index",
         "validate in out --rule least-index",
     ] {
@@ -538,7 +539,7 @@ fn each_outcome_has_its_status_and_its_message(rt: HostRuntime) -> Result<(), te
         (
             Outcome::Usage,
             2,
-            "usage: cover validate|clean|union|node|regions",
+            "usage: cover validate|clean|simplify|union|node|regions",
         ),
         (NO_TEXT, 4, "text: syntax at 0"),
         (Outcome::TooLong, 6, "input is longer than 67108864 bytes"),

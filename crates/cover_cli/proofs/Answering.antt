@@ -10,10 +10,10 @@ use Rattle.cover_cli.specs.Answers.{is_success, is_refusal, is_marked, touches_o
 use Rattle.cover_cli.specs.Input.{AreInputs}
 use Rattle.cover_cli.specs.Made.{Makes, Refuses}
 use Rattle.cover_cli.specs.Refusal.{IsRefusedFor, IsUnread}
-use Rattle.cover_cli.specs.Words.{Operation, inputs_of, output_of}
+use Rattle.cover_words.specs.Words.{Operation, inputs_of, output_of}
 use Rattle.cover_cli.specs.Written.{IsTextWritten, IsWrittenWhole, IsWrittenInPart}
 use Rattle.cover_cli.specs.declared.outcome.Outcome.{Outcome}
-use Rattle.cover_cli.specs.declared.outcome.Outcome.TheVariants.{Done, Marked, Usage, ReadFault, WriteFault, TooLong, BadText, NotValid, NoMemory}
+use Rattle.cover_cli.specs.declared.outcome.Outcome.TheVariants.{Done, Marked, Usage, ReadFault, WriteFault, TooLong, BadText, BadJson, NotValid, NoMemory}
 use Rattle.cover_cli.specs.declared.making.Made.{Made}
 use Rattle.cover_cli.proofs.Causes.{one_refusal, refuses_refusal, not_both, makes_success, makes_marked, makes_some, differs, refusal_no_success, refusal_no_touch, success_touches, marked_success, success_no_refusal, untouching_no_success}
 use Rattle.cover_cli.proofs.Inputs.{same_inputs, none_too_long, promised_after}
@@ -36,7 +36,7 @@ no_cause operation old inputs o p text read makes cause =
 -- ---- refusals
 
 -- memory ran out, before the output was created
-without_memory : (operation : Operation) (old new : State) → new.read_faults ≡ old.read_faults → KeepsOutput old new → IsAnswer operation old new NoMemory
+pub without_memory : (operation : Operation) (old new : State) → new.read_faults ≡ old.read_faults → KeepsOutput old new → IsAnswer operation old new NoMemory
 without_memory operation old new reads kept = record {
   usage = λ h. cc;
   written = λ told success. cc;
@@ -110,6 +110,7 @@ unread operation old new (Marked edges) cause kept promised = absurd cause
 unread operation old new Usage cause kept promised = absurd cause
 unread operation old new WriteFault cause kept promised = absurd cause
 unread operation old new (BadText fault) cause kept promised = absurd cause
+unread operation old new (BadJson fault) cause kept promised = absurd cause
 unread operation old new (NotValid mark) cause kept promised = absurd cause
 
 -- the inputs were read, and are a cause for the refusal

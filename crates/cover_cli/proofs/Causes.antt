@@ -1,7 +1,6 @@
 -- Causes of refusals: each input has one cause at most, and none where a text is made of it.
 use Rattle.std.proofs.Common.{◌≡◌, ◌≢◌, ℕ, zero, suc, List, [], ◌∷◌, Bool, true, false, IsTrue, refl, ap, subst, ◌∙◌, sym, inl, inr}
-use Rattle.cov_types.specs.declared.coord.Coord.{Coord}
-use Rattle.cover_cli.specs.Answers.{is_success, is_refusal, is_marked, touches_output}
+use Rattle.cover_cli.specs.Answers.{is_validate, is_success, is_refusal, is_marked, touches_output}
 use Rattle.cov_types.specs.Coverage.{Members}
 use Rattle.cov_types.specs.Uses.{uses_of}
 use Rattle.plane.specs.Validity.{IsValid}
@@ -9,62 +8,76 @@ use Rattle.cov_admit.specs.Admission.{IsRefusal}
 use Rattle.cov_admit.specs.declared.error.AdmitError.{AdmitError}
 use Rattle.cov_admit.specs.declared.error.AdmitError.TheVariants.{NotValid as NotAdmitted, NoMemory as NoAdmitMemory}
 use Rattle.cov_admit.proofs.FirstMarks.{one_first_mark}
-use Rattle.geo_text.proofs.OneReading.{one_reading}
-use Rattle.geo_text.specs.Reading.{Reads}
-use Rattle.cover_cli.specs.Union.{IsUniting, TellsMark, RefusesUnion}
+use Rattle.feature_files.proofs.Files.{one_reading, one_fault, read_faultless}
+use Rattle.feature_files.specs.Fault.{IsError}
+use Rattle.feature_files.specs.Reading.{IsRead}
+use Rattle.feature_files.specs.declared.error.FileError.{FileError}
+use Rattle.feature_files.specs.declared.error.FileError.TheVariants.{Fault, NoMemory as NoFileMemory}
+use Rattle.feature_files.specs.declared.error.FileFault.TheVariants.{Text, Json}
+use Rattle.geo_json.specs.Reading.{Reading}
+use Rattle.cover_cli.specs.Invalid.{TellsMark, RefusesInvalid}
 use Rattle.cover_cli.specs.Made.{IsOneAnd, Makes, Refuses}
-use Rattle.cover_cli.specs.Refusal.{outcome_of_text, outcome_of_refusal, IsRefusedFor}
-use Rattle.cover_cli.specs.Text.{IsReadAnd, RefusesText}
+use Rattle.cover_cli.specs.Refusal.{outcome_of_file, outcome_of_refusal, IsRefusedFor}
+use Rattle.cover_cli.specs.Text.{IsReadAnd, RefusesInput}
 use Rattle.cover_cli.specs.Validate.{marking}
-use Rattle.cover_cli.specs.Words.{Operation, Validate, Clean, Union, Node, Regions, is_validate}
+use Rattle.cover_words.specs.Words.{Operation, Validate, Clean, Simplify, Union, Node, Regions}
 use Rattle.cover_cli.specs.declared.outcome.Outcome.{Outcome}
-use Rattle.cover_cli.specs.declared.outcome.Outcome.TheVariants.{Done, Marked, Usage, ReadFault, WriteFault, TooLong, BadText, NotValid, NoMemory}
-use Rattle.geo_text.proofs.Verdicts.{one_fault}
-use Rattle.geo_text.specs.Fault.{IsFault, HasNoFault}
-use Rattle.geo_text.specs.declared.error.TextError.{TextError}
-use Rattle.geo_text.specs.declared.error.TextError.TheVariants.{Fault, NoMemory as NoTextMemory}
-use Rattle.geo_text.specs.declared.error.TextFault.{TextFault}
+use Rattle.cover_cli.specs.declared.outcome.Outcome.TheVariants.{Done, Marked, Usage, ReadFault, WriteFault, TooLong, BadText, BadJson, NotValid, NoMemory}
 
--- ---- texts
+-- ---- inputs with a fault
 
--- an error of the reader of text is refused for its cause
-pub text_refused : (e : TextError) (input : List ℕ) → ((fault : TextFault) → e ≡ Fault fault → IsFault input fault) → IsRefusedFor (RefusesText input) (outcome_of_text e)
-text_refused (Fault fault) input faulty = inr (faulty fault refl)
-text_refused NoTextMemory input faulty = inl refl
+-- an error of the reader is refused for its cause
+pub input_refused : (name input : List ℕ) (e : FileError) → IsError name input e → IsRefusedFor (RefusesInput name input) (outcome_of_file e)
+input_refused name input (Fault (Text fault)) is = inr is
+input_refused name input (Fault (Json fault)) is = inr is
+input_refused name input NoFileMemory is = inl refl
 
--- a text is refused with one outcome
-one_text_refusal : (input : List ℕ) (o p : Outcome) → RefusesText input o → RefusesText input p → o ≡ p
-one_text_refusal input (BadText f) (BadText g) first second = ap BadText (one_fault input f g first second)
-one_text_refusal input (BadText f) Done first second = absurd second
-one_text_refusal input (BadText f) (Marked edges) first second = absurd second
-one_text_refusal input (BadText f) Usage first second = absurd second
-one_text_refusal input (BadText f) ReadFault first second = absurd second
-one_text_refusal input (BadText f) WriteFault first second = absurd second
-one_text_refusal input (BadText f) TooLong first second = absurd second
-one_text_refusal input (BadText f) NoMemory first second = absurd second
-one_text_refusal input (BadText f) (NotValid mark) first second = absurd second
-one_text_refusal input _ p first second = absurd first
+-- an input is refused with one outcome
+one_input_refusal : (name input : List ℕ) (o p : Outcome) → RefusesInput name input o → RefusesInput name input p → o ≡ p
+one_input_refusal name input (BadText f) (BadText g) first second = (let same : Text f ≡ Text g = one_fault name input (Text f) (Text g) first second in cc)
+one_input_refusal name input (BadText f) (BadJson g) first second = (let same : Text f ≡ Json g = one_fault name input (Text f) (Json g) first second in absurd (cc))
+one_input_refusal name input (BadJson f) (BadText g) first second = (let same : Json f ≡ Text g = one_fault name input (Json f) (Text g) first second in absurd (cc))
+one_input_refusal name input (BadJson f) (BadJson g) first second = (let same : Json f ≡ Json g = one_fault name input (Json f) (Json g) first second in cc)
+one_input_refusal name input (BadText f) Done first second = absurd second
+one_input_refusal name input (BadText f) (Marked edges) first second = absurd second
+one_input_refusal name input (BadText f) Usage first second = absurd second
+one_input_refusal name input (BadText f) ReadFault first second = absurd second
+one_input_refusal name input (BadText f) WriteFault first second = absurd second
+one_input_refusal name input (BadText f) TooLong first second = absurd second
+one_input_refusal name input (BadText f) NoMemory first second = absurd second
+one_input_refusal name input (BadText f) (NotValid mark) first second = absurd second
+one_input_refusal name input (BadJson f) Done first second = absurd second
+one_input_refusal name input (BadJson f) (Marked edges) first second = absurd second
+one_input_refusal name input (BadJson f) Usage first second = absurd second
+one_input_refusal name input (BadJson f) ReadFault first second = absurd second
+one_input_refusal name input (BadJson f) WriteFault first second = absurd second
+one_input_refusal name input (BadJson f) TooLong first second = absurd second
+one_input_refusal name input (BadJson f) NoMemory first second = absurd second
+one_input_refusal name input (BadJson f) (NotValid mark) first second = absurd second
+one_input_refusal name input _ p first second = absurd first
 
-text_refusal : (input : List ℕ) (o : Outcome) → RefusesText input o → IsTrue (is_refusal o)
-text_refusal input (BadText f) refuses = refl
-text_refusal input _ refuses = absurd refuses
+input_refusal : (name input : List ℕ) (o : Outcome) → RefusesInput name input o → IsTrue (is_refusal o)
+input_refusal name input (BadText f) refuses = refl
+input_refusal name input (BadJson f) refuses = refl
+input_refusal name input _ refuses = absurd refuses
 
--- a text that is read is not refused
-not_read_and_refused : (input : List ℕ) (P : List (List (List (List Coord))) → Type 0) (o : Outcome) → IsReadAnd input P → RefusesText input o → ⊥
-not_read_and_refused input P (BadText f) read refuses = read.faultless f refuses
-not_read_and_refused input P _ read refuses = absurd refuses
+-- an input that is read is not refused
+pub not_read_and_refused : (name input : List ℕ) (P : Reading → Type 0) (o : Outcome) → IsReadAnd name input P → RefusesInput name input o → ⊥
+not_read_and_refused name input P (BadText f) read refuses = read_faultless name input read.reading (Text f) read.reads refuses
+not_read_and_refused name input P (BadJson f) read refuses = read_faultless name input read.reading (Json f) read.reads refuses
+not_read_and_refused name input P _ read refuses = absurd refuses
 
 -- ---- coverages that are not valid
 
 -- a coverage that is not admitted is refused for its cause
-pub admit_refused : (e : AdmitError) (input : List ℕ) (members : Members) → Reads input members → HasNoFault input → IsRefusal members e → IsRefusedFor (RefusesUnion input) (outcome_of_refusal e)
-admit_refused (NotAdmitted coverage mark) input members reads faultless refusal = inr (inr (record { members = members; reads = reads; faultless = faultless; holds = (refusal.1, refusal.2) }))
-admit_refused (NoAdmitMemory coverage) input members reads faultless refusal = inl refl
+pub admit_refused : (e : AdmitError) (name input : List ℕ) (r : Reading) → IsRead name input r → IsRefusal r.members e → IsRefusedFor (RefusesInvalid name input) (outcome_of_refusal e)
+admit_refused (NotAdmitted coverage mark) name input r reads refusal = inr (inr (record { reading = r; reads = reads; holds = (refusal.1, refusal.2) }))
+admit_refused (NoAdmitMemory coverage) name input r reads refusal = inl refl
 
--- what refuses a text, refuses its union
-pub union_refused : (input : List ℕ) (o : Outcome) → IsRefusedFor (RefusesText input) o → IsRefusedFor (RefusesUnion input) o
-union_refused input o (inl none) = inl none
-union_refused input o (inr refuses) = inr (inl refuses)
+-- what refuses an input, refuses its union
+pub invalid_refused : (name input : List ℕ) (o : Outcome) → IsRefusedFor (RefusesInput name input) o → IsRefusedFor (RefusesInvalid name input) o
+invalid_refused name input o (inl none) = inl none
+invalid_refused name input o (inr refuses) = inr (inl refuses)
 
 -- a coverage tells one first mark
 one_mark : (members : Members) (o p : Outcome) → TellsMark members o → TellsMark members p → o ≡ p
@@ -76,35 +89,36 @@ one_mark members (NotValid m) ReadFault first second = absurd second
 one_mark members (NotValid m) WriteFault first second = absurd second
 one_mark members (NotValid m) TooLong first second = absurd second
 one_mark members (NotValid m) (BadText f) first second = absurd second
+one_mark members (NotValid m) (BadJson f) first second = absurd second
 one_mark members (NotValid m) NoMemory first second = absurd second
 one_mark members _ p first second = absurd first
 
-one_union_refusal : (input : List ℕ) (o p : Outcome) → RefusesUnion input o → RefusesUnion input p → o ≡ p
-one_union_refusal input o p (inl first) (inl second) = one_text_refusal input o p first second
-one_union_refusal input o p (inl first) (inr read) = absurd (not_read_and_refused input _ o read first)
-one_union_refusal input o p (inr read) (inl second) = absurd (not_read_and_refused input _ p read second)
-one_union_refusal input o p (inr read) (inr other) =
-    let same : other.members ≡ read.members = one_reading input other.members read.members other.reads read.reads in
-    one_mark read.members o p read.holds (subst (λ (ms : Members). TellsMark ms p) same other.holds)
+one_invalid_refusal : (name input : List ℕ) (o p : Outcome) → RefusesInvalid name input o → RefusesInvalid name input p → o ≡ p
+one_invalid_refusal name input o p (inl first) (inl second) = one_input_refusal name input o p first second
+one_invalid_refusal name input o p (inl first) (inr read) = absurd (not_read_and_refused name input _ o read first)
+one_invalid_refusal name input o p (inr read) (inl second) = absurd (not_read_and_refused name input _ p read second)
+one_invalid_refusal name input o p (inr read) (inr other) =
+    let same : other.reading ≡ read.reading = one_reading name input other.reading read.reading other.reads read.reads in
+    one_mark read.reading.members o p read.holds (subst (λ (r : Reading). TellsMark r.members p) same other.holds)
 
 mark_refusal : (members : Members) (o : Outcome) → TellsMark members o → IsTrue (is_refusal o)
 mark_refusal members (NotValid mark) tells = refl
 mark_refusal members _ tells = absurd tells
 
-union_refusal : (input : List ℕ) (o : Outcome) → RefusesUnion input o → IsTrue (is_refusal o)
-union_refusal input o (inl refuses) = text_refusal input o refuses
-union_refusal input o (inr read) = mark_refusal read.members o read.holds
+invalid_refusal : (name input : List ℕ) (o : Outcome) → RefusesInvalid name input o → IsTrue (is_refusal o)
+invalid_refusal name input o (inl refuses) = input_refusal name input o refuses
+invalid_refusal name input o (inr read) = mark_refusal read.reading.members o read.holds
 
 told_invalid : (members : Members) (o : Outcome) → TellsMark members o → ¬ IsValid (uses_of members)
 told_invalid members (NotValid mark) tells = tells.1
 told_invalid members _ tells = absurd tells
 
--- a coverage that is united is valid, so it is not refused
-not_united_and_refused : (input : List ℕ) (o p : Outcome) (text : List ℕ) → IsReadAnd input (λ members. IsUniting members o text) → RefusesUnion input p → ⊥
-not_united_and_refused input o p text read (inl refuses) = not_read_and_refused input _ p read refuses
-not_united_and_refused input o p text read (inr other) =
-    let same : other.members ≡ read.members = one_reading input other.members read.members other.reads read.reads in
-    told_invalid read.members p (subst (λ (ms : Members). TellsMark ms p) same other.holds) read.holds.admitted
+-- a coverage that is admitted is valid, so it is not refused
+not_admitted_and_refused : (name input : List ℕ) (P : Reading → Type 0) (p : Outcome) → ((r : Reading) → P r → IsValid (uses_of r.members)) → IsReadAnd name input P → RefusesInvalid name input p → ⊥
+not_admitted_and_refused name input P p valid read (inl refuses) = not_read_and_refused name input _ p read refuses
+not_admitted_and_refused name input P p valid read (inr other) =
+    let same : other.reading ≡ read.reading = one_reading name input other.reading read.reading other.reads read.reads in
+    told_invalid read.reading.members p (subst (λ (r : Reading). TellsMark r.members p) same other.holds) (valid read.reading read.holds)
 
 -- ---- operations
 
@@ -120,26 +134,29 @@ of_both (input ∷ []) P Q C follows first second = follows input first second
 of_both (input ∷ more ∷ rest) P Q C follows first second = absurd first
 
 pub one_refusal : (operation : Operation) (inputs : List (List ℕ)) (o p : Outcome) → Refuses operation inputs o → Refuses operation inputs p → o ≡ p
-one_refusal (Validate gap from to) inputs o p = of_both inputs _ _ (o ≡ p) (λ input. one_text_refusal input o p)
-one_refusal (Clean rule gap from to) inputs o p = of_both inputs _ _ (o ≡ p) (λ input. one_text_refusal input o p)
-one_refusal (Union from to) inputs o p = of_both inputs _ _ (o ≡ p) (λ input. one_union_refusal input o p)
-one_refusal (Node from to) inputs o p = of_both inputs _ _ (o ≡ p) (λ input. one_text_refusal input o p)
-one_refusal (Regions from to) inputs o p = of_both inputs _ _ (o ≡ p) (λ input. one_text_refusal input o p)
+one_refusal (Validate gap from to) inputs o p = of_both inputs _ _ (o ≡ p) (λ input. one_input_refusal from input o p)
+one_refusal (Clean rule gap from to) inputs o p = of_both inputs _ _ (o ≡ p) (λ input. one_input_refusal from input o p)
+one_refusal (Simplify tolerance inner from to) inputs o p = of_both inputs _ _ (o ≡ p) (λ input. one_invalid_refusal from input o p)
+one_refusal (Union from to) inputs o p = of_both inputs _ _ (o ≡ p) (λ input. one_invalid_refusal from input o p)
+one_refusal (Node from to) inputs o p = of_both inputs _ _ (o ≡ p) (λ input. one_input_refusal from input o p)
+one_refusal (Regions from to) inputs o p = of_both inputs _ _ (o ≡ p) (λ input. one_input_refusal from input o p)
 
 pub refuses_refusal : (operation : Operation) (inputs : List (List ℕ)) (o : Outcome) → Refuses operation inputs o → IsTrue (is_refusal o)
-refuses_refusal (Validate gap from to) inputs o = of_one inputs _ (IsTrue (is_refusal o)) (λ input. text_refusal input o)
-refuses_refusal (Clean rule gap from to) inputs o = of_one inputs _ (IsTrue (is_refusal o)) (λ input. text_refusal input o)
-refuses_refusal (Union from to) inputs o = of_one inputs _ (IsTrue (is_refusal o)) (λ input. union_refusal input o)
-refuses_refusal (Node from to) inputs o = of_one inputs _ (IsTrue (is_refusal o)) (λ input. text_refusal input o)
-refuses_refusal (Regions from to) inputs o = of_one inputs _ (IsTrue (is_refusal o)) (λ input. text_refusal input o)
+refuses_refusal (Validate gap from to) inputs o = of_one inputs _ (IsTrue (is_refusal o)) (λ input. input_refusal from input o)
+refuses_refusal (Clean rule gap from to) inputs o = of_one inputs _ (IsTrue (is_refusal o)) (λ input. input_refusal from input o)
+refuses_refusal (Simplify tolerance inner from to) inputs o = of_one inputs _ (IsTrue (is_refusal o)) (λ input. invalid_refusal from input o)
+refuses_refusal (Union from to) inputs o = of_one inputs _ (IsTrue (is_refusal o)) (λ input. invalid_refusal from input o)
+refuses_refusal (Node from to) inputs o = of_one inputs _ (IsTrue (is_refusal o)) (λ input. input_refusal from input o)
+refuses_refusal (Regions from to) inputs o = of_one inputs _ (IsTrue (is_refusal o)) (λ input. input_refusal from input o)
 
 -- of inputs that are refused no text is made
 pub not_both : (operation : Operation) (inputs : List (List ℕ)) (o p : Outcome) (text : List ℕ) → Makes operation inputs o text → Refuses operation inputs p → ⊥
-not_both (Validate gap from to) inputs o p text = of_both inputs _ _ ⊥ (λ input. not_read_and_refused input _ p)
-not_both (Clean rule gap from to) inputs o p text = of_both inputs _ _ ⊥ (λ input. not_read_and_refused input _ p)
-not_both (Union from to) inputs o p text = of_both inputs _ _ ⊥ (λ input. not_united_and_refused input o p text)
-not_both (Node from to) inputs o p text = of_both inputs _ _ ⊥ (λ input. not_read_and_refused input _ p)
-not_both (Regions from to) inputs o p text = of_both inputs _ _ ⊥ (λ input. not_read_and_refused input _ p)
+not_both (Validate gap from to) inputs o p text = of_both inputs _ _ ⊥ (λ input. not_read_and_refused from input _ p)
+not_both (Clean rule gap from to) inputs o p text = of_both inputs _ _ ⊥ (λ input. not_read_and_refused from input _ p)
+not_both (Simplify tolerance inner from to) inputs o p text = of_both inputs _ _ ⊥ (λ input. not_admitted_and_refused from input _ p (λ r simplifying. simplifying.admitted))
+not_both (Union from to) inputs o p text = of_both inputs _ _ ⊥ (λ input. not_admitted_and_refused from input _ p (λ r uniting. uniting.admitted))
+not_both (Node from to) inputs o p text = of_both inputs _ _ ⊥ (λ input. not_read_and_refused from input _ p)
+not_both (Regions from to) inputs o p text = of_both inputs _ _ ⊥ (λ input. not_read_and_refused from input _ p)
 
 marking_success : (edges : ℕ) → IsTrue (is_success (marking edges))
 marking_success zero = refl
@@ -149,6 +166,7 @@ marking_success (suc edges) = refl
 pub makes_success : (operation : Operation) (inputs : List (List ℕ)) (o : Outcome) (text : List ℕ) → Makes operation inputs o text → IsTrue (is_success o)
 makes_success (Validate gap from to) inputs o text = of_one inputs _ (IsTrue (is_success o)) (λ input makes. ap is_success makes.holds.counted ∙ marking_success _)
 makes_success (Clean rule gap from to) inputs o text = of_one inputs _ (IsTrue (is_success o)) (λ input makes. ap is_success makes.holds.done)
+makes_success (Simplify tolerance inner from to) inputs o text = of_one inputs _ (IsTrue (is_success o)) (λ input makes. ap is_success makes.holds.done)
 makes_success (Union from to) inputs o text = of_one inputs _ (IsTrue (is_success o)) (λ input makes. ap is_success makes.holds.done)
 makes_success (Node from to) inputs o text = of_one inputs _ (IsTrue (is_success o)) (λ input makes. ap is_success makes.holds.done)
 makes_success (Regions from to) inputs o text = of_one inputs _ (IsTrue (is_success o)) (λ input makes. ap is_success makes.holds.done)
@@ -157,6 +175,7 @@ makes_success (Regions from to) inputs o text = of_one inputs _ (IsTrue (is_succ
 pub makes_marked : (operation : Operation) (inputs : List (List ℕ)) (o : Outcome) (text : List ℕ) → Makes operation inputs o text → IsTrue (is_marked o) → IsTrue (is_validate operation)
 makes_marked (Validate gap from to) inputs o text makes marks = refl
 makes_marked (Clean rule gap from to) inputs o text makes marks = of_one inputs _ (IsTrue false) (λ input cleaning. sym (ap is_marked cleaning.holds.done) ∙ marks) makes
+makes_marked (Simplify tolerance inner from to) inputs o text makes marks = of_one inputs _ (IsTrue false) (λ input simplifying. sym (ap is_marked simplifying.holds.done) ∙ marks) makes
 makes_marked (Union from to) inputs o text makes marks = of_one inputs _ (IsTrue false) (λ input uniting. sym (ap is_marked uniting.holds.done) ∙ marks) makes
 makes_marked (Node from to) inputs o text makes marks = of_one inputs _ (IsTrue false) (λ input noding. sym (ap is_marked noding.holds.done) ∙ marks) makes
 makes_marked (Regions from to) inputs o text makes marks = of_one inputs _ (IsTrue false) (λ input listing. sym (ap is_marked listing.holds.done) ∙ marks) makes
@@ -169,6 +188,7 @@ marking_some (suc edges) h = cc
 pub makes_some : (operation : Operation) (inputs : List (List ℕ)) (o : Outcome) (text : List ℕ) → Makes operation inputs o text → o ≢ Marked 0
 makes_some (Validate gap from to) inputs o text makes h = of_one inputs _ ⊥ (λ input valid. marking_some _ (sym valid.holds.counted ∙ h)) makes
 makes_some (Clean rule gap from to) inputs o text makes h = of_one inputs _ ⊥ (λ input cleaning. (let e : Done ≡ Marked 0 = sym cleaning.holds.done ∙ h in cc)) makes
+makes_some (Simplify tolerance inner from to) inputs o text makes h = of_one inputs _ ⊥ (λ input simplifying. (let e : Done ≡ Marked 0 = sym simplifying.holds.done ∙ h in cc)) makes
 makes_some (Union from to) inputs o text makes h = of_one inputs _ ⊥ (λ input uniting. (let e : Done ≡ Marked 0 = sym uniting.holds.done ∙ h in cc)) makes
 makes_some (Node from to) inputs o text makes h = of_one inputs _ ⊥ (λ input noding. (let e : Done ≡ Marked 0 = sym noding.holds.done ∙ h in cc)) makes
 makes_some (Regions from to) inputs o text makes h = of_one inputs _ ⊥ (λ input listing. (let e : Done ≡ Marked 0 = sym listing.holds.done ∙ h in cc)) makes
@@ -187,6 +207,7 @@ refusal_no_success _ refusal = refl
 -- a refusal of what was read touches no output, and a success does
 pub refusal_no_touch : (o : Outcome) → IsTrue (is_refusal o) → touches_output o ≡ false
 refusal_no_touch (BadText fault) refusal = refl
+refusal_no_touch (BadJson fault) refusal = refl
 refusal_no_touch _ refusal = cc
 
 pub success_touches : (o : Outcome) → IsTrue (is_success o) → IsTrue (touches_output o)
@@ -200,6 +221,7 @@ marked_success _ marks = cc
 
 pub success_no_refusal : (o : Outcome) → IsTrue (is_success o) → is_refusal o ≡ false
 success_no_refusal (BadText fault) success = cc
+success_no_refusal (BadJson fault) success = cc
 success_no_refusal (NotValid mark) success = cc
 success_no_refusal _ success = refl
 

@@ -7,12 +7,12 @@ use Rattle.cov_io.specs.Count.{Rose}
 use Rattle.cov_io.specs.State.{State}
 use Rattle.cover_cli.proofs.Causes.{not_both, differs}
 use Rattle.cover_cli.proofs.OneText.{one_text}
-use Rattle.cover_cli.specs.Answers.{is_success, is_refusal, MayWrite, HoldsCause, HoldsNoCause, FitsRoom, IsUnlessEarlier, IsSuccessUnlessFault, IsAnswer}
+use Rattle.cover_cli.specs.Answers.{is_success, is_refusal, HasOneText, MayWrite, HoldsCause, HoldsNoCause, FitsRoom, IsUnlessEarlier, IsSuccessUnlessFault, IsAnswer}
 use Rattle.cover_cli.specs.Input.{HoldsTooMuch, AreInputs}
 use Rattle.cover_cli.specs.Laws.{is_settled, HoldAlike}
-use Rattle.cover_cli.specs.Words.{Operation, inputs_of, output_of}
+use Rattle.cover_words.specs.Words.{Operation, inputs_of, output_of}
 use Rattle.cover_cli.specs.declared.outcome.Outcome.{Outcome}
-use Rattle.cover_cli.specs.declared.outcome.Outcome.TheVariants.{Done, Marked, Usage, ReadFault, WriteFault, TooLong, BadText, NotValid, NoMemory}
+use Rattle.cover_cli.specs.declared.outcome.Outcome.TheVariants.{Done, Marked, Usage, ReadFault, WriteFault, TooLong, BadText, BadJson, NotValid, NoMemory}
 
 -- ---- files that hold the same
 
@@ -31,6 +31,10 @@ long_again : (s t : State) (names : List (List ℕ)) → All (λ name. s.files n
 long_again s t names alike (k, name, within, at, long) =
     let same : s.files name ≡ t.files name = subst (λ (n : List ℕ). s.files n ≡ t.files n) at (alike k name within) in
     (k, name, within, at, record { bytes = long.bytes; file = sym same ∙ long.file; longer = long.longer })
+
+-- and the other way round
+alike_back : (operation : Operation) (s t : State) → HoldAlike operation s t → HoldAlike operation t s
+alike_back operation s t alike k name within = sym (alike k name within)
 
 writes_again : (operation : Operation) (s t : State) (o : Outcome) (text : List ℕ) → HoldAlike operation s t → MayWrite operation s o text → MayWrite operation t o text
 writes_again operation s t o text alike writes = record {
@@ -70,14 +74,14 @@ as_success answer settled (inr (inr (inr none))) = absurd (differs is_settled an
 -- ---- two runs
 
 module _ (operation : Operation) (s s_after t t_after : State) (told : IsTrue s.tells_files) (told_too : IsTrue t.tells_files) (alike : HoldAlike operation s t) where
-  after_success : (o p : Outcome) → IsAnswer operation s s_after o → IsAnswer operation t t_after p → IsTrue (is_success o) → IsTrue (is_settled p) → (o ≡ p) × (IsTrue (is_success o) → s_after.files (output_of operation) ≡ t_after.files (output_of operation))
+  after_success : (o p : Outcome) → IsAnswer operation s s_after o → IsAnswer operation t t_after p → IsTrue (is_success o) → IsTrue (is_settled p) → (o ≡ p) × (HasOneText operation s → IsTrue (is_success o) → s_after.files (output_of operation) ≡ t_after.files (output_of operation))
   after_success o p first second ok settled =
       let held = first.written told ok in
       let writes = writes_again operation s t o held.text alike held.writes in
       let ok_too = as_success p settled (second.good told_too (no_cause_beside operation t o held.text writes)) in
       let held_too = second.written told_too ok_too in
-      let same = one_text operation t o p held.text held_too.text writes held_too.writes in
-      (same.0, λ success. held.held.here ∙ ap Some same.1 ∙ sym held_too.held.here)
+      let same = one_text operation s o p held.text held_too.text held.writes (writes_again operation t s p held_too.text (alike_back operation s t alike) held_too.writes) in
+      (same.0, λ one success. held.held.here ∙ ap Some (same.1 one) ∙ sym held_too.held.here)
 
   after_refusal : (o p : Outcome) → IsAnswer operation s s_after o → IsAnswer operation t t_after p → IsTrue (is_refusal o) → IsTrue (is_settled p) → o ≡ p
   after_refusal o p first second refusal settled =
@@ -87,20 +91,21 @@ module _ (operation : Operation) (s s_after t t_after : State) (told : IsTrue s.
   after_long p first second settled =
       sym (as_expected TooLong p settled (second.long told_too (long_again s t (inputs_of operation) alike (first.too_long told refl))))
 
-  one_answer_told : (o p : Outcome) → IsAnswer operation s s_after o → IsAnswer operation t t_after p → IsTrue (is_settled o) → IsTrue (is_settled p) → (o ≡ p) × (IsTrue (is_success o) → s_after.files (output_of operation) ≡ t_after.files (output_of operation))
+  one_answer_told : (o p : Outcome) → IsAnswer operation s s_after o → IsAnswer operation t t_after p → IsTrue (is_settled o) → IsTrue (is_settled p) → (o ≡ p) × (HasOneText operation s → IsTrue (is_success o) → s_after.files (output_of operation) ≡ t_after.files (output_of operation))
   one_answer_told Done p first second settled settled_too = after_success Done p first second refl settled_too
   one_answer_told (Marked edges) p first second settled settled_too = after_success (Marked edges) p first second refl settled_too
   one_answer_told Usage p first second settled settled_too = absurd (first.usage refl)
   one_answer_told ReadFault p first second settled settled_too = absurd (differs is_settled ReadFault ReadFault settled refl refl)
   one_answer_told WriteFault p first second settled settled_too = absurd (differs is_settled WriteFault WriteFault settled refl refl)
-  one_answer_told TooLong p first second settled settled_too = (after_long p first second settled_too, λ success. cc)
-  one_answer_told (BadText fault) p first second settled settled_too = (after_refusal (BadText fault) p first second refl settled_too, λ success. cc)
-  one_answer_told (NotValid mark) p first second settled settled_too = (after_refusal (NotValid mark) p first second refl settled_too, λ success. cc)
+  one_answer_told TooLong p first second settled settled_too = (after_long p first second settled_too, λ one success. cc)
+  one_answer_told (BadText fault) p first second settled settled_too = (after_refusal (BadText fault) p first second refl settled_too, λ one success. cc)
+  one_answer_told (BadJson fault) p first second settled settled_too = (after_refusal (BadJson fault) p first second refl settled_too, λ one success. cc)
+  one_answer_told (NotValid mark) p first second settled settled_too = (after_refusal (NotValid mark) p first second refl settled_too, λ one success. cc)
   one_answer_told NoMemory p first second settled settled_too = absurd (differs is_settled NoMemory NoMemory settled refl refl)
 
 pub one_answer : (operation : Operation) (s s_after t t_after : State) (o p : Outcome) → IsTrue s.tells_files → IsTrue t.tells_files → HoldAlike operation s t
     → IsAnswer operation s s_after o → IsAnswer operation t t_after p → IsTrue (is_settled o) → IsTrue (is_settled p)
-    → (o ≡ p) × (IsTrue (is_success o) → s_after.files (output_of operation) ≡ t_after.files (output_of operation))
+    → (o ≡ p) × (HasOneText operation s → IsTrue (is_success o) → s_after.files (output_of operation) ≡ t_after.files (output_of operation))
 one_answer operation s s_after t t_after o p told told_too alike = one_answer_told operation s s_after t t_after told told_too alike o p
 
 -- ---- completeness

@@ -1,5 +1,7 @@
 -- An operation makes one text of its inputs.
-use Rattle.std.proofs.Common.{◌≡◌, ℕ, ◌≤◌, ◌∷◌, List, [], length, refl, sym, ap, subst, ◌∙◌, inl, inr, Option, Some, None}
+use Rattle.std.proofs.Common.{◌≡◌, ℕ, ◌≤◌, ◌∷◌, List, [], length, Bool, true, false, ◌&&◌, ◌⊎◌, refl, sym, ap, subst, ◌∙◌, inl, inr, Option, Some, None}
+use Rattle.std.specs.Prelude.{All}
+use Rattle.std.proofs.lemmas.List.Elements.{All-head}
 use Rattle.std.specs.List.{AllZip, concat}
 use Rattle.arrangement.proofs.OneNoding.{one_noding}
 use Rattle.arrangement.proofs.OneOverlay.{one_snapped_overlay}
@@ -9,42 +11,48 @@ use Rattle.arrangement.specs.Overlay.{Overlay, region_numbers, label_of}
 use Rattle.arrangement.specs.declared.odd_use.OddUse.{OddUse}
 use Rattle.cov_io.specs.State.{State}
 use Rattle.cov_types.proofs.AllUses.{uses-in_range}
-use Rattle.cov_types.specs.Coverage.{AllInRange}
+use Rattle.cov_types.specs.Coverage.{Members, AllInRange}
 use Rattle.cov_types.specs.Uses.{uses_of}
 use Rattle.cov_types.specs.declared.coord.Coord.{Coord}
 use Rattle.cov_types.specs.declared.seg.Seg.{Seg}
-use Rattle.cov_valid.proofs.Unique.{AreMarks-unique}
+use Rattle.cov_marks.proofs.GapMarks.{one_marks}
 use Rattle.cov_valid.specs.declared.mark.Mark.{Mark}
 use Rattle.cov_write.specs.Rows.{inner_row}
-use Rattle.cov_write.specs.Written.{lines_text, coverage_text}
+use Rattle.cov_write.specs.Written.{lines_text}
 use Rattle.region_owners.proofs.Clearances.{clearance_unique}
 use Rattle.sound_polygons.proofs.OneCleaned.{one_cleaned}
-use Rattle.geo_text.proofs.Formed.{read_formed}
-use Rattle.geo_text.proofs.OneReading.{one_reading}
+use Rattle.feature_files.proofs.Files.{one_reading, read_formed}
+use Rattle.feature_files.proofs.Forms.{one_form, one_text_form, bare_exact}
+use Rattle.feature_files.specs.Form.{IsWrittenAs, HasNoFloat}
+use Rattle.feature_files.specs.Name.{is_json}
+use Rattle.feature_files.specs.Reading.{bare, with_members, IsReadBy, IsRead}
+use Rattle.geo_json.specs.Reading.{Reading}
 use Rattle.cover_cli.proofs.Causes.{one_refusal, not_both}
 use Rattle.cover_cli.proofs.Inputs.{same_inputs}
-use Rattle.cover_cli.specs.Answers.{MayWrite, HoldsCause}
+use Rattle.cover_cli.specs.Answers.{HoldsNoFloat, HasOneText, MayWrite, HoldsCause}
 use Rattle.cover_cli.specs.Clean.{rule_of, IsCleaning}
-use Rattle.cover_cli.specs.Input.{AreInputs}
+use Rattle.cover_cli.specs.Input.{Holds, AreInputs}
 use Rattle.geo_text.specs.declared.reader.TheConstants.{LONGEST_INPUT}
 use Rattle.cover_cli.specs.Lines.{member_lists, marked_uses}
 use Rattle.cover_cli.specs.Made.{IsOneAnd, Makes, Refuses}
 use Rattle.cover_cli.specs.Node.{IsNoding}
+use Rattle.cover_cli.specs.Simplify.{IsSimplifying}
+use Rattle.greedy_run.proofs.OneRun.{one_simplified}
 use Rattle.cover_cli.specs.Regions.{IsClearanceTold, IsRow, AreRows, IsRegionList}
 use Rattle.cover_cli.specs.Text.{IsReadAnd}
 use Rattle.cov_union.proofs.OneUnited.{one_united}
 use Rattle.cover_cli.specs.Union.{IsUniting}
 use Rattle.cover_cli.specs.Validate.{marking, IsValidation}
-use Rattle.cover_cli.specs.Words.{Operation, Validate, Clean, Union, Node, Regions, inputs_of}
+use Rattle.cover_words.specs.Words.{Operation, Validate, Clean, Simplify, Union, Node, Regions, inputs_of}
 use Rattle.cover_cli.specs.declared.outcome.Outcome.{Outcome}
-use Rattle.cover_cli.specs.declared.rule_name.RuleName.{RuleName}
+use Rattle.cover_words.specs.declared.rule_name.RuleName.{RuleName}
 use Rattle.merge_rule.specs.RuleState.{no_state}
 
 -- ---- what is made of a coverage
 
 one_validation : (gap : ℕ) (members : List (List (List (List Coord)))) (o p : Outcome) (text other : List ℕ) → IsValidation gap members o text → IsValidation gap members p other → (o ≡ p) × (text ≡ other)
 one_validation gap members o p text other v w =
-    let same : v.marks ≡ w.marks = AreMarks-unique (uses_of members) (length members) gap v.marks w.marks v.marked w.marked in
+    let same : v.marks ≡ w.marks = one_marks (uses_of members) (length members) gap v.marks w.marks v.marked w.marked in
     let listing : List Mark → List ℕ = λ marks. lines_text (member_lists (marked_uses (uses_of members) marks) members) in
     (v.counted ∙ ap (λ (marks : List Mark). marking (length marks)) same ∙ sym w.counted, v.lines ∙ ap listing same ∙ sym w.lines)
 
@@ -54,15 +62,31 @@ one_node members o p text other in_range v w =
     let listing : List Seg → List OddUse → List ℕ = λ edges odd. lines_text (edges ∷ member_lists (odd_uses edges odd) members) in
     (v.done ∙ sym w.done, v.lines ∙ (λ i. listing (same.0 i) (same.1 i)) ∙ sym w.lines)
 
-one_cleaning : (rule : RuleName) (gap : ℕ) (members : List (List (List (List Coord)))) (o p : Outcome) (text other : List ℕ) → AllInRange members → IsCleaning rule gap members o text → IsCleaning rule gap members p other → (o ≡ p) × (text ≡ other)
-one_cleaning rule gap members o p text other in_range v w =
-    let same : v.out ≡ w.out = one_cleaned members in_range (rule_of rule) no_state gap v.out w.out v.cleaned w.cleaned in
-    (v.done ∙ sym w.done, v.lines ∙ ap coverage_text same ∙ sym w.lines)
+-- the form of features beside these members has determined bytes: it is text, or no float is kept
+abbrev IsExactAs : List ℕ → Reading → Type 0
+IsExactAs to r = (is_json to ≡ false) ⊎ HasNoFloat r
 
-one_uniting : (members : List (List (List (List Coord)))) (o p : Outcome) (text other : List ℕ) → AllInRange members → IsUniting members o text → IsUniting members p other → (o ≡ p) × (text ≡ other)
-one_uniting members o p text other in_range v w =
+one_as : (to : List ℕ) (r : Reading) (v w : Members) (text other : List ℕ) → v ≡ w → IsWrittenAs to (with_members r v) text → IsWrittenAs to (with_members r w) other → IsExactAs to r → text ≡ other
+one_as to r v w text other same written again (inl is_text) = one_text_form to (with_members r w) text other is_text (subst (λ (ms : Members). IsWrittenAs to (with_members r ms) text) same written) again
+one_as to r v w text other same written again (inr free) =
+    one_form to (with_members r w) text other (record { properties = free.properties; ids = free.ids }) (subst (λ (ms : Members). IsWrittenAs to (with_members r ms) text) same written) again
+
+one_cleaning : (rule : RuleName) (gap : ℕ) (to : List ℕ) (r : Reading) (o p : Outcome) (text other : List ℕ) → AllInRange r.members → IsCleaning rule gap to r o text → IsCleaning rule gap to r p other
+    → (o ≡ p) × (IsExactAs to r → text ≡ other)
+one_cleaning rule gap to r o p text other in_range v w =
+    let same : v.out ≡ w.out = one_cleaned r.members in_range (rule_of rule) no_state gap v.out w.out v.cleaned w.cleaned in
+    (v.done ∙ sym w.done, one_as to r v.out w.out text other same v.written w.written)
+
+one_simplifying : (tolerance : ℕ) (inner : Bool) (to : List ℕ) (r : Reading) (o p : Outcome) (text other : List ℕ) → IsSimplifying tolerance inner to r o text → IsSimplifying tolerance inner to r p other
+    → (o ≡ p) × (IsExactAs to r → text ≡ other)
+one_simplifying tolerance inner to r o p text other v w =
+    let same : v.out ≡ w.out = one_simplified r.members tolerance inner v.out w.out v.simplified w.simplified in
+    (v.done ∙ sym w.done, one_as to r v.out w.out text other same v.written w.written)
+
+one_uniting : (to : List ℕ) (members : List (List (List (List Coord)))) (o p : Outcome) (text other : List ℕ) → AllInRange members → IsUniting to members o text → IsUniting to members p other → (o ≡ p) × (text ≡ other)
+one_uniting to members o p text other in_range v w =
     let same : v.out ≡ w.out = one_united members in_range v.admitted v.out w.out v.united w.united in
-    (v.done ∙ sym w.done, v.lines ∙ ap coverage_text same ∙ sym w.lines)
+    (v.done ∙ sym w.done, one_form to (bare w.out) text other (bare_exact w.out) (subst (λ (ms : Members). IsWrittenAs to (bare ms) text) same v.written) w.written)
 
 -- a region has one clearance to tell
 one_told : (o : Overlay) (r : ℕ) (first second : Option ℕ) → IsClearanceTold o r first → IsClearanceTold o r second → first ≡ second
@@ -94,43 +118,74 @@ one_region_list members o p text other in_range v w =
     let lines : rows.rows ≡ w.rows.rows = one_rows w.overlay (region_numbers w.overlay) rows.rows w.rows.rows rows.each w.rows.each in
     (v.done ∙ sym w.done, rows.lines ∙ ap concat lines ∙ sym w.rows.lines)
 
+-- ---- properties and ids that are kept
+
+-- what is read of text has no float
+text_exact : (name input : List ℕ) (r : Reading) → is_json name ≡ false → IsRead name input r → HasNoFloat r
+text_exact name input r is_text reads =
+    let read = subst (λ (json : Bool). IsReadBy json input r) is_text reads in
+    subst HasNoFloat (sym read.is_bare) (bare_exact r.members)
+
+-- properties and ids of GeoJSON that are not kept as GeoJSON
+exact_by : (from to input : List ℕ) (r : Reading) (first second : Bool) → is_json from ≡ first → is_json to ≡ second → IsRead from input r → (first && second) ≡ false → IsExactAs to r
+exact_by from to input r false second is_from is_to reads not = inr (text_exact from input r is_from reads)
+exact_by from to input r true false is_from is_to reads not = inl is_to
+exact_by from to input r true true is_from is_to reads not = absurd (cc)
+
+-- where all bytes are determined, so are those of the features
+exact_as : (s : State) (from to input : List ℕ) (r : Reading) → Holds s from input → IsRead from input r → ((is_json from && is_json to) ≡ false) ⊎ All (HoldsNoFloat s) (from ∷ []) → IsExactAs to r
+exact_as s from to input r holds reads (inl not) = exact_by from to input r (is_json from) (is_json to) refl refl reads not
+exact_as s from to input r holds reads (inr all) = inr (All-head (HoldsNoFloat s) from [] all input r holds.file reads)
+
 -- ---- what is made of inputs
 
--- what follows for one coverage, follows for an input that is read as one
-of_reading : (P Q : List (List (List (List Coord))) → Type 0) (C : Type 0) → ((members : List (List (List (List Coord)))) → AllInRange members → P members → Q members → C)
-    → (input : List ℕ) → length input ≤ LONGEST_INPUT → IsReadAnd input P → IsReadAnd input Q → C
-of_reading P Q C follows input within first second =
-    let same : first.members ≡ second.members = one_reading input first.members second.members first.reads second.reads in
-    let formed = read_formed input second.members within second.reads second.faultless in
-    follows second.members formed.in_range (subst P same first.holds) second.holds
+-- what follows for one reading, follows for an input that is read as one
+of_reading : (name : List ℕ) (P Q : Reading → Type 0) (C : Type 0) (input : List ℕ) → ((r : Reading) → AllInRange r.members → IsRead name input r → P r → Q r → C)
+    → length input ≤ LONGEST_INPUT → IsReadAnd name input P → IsReadAnd name input Q → C
+of_reading name P Q C input follows within first second =
+    let same : first.reading ≡ second.reading = one_reading name input first.reading second.reading first.reads second.reads in
+    let formed = read_formed name input second.reading within second.reads in
+    follows second.reading formed.in_range second.reads (subst P same first.holds) second.holds
 
 -- what follows for one input, follows for the inputs where there is one
-of_inputs : (s : State) (names inputs : List (List ℕ)) (P Q : List ℕ → Type 0) (C : Type 0) → ((input : List ℕ) → length input ≤ LONGEST_INPUT → P input → Q input → C)
-    → AreInputs s names inputs → IsOneAnd inputs P → IsOneAnd inputs Q → C
-of_inputs s names [] P Q C follows are first second = absurd first
-of_inputs s [] (input ∷ []) P Q C follows are first second = absurd are
-of_inputs s (name ∷ names) (input ∷ []) P Q C follows are first second = follows input are.0.within first second
-of_inputs s names (input ∷ more ∷ rest) P Q C follows are first second = absurd first
+of_inputs : (s : State) (name : List ℕ) (inputs : List (List ℕ)) (P Q : Reading → Type 0) (C : Type 0) → ((input : List ℕ) (r : Reading) → Holds s name input → AllInRange r.members → IsRead name input r → P r → Q r → C)
+    → AreInputs s (name ∷ []) inputs → IsOneAnd inputs (λ input. IsReadAnd name input P) → IsOneAnd inputs (λ input. IsReadAnd name input Q) → C
+of_inputs s name [] P Q C follows are first second = absurd first
+of_inputs s name (input ∷ []) P Q C follows are first second = of_reading name P Q C input (λ r. follows input r are.0) are.0.within first second
+of_inputs s name (input ∷ more ∷ rest) P Q C follows are first second = absurd first
 
-one_made : (operation : Operation) (s : State) (names inputs : List (List ℕ)) (o p : Outcome) (text other : List ℕ) → AreInputs s names inputs
-    → Makes operation inputs o text → Makes operation inputs p other → (o ≡ p) × (text ≡ other)
-one_made (Validate gap from to) s names inputs o p text other =
-    of_inputs s names inputs _ _ ((o ≡ p) × (text ≡ other)) (of_reading _ _ ((o ≡ p) × (text ≡ other)) (λ members in_range. one_validation gap members o p text other))
-one_made (Clean rule gap from to) s names inputs o p text other =
-    of_inputs s names inputs _ _ ((o ≡ p) × (text ≡ other)) (of_reading _ _ ((o ≡ p) × (text ≡ other)) (λ members in_range. one_cleaning rule gap members o p text other in_range))
-one_made (Union from to) s names inputs o p text other =
-    of_inputs s names inputs _ _ ((o ≡ p) × (text ≡ other)) (of_reading _ _ ((o ≡ p) × (text ≡ other)) (λ members in_range. one_uniting members o p text other in_range))
-one_made (Node from to) s names inputs o p text other =
-    of_inputs s names inputs _ _ ((o ≡ p) × (text ≡ other)) (of_reading _ _ ((o ≡ p) × (text ≡ other)) (λ members in_range. one_node members o p text other in_range))
-one_made (Regions from to) s names inputs o p text other =
-    of_inputs s names inputs _ _ ((o ≡ p) × (text ≡ other)) (of_reading _ _ ((o ≡ p) × (text ≡ other)) (λ members in_range. one_region_list members o p text other in_range))
+-- one success, and one text where it is determined
+abbrev IsOne : Operation → State → Outcome → Outcome → List ℕ → List ℕ → Type 0
+IsOne operation s o p text other = (o ≡ p) × (HasOneText operation s → text ≡ other)
+
+one_made : (operation : Operation) (s : State) (inputs : List (List ℕ)) (o p : Outcome) (text other : List ℕ) → AreInputs s (inputs_of operation) inputs
+    → Makes operation inputs o text → Makes operation inputs p other → IsOne operation s o p text other
+one_made (Validate gap from to) s inputs o p text other =
+    of_inputs s from inputs (λ r. IsValidation gap r.members o text) (λ r. IsValidation gap r.members p other) (IsOne (Validate gap from to) s o p text other)
+    (λ input r holds in_range reads v w. (let one = one_validation gap r.members o p text other v w in (one.0, λ determined. one.1)))
+one_made (Clean rule gap from to) s inputs o p text other =
+    of_inputs s from inputs (λ r. IsCleaning rule gap to r o text) (λ r. IsCleaning rule gap to r p other) (IsOne (Clean rule gap from to) s o p text other)
+    (λ input r holds in_range reads v w. (let one = one_cleaning rule gap to r o p text other in_range v w in (one.0, λ determined. one.1 (exact_as s from to input r holds reads determined))))
+one_made (Simplify tolerance inner from to) s inputs o p text other =
+    of_inputs s from inputs (λ r. IsSimplifying tolerance inner to r o text) (λ r. IsSimplifying tolerance inner to r p other) (IsOne (Simplify tolerance inner from to) s o p text other)
+    (λ input r holds in_range reads v w. (let one = one_simplifying tolerance inner to r o p text other v w in (one.0, λ determined. one.1 (exact_as s from to input r holds reads determined))))
+one_made (Union from to) s inputs o p text other =
+    of_inputs s from inputs (λ r. IsUniting to r.members o text) (λ r. IsUniting to r.members p other) (IsOne (Union from to) s o p text other)
+    (λ input r holds in_range reads v w. (let one = one_uniting to r.members o p text other in_range v w in (one.0, λ determined. one.1)))
+one_made (Node from to) s inputs o p text other =
+    of_inputs s from inputs (λ r. IsNoding r.members o text) (λ r. IsNoding r.members p other) (IsOne (Node from to) s o p text other)
+    (λ input r holds in_range reads v w. (let one = one_node r.members o p text other in_range v w in (one.0, λ determined. one.1)))
+one_made (Regions from to) s inputs o p text other =
+    of_inputs s from inputs (λ r. IsRegionList r.members o text) (λ r. IsRegionList r.members p other) (IsOne (Regions from to) s o p text other)
+    (λ input r holds in_range reads v w. (let one = one_region_list r.members o p text other in_range v w in (one.0, λ determined. one.1)))
 
 -- ---- what the files hold
 
-pub one_text : (operation : Operation) (s : State) (o p : Outcome) (text other : List ℕ) → MayWrite operation s o text → MayWrite operation s p other → (o ≡ p) × (text ≡ other)
+pub one_text : (operation : Operation) (s : State) (o p : Outcome) (text other : List ℕ) → MayWrite operation s o text → MayWrite operation s p other
+    → (o ≡ p) × (HasOneText operation s → text ≡ other)
 one_text operation s o p text other first second =
     let same : first.inputs ≡ second.inputs = same_inputs s (inputs_of operation) first.inputs second.inputs first.read second.read in
-    one_made operation s (inputs_of operation) second.inputs o p text other second.read (subst (λ (is : List (List ℕ)). Makes operation is o text) same first.makes) second.makes
+    one_made operation s second.inputs o p text other second.read (subst (λ (is : List (List ℕ)). Makes operation is o text) same first.makes) second.makes
 
 pub one_cause : (operation : Operation) (s : State) (o p : Outcome) → HoldsCause operation s o → HoldsCause operation s p → o ≡ p
 one_cause operation s o p first second =

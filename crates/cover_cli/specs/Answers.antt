@@ -1,14 +1,23 @@
 -- When the answers of `cover` come, and what they leave.
-use Rattle.std.specs.Prelude.{◌≡◌, ◌≢◌, ℕ, ◌≤◌, Bool, true, false, List, length, IsTrue, ◌⊎◌, All, Any}
+use Rattle.std.specs.Prelude.{◌≡◌, ◌≢◌, ℕ, ◌≤◌, Bool, true, false, ◌&&◌, List, length, Some, IsTrue, ◌⊎◌, All, Any}
 use Rattle.cov_io.specs.Calls.{IsPromised}
 use Rattle.cov_io.specs.Contents.{SameFiles, HoldsNow, HoldsPrefix}
 use Rattle.cov_io.specs.Count.{Rose}
 use Rattle.cov_io.specs.State.{State}
 use Rattle.cover_cli.specs.declared.outcome.Outcome.{Outcome}
-use Rattle.cover_cli.specs.declared.outcome.Outcome.TheVariants.{Done, Marked, Usage, ReadFault, WriteFault, TooLong, BadText, NotValid, NoMemory}
+use Rattle.cover_cli.specs.declared.outcome.Outcome.TheVariants.{Done, Marked, Usage, ReadFault, WriteFault, TooLong, BadText, BadJson, NotValid, NoMemory}
 use Rattle.cover_cli.specs.Input.{HoldsTooMuch, AreInputs}
 use Rattle.cover_cli.specs.Made.{Makes, Refuses}
-use Rattle.cover_cli.specs.Words.{Operation, is_validate, inputs_of, output_of}
+use Rattle.cover_words.specs.Words.{Operation, Validate, Clean, Simplify, inputs_of, output_of}
+use Rattle.feature_files.specs.Form.{HasNoFloat}
+use Rattle.feature_files.specs.Name.{is_json}
+use Rattle.feature_files.specs.Reading.{IsRead}
+use Rattle.geo_json.specs.Reading.{Reading}
+
+-- whether the operation looks for segments at fault
+abbrev pub is_validate : Operation → Bool
+is_validate (Validate gap from to) = true
+is_validate _ = false
 
 -- ---- the kinds of answers
 
@@ -21,6 +30,7 @@ is_success _ = false
 -- the inputs were read, and refused
 abbrev pub is_refusal : Outcome → Bool
 is_refusal (BadText fault) = true
+is_refusal (BadJson fault) = true
 is_refusal (NotValid mark) = true
 is_refusal _ = false
 
@@ -42,9 +52,24 @@ pub record MayWrite (operation : Operation) (s : State) (outcome : Outcome) (tex
   pub read : AreInputs s (inputs_of operation) inputs
   pub makes : Makes operation inputs outcome text
 
--- no other text may be written on what the files hold, and no other success answered
+-- the operation writes the properties and ids that it read: clean and simplify, from GeoJSON to GeoJSON
+abbrev pub keeps_properties : Operation → Bool
+keeps_properties (Clean rule gap from to) = is_json from && is_json to
+keeps_properties (Simplify tolerance inner from to) = is_json from && is_json to
+keeps_properties _ = false
+
+-- no property and no id that is read of this file has a number that serde_json holds as a float
+abbrev pub HoldsNoFloat : State → List ℕ → Type 0
+HoldsNoFloat s name = (input : List ℕ) (r : Reading) → s.files name ≡ Some input → IsRead name input r → HasNoFloat r
+
+-- each byte that the operation may write is determined: it writes no properties and ids that it read, or they have no float
+abbrev pub HasOneText : Operation → State → Type 0
+HasOneText operation s = (keeps_properties operation ≡ false) ⊎ All (HoldsNoFloat s) (inputs_of operation)
+
+-- no other success may be answered on what the files hold, and no other text written but for the digits of floats
 abbrev pub IsOnlyText : Operation → State → Outcome → List ℕ → Type 0
-IsOnlyText operation s outcome text = (other_outcome : Outcome) (other : List ℕ) → MayWrite operation s other_outcome other → (other_outcome ≡ outcome) × (other ≡ text)
+IsOnlyText operation s outcome text =
+    (other_outcome : Outcome) (other : List ℕ) → MayWrite operation s other_outcome other → (other_outcome ≡ outcome) × (HasOneText operation s → other ≡ text)
 
 -- what the files hold is a cause for the operation to refuse it with this outcome
 pub record HoldsCause (operation : Operation) (s : State) (refusal : Outcome) : Type 0 where
@@ -60,14 +85,14 @@ pub record HoldsNoCause (operation : Operation) (s : State) : Type 0 where
 
 -- ---- what the files hold afterwards
 
--- the output holds the operation's whole text, the only one that it may write, and every other file is as it was
+-- the output holds the operation's whole text, the only one that it may write but for digits of floats, and every other file is as it was
 pub record HoldsText (operation : Operation) (old new : State) (outcome : Outcome) : Type 0 where
   pub text : List ℕ
   pub writes : MayWrite operation old outcome text
   pub only : IsOnlyText operation old outcome text
   pub held : HoldsNow (output_of operation) text old.files new.files
 
--- the output is as before or holds the first bytes of the only text that the operation may write, and every other file is as it was
+-- the output is as before or holds the first bytes of such a text, and every other file is as it was
 pub record HoldsPart (operation : Operation) (old new : State) : Type 0 where
   pub outcome : Outcome
   pub text : List ℕ

@@ -14,41 +14,41 @@ use Rattle.sound_polygons.specs.Cleaned.{IsCleaned}
 use Rattle.cleaned_laws.specs.HeldByLabel.{IsHeldByLabel}
 use Rattle.cov_io.specs.Contents.{HoldsNow}
 use Rattle.cov_io.specs.State.{State}
-use Rattle.cov_write.specs.Written.{coverage_text}
-use Rattle.geo_text.specs.Fault.{HasNoFault}
-use Rattle.geo_text.specs.Reading.{Reads}
+use Rattle.feature_files.specs.Form.{IsWrittenAs}
+use Rattle.feature_files.specs.Reading.{with_members, IsRead}
+use Rattle.geo_json.specs.Reading.{Reading}
 use Rattle.cover_cli.specs.declared.outcome.Outcome.{Outcome}
 use Rattle.cover_cli.specs.declared.outcome.Outcome.TheVariants.{Done, ReadFault, WriteFault, NoMemory}
-use Rattle.cover_cli.specs.declared.rule_name.RuleName.{RuleName}
+use Rattle.cover_words.specs.declared.rule_name.RuleName.{RuleName}
 use Rattle.cover_cli.specs.Answers.{IsAnswer}
 use Rattle.cover_cli.specs.Clean.{rule_of}
 use Rattle.geo_text.specs.declared.reader.TheConstants.{LONGEST_INPUT}
-use Rattle.cover_cli.specs.Words.{Clean}
+use Rattle.cover_words.specs.Words.{Clean}
 
--- the text is that of a valid coverage, the members cleaned by the rule at the gap width: each point off the noded edges lies in the one snapped
+-- the text is the written form, by the name of the output, of a valid coverage with the properties and ids that were read, the members cleaned by the rule at the gap width: each point off the noded edges lies in the one snapped
 -- member that holds it, where several do in the one that the rule picks, and where none does in none or, within a narrow gap, in the neighbour of
 -- longest border
-pub record IsCleanText (rule : RuleName) (gap : ℕ) (members : Members) (text : List ℕ) : Type 0 where
+pub record IsCleanText (rule : RuleName) (gap : ℕ) (to : List ℕ) (r : Reading) (text : List ℕ) : Type 0 where
   pub out : Members
-  pub lines : text ≡ coverage_text out
+  pub written : IsWrittenAs to (with_members r out) text
   pub formed : IsFormed out
   pub valid : IsValid (uses_of out)
-  pub cleaned : IsCleaned members (rule_of rule) no_state gap out
-  pub held : (edges : List Seg) (odd : List OddUse) (noded : IsNoded (uses_of members) edges odd) (p : Point) → IsOff edges p
-      → IsHeldByLabel (rule_of rule) no_state cleaned.overlay gap out (label_at noded.snapped (length members) p) p
+  pub cleaned : IsCleaned r.members (rule_of rule) no_state gap out
+  pub held : (edges : List Seg) (odd : List OddUse) (noded : IsNoded (uses_of r.members) edges odd) (p : Point) → IsOff edges p
+      → IsHeldByLabel (rule_of rule) no_state cleaned.overlay gap out (label_at noded.snapped (length r.members) p) p
 
 -- the output is a clean text, and every other file is as it was
-pub record HoldsCleanText (rule : RuleName) (gap : ℕ) (members : Members) (to : List ℕ) (old new : State) : Type 0 where
+pub record HoldsCleanText (rule : RuleName) (gap : ℕ) (r : Reading) (to : List ℕ) (old new : State) : Type 0 where
   pub text : List ℕ
-  pub is_clean : IsCleanText rule gap members text
+  pub is_clean : IsCleanText rule gap to r text
   pub held : HoldsNow to text old.files new.files
 
 -- a call on a file failed, or memory ran out
 abbrev pub IsFileFault : Outcome → Type 0
 IsFileFault answer = (answer ≡ ReadFault) ⊎ ((answer ≡ WriteFault) ⊎ (answer ≡ NoMemory))
 
--- for every file in the grammar and range clean is done and the output is a clean text, want of memory and faults of files aside
+-- for every file in the grammar and range of its name clean is done and the output is a clean text, want of memory and faults of files aside
 abbrev pub HeadlineLaw : Type 0
-HeadlineLaw = (rule : RuleName) (gap : ℕ) (from to input : List ℕ) (members : Members) (old new : State) (answer : Outcome) → IsTrue old.tells_files
-    → old.files from ≡ Some input → length input ≤ LONGEST_INPUT → Reads input members → HasNoFault input
-    → IsAnswer (Clean rule gap from to) old new answer → ((answer ≡ Done) × HoldsCleanText rule gap members to old new) ⊎ IsFileFault answer
+HeadlineLaw = (rule : RuleName) (gap : ℕ) (from to input : List ℕ) (r : Reading) (old new : State) (answer : Outcome) → IsTrue old.tells_files
+    → old.files from ≡ Some input → length input ≤ LONGEST_INPUT → IsRead from input r
+    → IsAnswer (Clean rule gap from to) old new answer → ((answer ≡ Done) × HoldsCleanText rule gap r to old new) ⊎ IsFileFault answer

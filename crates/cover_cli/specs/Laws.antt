@@ -5,12 +5,13 @@ use Rattle.cov_io.specs.Count.{Rose}
 use Rattle.cov_io.specs.State.{State}
 use Rattle.cover_cli.specs.declared.outcome.Outcome.{Outcome}
 use Rattle.cover_cli.specs.declared.outcome.Outcome.TheVariants.{ReadFault, WriteFault, NoMemory}
-use Rattle.cover_cli.specs.Answers.{is_success, MayWrite, HoldsCause, HoldsNoCause, FitsRoom, IsAnswer}
-use Rattle.cover_cli.specs.Words.{Operation, inputs_of, output_of}
+use Rattle.cover_cli.specs.Answers.{is_success, HasOneText, MayWrite, HoldsCause, HoldsNoCause, FitsRoom, IsAnswer}
+use Rattle.cover_words.specs.Words.{Operation, inputs_of, output_of}
 
--- on what the files hold, an operation writes one text and answers one success
+-- on what the files hold, an operation answers one success, and writes one text where no float of properties or ids is kept
 abbrev pub OneTextLaw : Type 0
-OneTextLaw = (operation : Operation) (s : State) (o p : Outcome) (text other : List ℕ) → MayWrite operation s o text → MayWrite operation s p other → (o ≡ p) × (text ≡ other)
+OneTextLaw = (operation : Operation) (s : State) (o p : Outcome) (text other : List ℕ) → MayWrite operation s o text → MayWrite operation s p other
+    → (o ≡ p) × (HasOneText operation s → text ≡ other)
 
 -- what the files hold is a cause for one refusal
 abbrev pub OneRefusalLaw : Type 0
@@ -31,11 +32,12 @@ is_settled _ = true
 abbrev pub HoldAlike : Operation → State → State → Type 0
 HoldAlike operation s t = All (λ name. s.files name ≡ t.files name) (inputs_of operation)
 
--- of two runs of an operation on the same inputs, faults and want of memory aside, the answers are equal, and the outputs where they are a success
+-- of two runs of an operation on the same inputs, faults and want of memory aside, the answers are equal, and the outputs where they are a success and
+-- no float of properties or ids is kept
 abbrev pub OneAnswerLaw : Type 0
 OneAnswerLaw = (operation : Operation) (s s_after t t_after : State) (o p : Outcome) → IsTrue s.tells_files → IsTrue t.tells_files → HoldAlike operation s t
     → IsAnswer operation s s_after o → IsAnswer operation t t_after p → IsTrue (is_settled o) → IsTrue (is_settled p)
-    → (o ≡ p) × (IsTrue (is_success o) → s_after.files (output_of operation) ≡ t_after.files (output_of operation))
+    → (o ≡ p) × (HasOneText operation s → IsTrue (is_success o) → s_after.files (output_of operation) ≡ t_after.files (output_of operation))
 
 -- inputs that are a cause for no refusal are answered by a success where no count rose, unless memory runs out
 abbrev pub CompleteLaw : Type 0

@@ -1,11 +1,12 @@
-pub mod Words
-pub mod Named
 pub mod Lines
 pub mod Outcome
 pub mod Input
 pub mod Text
 pub mod Validate
 pub mod Clean
+pub mod Invalid
+pub mod ValidFeatures
+pub mod Simplify
 pub mod Union
 pub mod Node
 pub mod Regions

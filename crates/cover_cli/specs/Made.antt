@@ -3,10 +3,12 @@ use Rattle.std.specs.Prelude.{ℕ, List, [], ◌∷◌}
 use Rattle.cover_cli.specs.Clean.{IsCleaning}
 use Rattle.cover_cli.specs.Node.{IsNoding}
 use Rattle.cover_cli.specs.Regions.{IsRegionList}
-use Rattle.cover_cli.specs.Text.{IsReadAnd, RefusesText}
-use Rattle.cover_cli.specs.Union.{IsUniting, RefusesUnion}
+use Rattle.cover_cli.specs.Simplify.{IsSimplifying}
+use Rattle.cover_cli.specs.Text.{IsReadAnd, RefusesInput}
+use Rattle.cover_cli.specs.Invalid.{RefusesInvalid}
+use Rattle.cover_cli.specs.Union.{IsUniting}
 use Rattle.cover_cli.specs.Validate.{IsValidation}
-use Rattle.cover_cli.specs.Words.{Operation, Validate, Clean, Union, Node, Regions}
+use Rattle.cover_words.specs.Words.{Operation, Validate, Clean, Simplify, Union, Node, Regions}
 use Rattle.cover_cli.specs.declared.outcome.Outcome.{Outcome}
 
 -- there is one input, and this holds of it
@@ -17,16 +19,18 @@ IsOneAnd (input ∷ more ∷ rest) P = ⊥
 
 -- of these inputs the operation makes this text, and answers this success once it is written
 abbrev pub Makes : Operation → List (List ℕ) → Outcome → List ℕ → Type 0
-Makes (Validate gap from to) inputs outcome text = IsOneAnd inputs (λ input. IsReadAnd input (λ members. IsValidation gap members outcome text))
-Makes (Clean rule gap from to) inputs outcome text = IsOneAnd inputs (λ input. IsReadAnd input (λ members. IsCleaning rule gap members outcome text))
-Makes (Union from to) inputs outcome text = IsOneAnd inputs (λ input. IsReadAnd input (λ members. IsUniting members outcome text))
-Makes (Node from to) inputs outcome text = IsOneAnd inputs (λ input. IsReadAnd input (λ members. IsNoding members outcome text))
-Makes (Regions from to) inputs outcome text = IsOneAnd inputs (λ input. IsReadAnd input (λ members. IsRegionList members outcome text))
+Makes (Validate gap from to) inputs outcome text = IsOneAnd inputs (λ input. IsReadAnd from input (λ r. IsValidation gap r.members outcome text))
+Makes (Clean rule gap from to) inputs outcome text = IsOneAnd inputs (λ input. IsReadAnd from input (λ r. IsCleaning rule gap to r outcome text))
+Makes (Simplify tolerance inner from to) inputs outcome text = IsOneAnd inputs (λ input. IsReadAnd from input (λ r. IsSimplifying tolerance inner to r outcome text))
+Makes (Union from to) inputs outcome text = IsOneAnd inputs (λ input. IsReadAnd from input (λ r. IsUniting to r.members outcome text))
+Makes (Node from to) inputs outcome text = IsOneAnd inputs (λ input. IsReadAnd from input (λ r. IsNoding r.members outcome text))
+Makes (Regions from to) inputs outcome text = IsOneAnd inputs (λ input. IsReadAnd from input (λ r. IsRegionList r.members outcome text))
 
 -- these inputs are a cause for the operation to refuse them with this outcome
 abbrev pub Refuses : Operation → List (List ℕ) → Outcome → Type 0
-Refuses (Validate gap from to) inputs outcome = IsOneAnd inputs (λ input. RefusesText input outcome)
-Refuses (Clean rule gap from to) inputs outcome = IsOneAnd inputs (λ input. RefusesText input outcome)
-Refuses (Union from to) inputs outcome = IsOneAnd inputs (λ input. RefusesUnion input outcome)
-Refuses (Node from to) inputs outcome = IsOneAnd inputs (λ input. RefusesText input outcome)
-Refuses (Regions from to) inputs outcome = IsOneAnd inputs (λ input. RefusesText input outcome)
+Refuses (Validate gap from to) inputs outcome = IsOneAnd inputs (λ input. RefusesInput from input outcome)
+Refuses (Clean rule gap from to) inputs outcome = IsOneAnd inputs (λ input. RefusesInput from input outcome)
+Refuses (Simplify tolerance inner from to) inputs outcome = IsOneAnd inputs (λ input. RefusesInvalid from input outcome)
+Refuses (Union from to) inputs outcome = IsOneAnd inputs (λ input. RefusesInvalid from input outcome)
+Refuses (Node from to) inputs outcome = IsOneAnd inputs (λ input. RefusesInput from input outcome)
+Refuses (Regions from to) inputs outcome = IsOneAnd inputs (λ input. RefusesInput from input outcome)

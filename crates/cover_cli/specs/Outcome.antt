@@ -2,9 +2,11 @@
 use Rattle.std.specs.Prelude.{ℕ, List, ◌++◌, codes}
 use Rattle.std.specs.Fmt.{decimal}
 use Rattle.cover_cli.specs.declared.outcome.Outcome.{Outcome}
-use Rattle.cover_cli.specs.declared.outcome.Outcome.TheVariants.{Done, Marked, Usage, ReadFault, WriteFault, TooLong, BadText, NotValid, NoMemory}
+use Rattle.cover_cli.specs.declared.outcome.Outcome.TheVariants.{Done, Marked, Usage, ReadFault, WriteFault, TooLong, BadText, BadJson, NotValid, NoMemory}
 use Rattle.cov_valid.specs.declared.mark.Kind.{Kind}
-use Rattle.cov_valid.specs.declared.mark.Kind.TheVariants.{Meets, Repeated, SameSide, Inside}
+use Rattle.cov_valid.specs.declared.mark.Kind.TheVariants.{Meets, Repeated, SameSide, Inside, NarrowGap}
+use Rattle.geo_json.specs.declared.error.JsonFault.{JsonFault}
+use Rattle.geo_json.specs.declared.error.JsonFault.TheVariants as json
 use Rattle.geo_text.specs.declared.error.TextFault.{TextFault}
 use Rattle.geo_text.specs.declared.error.TextFault.TheVariants.{Syntax, NotPlanar, NotWhole, OutOfRange, RingShort, RingOpen}
 
@@ -15,12 +17,13 @@ status_of (Marked edges) = 1
 status_of Usage = 2
 status_of (NotValid mark) = 3
 status_of (BadText fault) = 4
+status_of (BadJson fault) = 5
 status_of TooLong = 6
 status_of ReadFault = 7
 status_of WriteFault = 8
 status_of NoMemory = 9
 
--- the text of a fault of the input
+-- the text of a fault of a text
 abbrev pub fault_text : TextFault → List ℕ
 fault_text (Syntax at) = codes "text: syntax at " ++ decimal at
 fault_text (NotPlanar at) = codes "text: not planar at " ++ decimal at
@@ -29,21 +32,33 @@ fault_text (OutOfRange at) = codes "text: out of range at " ++ decimal at
 fault_text (RingShort ring) = codes "text: ring " ++ decimal ring ++ codes " is short"
 fault_text (RingOpen ring) = codes "text: ring " ++ decimal ring ++ codes " is open"
 
+-- the text of a fault of a GeoJSON document
+abbrev pub json_fault_text : JsonFault → List ℕ
+json_fault_text json.NotJson = codes "json: not JSON"
+json_fault_text (json.BadShape feature) = codes "json: bad shape in feature " ++ decimal feature
+json_fault_text (json.NotPlanar feature) = codes "json: not planar in feature " ++ decimal feature
+json_fault_text (json.NotWhole feature) = codes "json: not whole in feature " ++ decimal feature
+json_fault_text (json.OutOfRange feature) = codes "json: out of range in feature " ++ decimal feature
+json_fault_text (json.RingShort ring) = codes "json: ring " ++ decimal ring ++ codes " is short"
+json_fault_text (json.RingOpen ring) = codes "json: ring " ++ decimal ring ++ codes " is open"
+
 -- the text of the first segment at fault of a coverage that is not valid, with its member, its place and its kind
 abbrev pub mark_text : ℕ → ℕ → Kind → List ℕ
 mark_text member place Meets = codes "not valid: member " ++ (decimal member ++ (codes " place " ++ (decimal place ++ codes " meets")))
 mark_text member place Repeated = codes "not valid: member " ++ (decimal member ++ (codes " place " ++ (decimal place ++ codes " repeated")))
 mark_text member place SameSide = codes "not valid: member " ++ (decimal member ++ (codes " place " ++ (decimal place ++ codes " same side")))
 mark_text member place Inside = codes "not valid: member " ++ (decimal member ++ (codes " place " ++ (decimal place ++ codes " inside")))
+mark_text member place NarrowGap = codes "not valid: member " ++ (decimal member ++ (codes " place " ++ (decimal place ++ codes " narrow gap")))
 
 -- the line that is printed
 abbrev pub message_of : Outcome → List ℕ
 message_of Done = codes "done"
 message_of (Marked edges) = codes "marked " ++ decimal edges
-message_of Usage = codes "usage: cover validate|clean|union|node|regions"
+message_of Usage = codes "usage: cover validate|clean|simplify|union|node|regions"
 message_of ReadFault = codes "cannot read"
 message_of WriteFault = codes "cannot write"
 message_of TooLong = codes "input is longer than 67108864 bytes"
 message_of (BadText fault) = fault_text fault
+message_of (BadJson fault) = json_fault_text fault
 message_of (NotValid mark) = mark_text mark.member mark.place mark.kind
 message_of NoMemory = codes "no memory"

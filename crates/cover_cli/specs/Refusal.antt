@@ -8,9 +8,10 @@ use Rattle.cov_admit.specs.declared.error.AdmitError.{AdmitError}
 use Rattle.cov_admit.specs.declared.error.AdmitError.TheVariants as admits
 use Rattle.cover_cli.specs.Input.{HoldsTooMuch}
 use Rattle.cover_cli.specs.declared.outcome.Outcome.{Outcome}
-use Rattle.cover_cli.specs.declared.outcome.Outcome.TheVariants.{ReadFault, TooLong, BadText, NotValid, NoMemory}
-use Rattle.geo_text.specs.declared.error.TextError.{TextError}
-use Rattle.geo_text.specs.declared.error.TextError.TheVariants as texts
+use Rattle.cover_cli.specs.declared.outcome.Outcome.TheVariants.{ReadFault, TooLong, BadText, BadJson, NotValid, NoMemory}
+use Rattle.feature_files.specs.declared.error.FileError.{FileError}
+use Rattle.feature_files.specs.declared.error.FileError.TheVariants as files
+use Rattle.feature_files.specs.declared.error.FileFault.TheVariants.{Text, Json}
 
 -- the outcome where a file is not read
 abbrev pub outcome_of_slurp : SlurpError → Outcome
@@ -18,10 +19,11 @@ outcome_of_slurp slurps.ReadFault = ReadFault
 outcome_of_slurp slurps.TooLong = TooLong
 outcome_of_slurp slurps.NoMemory = NoMemory
 
--- the outcome where a text is not read
-abbrev pub outcome_of_text : TextError → Outcome
-outcome_of_text (texts.Fault fault) = BadText fault
-outcome_of_text texts.NoMemory = NoMemory
+-- the outcome where an input is not read as features
+abbrev pub outcome_of_file : FileError → Outcome
+outcome_of_file (files.Fault (Text fault)) = BadText fault
+outcome_of_file (files.Fault (Json fault)) = BadJson fault
+outcome_of_file files.NoMemory = NoMemory
 
 -- the outcome where a coverage is not admitted
 abbrev pub outcome_of_refusal : AdmitError → Outcome

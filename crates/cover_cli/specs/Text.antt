@@ -1,19 +1,20 @@
--- How an input is read as a coverage, or why not.
+-- How an input is read as features by its name, or why not.
 use Rattle.std.specs.Prelude.{ℕ, List}
-use Rattle.cov_types.specs.declared.coord.Coord.{Coord}
+use Rattle.geo_json.specs.Reading.{Reading}
+use Rattle.feature_files.specs.Fault.{IsFault}
+use Rattle.feature_files.specs.Reading.{IsRead}
+use Rattle.feature_files.specs.declared.error.FileFault.TheVariants.{Text, Json}
 use Rattle.cover_cli.specs.declared.outcome.Outcome.{Outcome}
-use Rattle.cover_cli.specs.declared.outcome.Outcome.TheVariants.{BadText}
-use Rattle.geo_text.specs.Fault.{IsFault, HasNoFault}
-use Rattle.geo_text.specs.Reading.{Reads}
+use Rattle.cover_cli.specs.declared.outcome.Outcome.TheVariants.{BadText, BadJson}
 
--- the input is a text without a fault that is read as a coverage, and this holds of the coverage
-pub record IsReadAnd (input : List ℕ) (P : List (List (List (List Coord))) → Type 0) : Type 0 where
-  pub members : List (List (List (List Coord)))
-  pub reads : Reads input members
-  pub faultless : HasNoFault input
-  pub holds : P members
+-- the input of this name has no fault, and this holds of what it is read as
+pub record IsReadAnd (name input : List ℕ) (P : Reading → Type 0) : Type 0 where
+  pub reading : Reading
+  pub reads : IsRead name input reading
+  pub holds : P reading
 
--- the input is a text with a fault, and the outcome tells that fault
-abbrev pub RefusesText : List ℕ → Outcome → Type 0
-RefusesText input (BadText fault) = IsFault input fault
-RefusesText input outcome = ⊥
+-- the input of this name has a fault, and the outcome tells that fault: of text as BadText, of GeoJSON as BadJson
+abbrev pub RefusesInput : List ℕ → List ℕ → Outcome → Type 0
+RefusesInput name input (BadText fault) = IsFault name input (Text fault)
+RefusesInput name input (BadJson fault) = IsFault name input (Json fault)
+RefusesInput name input outcome = ⊥

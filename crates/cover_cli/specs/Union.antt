@@ -1,18 +1,18 @@
--- What uniting a coverage answers and writes, and when it refuses it.
-use Rattle.std.specs.Prelude.{◌≡◌, ◌⊎◌, ℕ, List}
+-- What uniting a coverage answers and writes.
+use Rattle.std.specs.Prelude.{◌≡◌, ℕ, List}
 use Rattle.cov_types.specs.Coverage.{Members, IsFormed}
 use Rattle.cov_types.specs.Uses.{uses_of}
 use Rattle.plane.specs.Validity.{IsValid}
 use Rattle.sound_polygons.specs.Holding.{IsUnionOf}
-use Rattle.cov_admit.specs.FirstMark.{IsFirstMark}
 use Rattle.cov_union.specs.United.{IsUnited}
-use Rattle.cov_write.specs.Written.{coverage_text}
-use Rattle.cover_cli.specs.Text.{IsReadAnd, RefusesText}
+use Rattle.feature_files.specs.Form.{IsWrittenAs}
+use Rattle.feature_files.specs.Reading.{bare}
 use Rattle.cover_cli.specs.declared.outcome.Outcome.{Outcome}
-use Rattle.cover_cli.specs.declared.outcome.Outcome.TheVariants.{Done, NotValid}
+use Rattle.cover_cli.specs.declared.outcome.Outcome.TheVariants.{Done}
 
--- the coverage is valid, it is done, and the text is that of one valid member that holds what some member of the coverage holds
-pub record IsUniting (members : Members) (outcome : Outcome) (text : List ℕ) : Type 0 where
+-- the coverage is valid, it is done, and the text is the written form, by the name of the output, of one valid member that holds what some member
+-- of the coverage holds, with null properties and no id
+pub record IsUniting (to : List ℕ) (members : Members) (outcome : Outcome) (text : List ℕ) : Type 0 where
   pub admitted : IsValid (uses_of members)
   pub done : outcome ≡ Done
   pub out : Members
@@ -20,13 +20,4 @@ pub record IsUniting (members : Members) (outcome : Outcome) (text : List ℕ) :
   pub union : IsUnionOf members out
   pub valid : IsValid (uses_of out)
   pub formed : IsFormed out
-  pub lines : text ≡ coverage_text out
-
--- the coverage is not valid, and the outcome tells its first mark
-abbrev pub TellsMark : Members → Outcome → Type 0
-TellsMark members (NotValid mark) = IsFirstMark members mark × ¬ IsValid (uses_of members)
-TellsMark members outcome = ⊥
-
--- the input is refused as a text, or it is read as a coverage that is not valid
-abbrev pub RefusesUnion : List ℕ → Outcome → Type 0
-RefusesUnion input outcome = RefusesText input outcome ⊎ IsReadAnd input (λ members. TellsMark members outcome)
+  pub written : IsWrittenAs to (bare out) text

@@ -3,7 +3,7 @@ use Rattle.std.specs.Prelude.{◌≡◌, ℕ, zero, suc, List, length}
 use Rattle.cov_types.specs.declared.coord.Coord.{Coord}
 use Rattle.cov_types.specs.Uses.{uses_of}
 use Rattle.cov_valid.specs.declared.mark.Mark.{Mark}
-use Rattle.cov_valid.specs.Marks.{AreMarks}
+use Rattle.cov_marks.specs.Marks.{AreMarks}
 use Rattle.cov_write.specs.Written.{lines_text}
 use Rattle.cover_cli.specs.Lines.{member_lists, marked_uses}
 use Rattle.cover_cli.specs.declared.outcome.Outcome.{Outcome}

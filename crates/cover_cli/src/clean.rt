@@ -3,27 +3,24 @@ ghost use Rattle.cov_types.specs.Coverage.{AllInRange, IsFormed};
 ghost use Rattle.merge_rule.specs.RuleState.{no_state};
 ghost use Rattle.sound_polygons.specs.Cleaned.{IsCleaned};
 ghost use Rattle.cover_cli.specs.Clean.{rule_of, IsCleaning};
+ghost use Rattle.geo_json.specs.Reading.{held};
 ghost use Rattle.geo_text.specs.declared.reader.TheConstants.{LONGEST_INPUT};
 ghost use Rattle.cover_cli.specs.Refusal.{IsRefusedFor};
-ghost use Rattle.cover_cli.specs.Text.{IsReadAnd, RefusesText};
+ghost use Rattle.cover_cli.specs.Text.{IsReadAnd, RefusesInput};
 
 use crate::making::Made;
 use crate::outcome::Outcome;
-use crate::rule_name::RuleName;
-use crate::text::coverage_of;
+use crate::text::features_of;
 use cov_clean::clean;
 use cov_types::{Coverage, NoMemory};
-use cov_write::text_of;
+use cover_words::RuleName;
+use feature_files::text_for;
+use geo_json::Features;
 use merge_rule::{GreatestArea, LeastArea, LeastIndex, LongestBorder};
 use std::alloc::Global;
 
 // The coverage, cleaned by the rule of the name at the gap width.
-fn cleaned(
-    alloc: Global,
-    c: &Coverage,
-    rule: RuleName,
-    gap: u32,
-) -> Result<Coverage, NoMemory>
+fn cleaned(alloc: Global, c: &Coverage, rule: RuleName, gap: u32) -> Result<Coverage, NoMemory>
     requires in_range { AllInRange c.now }
     requires gap { gap ≤ 2 ^ 30 }
     ensures cleaned { IfOk result (λ out. IsCleaned c.now (rule_of rule) no_state gap out) }
@@ -37,38 +34,47 @@ fn cleaned(
     }
 }
 
-// The text of the cleaned coverage.
+// The text of the cleaned features, for an output of this name.
 fn cleaning(
     alloc: Global,
-    c: &Coverage,
+    f: Features,
     rule: RuleName,
     gap: u32,
+    to: &str,
 ) -> Result<Made, NoMemory>
-    requires in_range { AllInRange c.now }
+    requires in_range { AllInRange f.coverage }
     requires gap { gap ≤ 2 ^ 30 }
-    ensures { IfOk result (λ made. IsCleaning rule gap c.now made.outcome made.text.items) }
+    ensures { IfOk result (λ made. IsCleaning rule gap to.now (held f) made.outcome made.text.items) }
 {
-    let cleaned = cleaned(alloc, c, rule, gap)?;
-    let text = text_of(alloc, &cleaned)?;
+    let coverage = cleaned(alloc, &f.coverage, rule, gap)?;
+    let features = Features {
+        coverage,
+        properties: f.properties,
+        ids: f.ids,
+    };
+    let text = text_for(alloc, to, &features)?;
     Ok(Made {
         outcome: Outcome::Done,
         text,
     })
 }
 
-/// Cleans the coverage that the input is read as, by the rule of the name at the gap width, in grid units.
+/// Cleans the features that the input is read as, by the rule of the name at the gap width, in grid units. The names of the
+/// input and of the output say which of the two is GeoJSON.
 pub fn make(
     alloc: Global,
     rule: RuleName,
     gap: u32,
+    from: &str,
+    to: &str,
     input: Vec<u8>,
 ) -> Result<Made, Outcome>
     requires length { length input.items ≤ LONGEST_INPUT }
     requires gap { gap ≤ 2 ^ 30 }
     ensures made { IfOk result (λ made.
-        IsReadAnd input.items (λ members. IsCleaning rule gap members made.outcome made.text.items)) }
-    ensures refused { IfErr result (IsRefusedFor (RefusesText input.items)) }
+        IsReadAnd from.now input.items (λ r. IsCleaning rule gap to.now r made.outcome made.text.items)) }
+    ensures refused { IfErr result (IsRefusedFor (RefusesInput from.now input.items)) }
 {
-    let coverage = coverage_of(alloc, input)?;
-    Ok(cleaning(alloc, &coverage, rule, gap)?)
+    let features = features_of(alloc, from, input)?;
+    Ok(cleaning(alloc, features, rule, gap, to)?)
 }

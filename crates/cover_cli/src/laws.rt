@@ -1,7 +1,8 @@
 ghost use Rattle.cover_cli.specs.Headline.{HeadlineLaw};
 ghost use Rattle.cover_cli.specs.Laws.{OneTextLaw, OneRefusalLaw, RefusedLaw, OneAnswerLaw, CompleteLaw, NoFaultLaw};
 
-/// What the files hold gives an operation one text to write, or one refusal, and not both. A call does nothing.
+/// What the files hold gives an operation one success and one text to write, or one refusal, and not both. The text is one but
+/// for floats that are passed on from GeoJSON to GeoJSON. A call does nothing.
 pub fn written_law()
     ensures text { OneTextLaw }
     ensures refusal { OneRefusalLaw }
@@ -15,7 +16,8 @@ pub fn headline_law()
 {}
 
 /// What `cover` answers, and the bytes that it writes, are a function of the words and of what the inputs hold, faults
-/// and want of memory aside; and these come only where something failed. A call does nothing.
+/// and want of memory aside, and floats that are passed on from GeoJSON to GeoJSON; and these faults come only where something
+/// failed. A call does nothing.
 pub fn answer_law()
     ensures one { OneAnswerLaw }
     ensures complete { CompleteLaw }

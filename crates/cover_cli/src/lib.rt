@@ -1,12 +1,13 @@
 //! The program `cover` as one call: words and files in, an outcome out.
 //!
 //! Its promise: every answer of `cover` comes only for its cause. Over a files object that tells its contents, a
-//! success means that the output holds what the definitions say of the inputs, which is one text by `written_law`.
+//! success means that the output holds what the definitions say of the inputs. By `written_law` that is one text, unless clean
+//! or simplify passes numbers on, from GeoJSON to GeoJSON, that serde_json holds as floats: their digits alone are open.
 //!
-//! Each operation takes the same steps. The words name it (`words`); its inputs are read (`input`); of them it makes
-//! its whole text, or refuses them (`making`, and a file for each operation); the text is written (`output`). Only
-//! the reading and the writing know of files, so a new operation is a variant with its words, its relation between
-//! inputs and text in `specs`, and its `make`.
+//! Each operation takes the same steps. The words name it (`cover_words`); its inputs are read (`input`); of them it makes
+//! its whole text, or refuses them (`making`, and a file for each operation); the text is written (`output`). The names of the
+//! input and of the output say, each by itself, whether it is GeoJSON (`feature_files`). Only the reading and the writing know
+//! of files, so a new operation is a variant with its words, its relation between inputs and text in `specs`, and its `make`.
 #![tactic(auto)]
 
 mod clean;
@@ -20,11 +21,12 @@ mod outcome;
 mod output;
 mod refusal;
 mod regions;
-mod rule_name;
+mod simplify;
 mod text;
 mod union;
+mod valid;
+mod valid_features;
 mod validate;
-mod words;
 
 pub use command::cover;
 pub use laws::{answer_law, headline_law, written_law};

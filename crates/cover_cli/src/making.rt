@@ -1,13 +1,13 @@
 ghost use Rattle.std.specs.Prelude.{◌≡◌, ◌≤◌, length, map, All, IfOk, IfErr};
 ghost use Rattle.geo_text.specs.declared.reader.TheConstants.{LONGEST_INPUT};
 ghost use Rattle.cover_cli.specs.Made.{Makes, Refuses};
-ghost use Rattle.cover_cli.specs.Named.{named};
+ghost use Rattle.cover_words.specs.Named.{named};
 ghost use Rattle.cover_cli.specs.Refusal.{IsRefusedFor};
-ghost use Rattle.cover_cli.specs.Words.{inputs_of};
+ghost use Rattle.cover_words.specs.Words.{IsWithinLimit, inputs_of};
 
 use crate::outcome::Outcome;
-use crate::words::Operation;
-use crate::{clean, node, regions, union, validate};
+use crate::{clean, node, regions, simplify, union, validate};
+use cover_words::Operation;
 use std::alloc::Global;
 
 /// What an operation made: the outcome, should the text be written whole, and that text.
@@ -20,6 +20,7 @@ pub struct Made {
 /// Makes all that the operation writes of the inputs that it read. An error is the outcome that refuses them.
 pub fn make(alloc: Global, operation: &Operation, mut inputs: Vec<Vec<u8>>) -> Result<Made, Outcome>
     requires count { length inputs.items ≡ length (inputs_of (named operation.now)) }
+    requires limits { IsWithinLimit (named operation.now) }
     requires within { All (λ i. length i.items ≤ LONGEST_INPUT) inputs.items }
     ensures made { IfOk result (λ made.
         Makes (named operation.now) (map (λ i. i.items) inputs.items) made.outcome made.text.items) }
@@ -27,10 +28,26 @@ pub fn make(alloc: Global, operation: &Operation, mut inputs: Vec<Vec<u8>>) -> R
         (IsRefusedFor (Refuses (named operation.now) (map (λ i. i.items) inputs.items))) }
 {
     match operation {
-        Operation::Validate { gap, .. } => validate::make(alloc, *gap, inputs.remove(0)),
-        Operation::Clean { rule, gap, .. } => clean::make(alloc, *rule, *gap, inputs.remove(0)),
-        Operation::Union { .. } => union::make(alloc, inputs.remove(0)),
-        Operation::Node { .. } => node::make(alloc, inputs.remove(0)),
-        Operation::Regions { .. } => regions::make(alloc, inputs.remove(0)),
+        Operation::Validate { gap, from, .. } => validate::make(
+            alloc,
+            *gap,
+            from,
+            inputs.remove(0),
+        ),
+        Operation::Clean {
+            rule,
+            gap,
+            from,
+            to,
+        } => clean::make(alloc, *rule, *gap, from, to, inputs.remove(0)),
+        Operation::Simplify {
+            tolerance,
+            inner,
+            from,
+            to,
+        } => simplify::make(alloc, *tolerance, *inner, from, to, inputs.remove(0)),
+        Operation::Union { from, to } => union::make(alloc, from, to, inputs.remove(0)),
+        Operation::Node { from, .. } => node::make(alloc, from, inputs.remove(0)),
+        Operation::Regions { from, .. } => regions::make(alloc, from, inputs.remove(0)),
     }
 }

@@ -3,12 +3,12 @@ ghost use Rattle.cov_types.specs.Coverage.{AllInRange};
 ghost use Rattle.geo_text.specs.declared.reader.TheConstants.{LONGEST_INPUT};
 ghost use Rattle.cover_cli.specs.Node.{IsNoding};
 ghost use Rattle.cover_cli.specs.Refusal.{IsRefusedFor};
-ghost use Rattle.cover_cli.specs.Text.{IsReadAnd, RefusesText};
+ghost use Rattle.cover_cli.specs.Text.{IsReadAnd, RefusesInput};
 
 use crate::lines::lists_by_member;
 use crate::making::Made;
 use crate::outcome::Outcome;
-use crate::text::coverage_of;
+use crate::text::features_of;
 use cov_types::{Coverage, NoMemory, uses};
 use cov_write::lines_of;
 use snap_noder::{node, uses_of_odd};
@@ -31,13 +31,13 @@ fn noding(alloc: Global, c: &Coverage) -> Result<Made, NoMemory>
     })
 }
 
-/// Nodes the coverage that the input is read as.
-pub fn make(alloc: Global, input: Vec<u8>) -> Result<Made, Outcome>
+/// Nodes the coverage that the input of this name is read as.
+pub fn make(alloc: Global, from: &str, input: Vec<u8>) -> Result<Made, Outcome>
     requires { length input.items ≤ LONGEST_INPUT }
     ensures made { IfOk result (λ made.
-        IsReadAnd input.items (λ members. IsNoding members made.outcome made.text.items)) }
-    ensures refused { IfErr result (IsRefusedFor (RefusesText input.items)) }
+        IsReadAnd from.now input.items (λ r. IsNoding r.members made.outcome made.text.items)) }
+    ensures refused { IfErr result (IsRefusedFor (RefusesInput from.now input.items)) }
 {
-    let coverage = coverage_of(alloc, input)?;
-    Ok(noding(alloc, &coverage)?)
+    let features = features_of(alloc, from, input)?;
+    Ok(noding(alloc, &features.coverage)?)
 }

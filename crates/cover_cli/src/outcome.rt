@@ -1,9 +1,10 @@
 ghost use Rattle.std.specs.Prelude.{◌≡◌, IfOk};
 ghost use Rattle.std.specs.String.{string_bytes};
-ghost use Rattle.cover_cli.specs.Outcome.{status_of, message_of, fault_text, mark_text};
+ghost use Rattle.cover_cli.specs.Outcome.{status_of, message_of, fault_text, json_fault_text, mark_text};
 
 use cov_types::NoMemory;
 use cov_valid::{Kind, Mark};
+use geo_json::JsonFault;
 use geo_text::TextFault;
 use std::alloc::Global;
 
@@ -24,6 +25,8 @@ pub enum Outcome {
     TooLong,
     /// The input is no text that can be read.
     BadText(TextFault),
+    /// The input is no GeoJSON that can be read.
+    BadJson(JsonFault),
     /// The coverage that the input is read as is not valid: its first segment that is at fault.
     NotValid { mark: Mark },
     /// Memory ran out before the output was created.
@@ -40,6 +43,7 @@ pub fn status(o: &Outcome) -> u8
         Outcome::Usage => 2,
         Outcome::NotValid { mark: _ } => 3,
         Outcome::BadText(_) => 4,
+        Outcome::BadJson(_) => 5,
         Outcome::TooLong => 6,
         Outcome::ReadFault => 7,
         Outcome::WriteFault => 8,
@@ -60,8 +64,9 @@ pub fn message(alloc: Global, o: &Outcome) -> Result<String, NoMemory>
             mark.kind,
         ),
         Outcome::BadText(fault) => return fault_message(alloc, *fault),
+        Outcome::BadJson(fault) => return json_fault_message(alloc, *fault),
         Outcome::Done => "done",
-        Outcome::Usage => "usage: cover validate|clean|union|node|regions",
+        Outcome::Usage => "usage: cover validate|clean|simplify|union|node|regions",
         Outcome::ReadFault => "cannot read",
         Outcome::WriteFault => "cannot write",
         Outcome::TooLong => "input is longer than 67108864 bytes",
@@ -79,10 +84,13 @@ fn mark_message(alloc: Global, member: u32, place: u64, kind: Kind) -> Result<St
         Kind::Repeated => format!(in alloc; "not valid: member {member} place {place} repeated")?,
         Kind::SameSide => format!(in alloc; "not valid: member {member} place {place} same side")?,
         Kind::Inside => format!(in alloc; "not valid: member {member} place {place} inside")?,
+        Kind::NarrowGap => format!(in alloc;
+            "not valid: member {member} place {place} narrow gap"
+        )?,
     })
 }
 
-// The line that is printed for a fault of the input.
+// The line that is printed for a fault of a text.
 fn fault_message(alloc: Global, fault: TextFault) -> Result<String, NoMemory>
     ensures { IfOk result (λ text. string_bytes text ≡ fault_text fault) }
 {
@@ -93,5 +101,28 @@ fn fault_message(alloc: Global, fault: TextFault) -> Result<String, NoMemory>
         TextFault::OutOfRange { at } => format!(in alloc; "text: out of range at {at}")?,
         TextFault::RingShort { ring } => format!(in alloc; "text: ring {ring} is short")?,
         TextFault::RingOpen { ring } => format!(in alloc; "text: ring {ring} is open")?,
+    })
+}
+
+// The line that is printed for a fault of a GeoJSON document.
+fn json_fault_message(alloc: Global, fault: JsonFault) -> Result<String, NoMemory>
+    ensures { IfOk result (λ text. string_bytes text ≡ json_fault_text fault) }
+{
+    Ok(match fault {
+        JsonFault::NotJson => String::from_str(alloc, "json: not JSON")?,
+        JsonFault::BadShape { feature } => format!(in alloc;
+            "json: bad shape in feature {feature}"
+        )?,
+        JsonFault::NotPlanar { feature } => format!(in alloc;
+            "json: not planar in feature {feature}"
+        )?,
+        JsonFault::NotWhole { feature } => format!(in alloc;
+            "json: not whole in feature {feature}"
+        )?,
+        JsonFault::OutOfRange { feature } => format!(in alloc;
+            "json: out of range in feature {feature}"
+        )?,
+        JsonFault::RingShort { ring } => format!(in alloc; "json: ring {ring} is short")?,
+        JsonFault::RingOpen { ring } => format!(in alloc; "json: ring {ring} is open")?,
     })
 }

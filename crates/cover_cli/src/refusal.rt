@@ -1,11 +1,11 @@
 ghost use Rattle.std.specs.Prelude.{◌≡◌};
-ghost use Rattle.cover_cli.specs.Refusal.{outcome_of_slurp, outcome_of_text, outcome_of_refusal};
+ghost use Rattle.cover_cli.specs.Refusal.{outcome_of_slurp, outcome_of_file, outcome_of_refusal};
 
 use crate::outcome::Outcome;
 use cov_admit::AdmitError;
 use cov_io::SlurpError;
 use cov_types::NoMemory;
-use geo_text::TextError;
+use feature_files::{FileError, FileFault};
 use std::alloc::AllocFailed;
 
 impl From<SlurpError> for Outcome {
@@ -20,13 +20,14 @@ impl From<SlurpError> for Outcome {
     }
 }
 
-impl From<TextError> for Outcome {
-    ghost from_gives = { λ e o. o ≡ outcome_of_text e };
+impl From<FileError> for Outcome {
+    ghost from_gives = { λ e o. o ≡ outcome_of_file e };
 
-    fn from(e: TextError) -> Outcome {
+    fn from(e: FileError) -> Outcome {
         match e {
-            TextError::Fault(fault) => Outcome::BadText(fault),
-            TextError::NoMemory => Outcome::NoMemory,
+            FileError::Fault(FileFault::Text(fault)) => Outcome::BadText(fault),
+            FileError::Fault(FileFault::Json(fault)) => Outcome::BadJson(fault),
+            FileError::NoMemory => Outcome::NoMemory,
         }
     }
 }

@@ -4,13 +4,13 @@ ghost use Rattle.cov_types.specs.Coverage.{AllInRange};
 ghost use Rattle.geo_text.specs.declared.reader.TheConstants.{LONGEST_INPUT};
 ghost use Rattle.cover_cli.specs.Refusal.{IsRefusedFor};
 ghost use Rattle.cover_cli.specs.Regions.{IsClearanceTold, IsRow, AreRows, IsRegionList};
-ghost use Rattle.cover_cli.specs.Text.{IsReadAnd, RefusesText};
+ghost use Rattle.cover_cli.specs.Text.{IsReadAnd, RefusesInput};
 ghost use Rattle.owner_label.specs.Labelled.{IsOverlay};
 ghost use Rattle.plane.specs.Region.{IsOuterRegion};
 
 use crate::making::Made;
 use crate::outcome::Outcome;
-use crate::text::coverage_of;
+use crate::text::features_of;
 use cov_types::{Coverage, NoMemory, uses};
 use cov_write::{append_inner_row, append_outer_row};
 use face_walk::Regions;
@@ -26,16 +26,17 @@ fn rows_of(
     arena: &Arena,
     regions: &Regions,
     labels: &Labels,
+    gaps: &GapSearch,
 ) -> Result<Vec<u8>, NoMemory>
     requires regions { regions.now ≡ arena.now }
     requires labels { labels.now.edges ≡ arena.now }
+    requires gaps { gaps.now ≡ arena.now }
     ensures { IfOk result (λ text. (o : Overlay) → IsOverlay labels.now o → AreRows o (region_numbers o) text.items) }
 {
-    let mut gaps = GapSearch::build(alloc, arena, regions)?;
     let mut text = Vec::new(alloc);
     for side in 0..arena.len() {
         if regions.region_of(side) == side {
-            append_row(&mut text, regions, labels, &mut gaps, side)?;
+            append_row(&mut text, regions, labels, gaps, side)?;
         }
     }
     Ok(text)
@@ -46,15 +47,14 @@ fn append_row(
     text: &mut Vec<u8>,
     regions: &Regions,
     labels: &Labels,
-    gaps: &mut GapSearch,
+    gaps: &GapSearch,
     region: usize,
 ) -> Result<(), NoMemory>
     requires labels { labels.now.edges ≡ regions.now }
-    requires gaps { gaps.old ≡ regions.now }
+    requires gaps { gaps.now ≡ regions.now }
     requires region { IsRegion regions.now region }
-    ensures row { OnOk result ((o : Overlay) → IsOverlay labels.now o
+    ensures { OnOk result ((o : Overlay) → IsOverlay labels.now o
         → (line : List ℕ) × (IsRow o region line × (text.new.items ≡ text.old.items ++ line))) }
-    ensures gaps { gaps.new ≡ gaps.old }
 {
     if regions.outer() == Some(region) {
         append_outer_row(text, region)
@@ -66,15 +66,10 @@ fn append_row(
 }
 
 // The clearance of a region that no member holds, by its label.
-fn clearance_told(
-    gaps: &mut GapSearch,
-    label: &[u32],
-    region: usize,
-) -> Result<Option<u32>, NoMemory>
-    requires region { IsRegion gaps.old region }
-    requires inner { ¬ IsOuterRegion gaps.old region }
-    ensures told { IfOk result (λ clearance. (o : Overlay) → o.edges ≡ gaps.old → label.now ≡ label_of o region → IsClearanceTold o region clearance) }
-    ensures gaps { gaps.new ≡ gaps.old }
+fn clearance_told(gaps: &GapSearch, label: &[u32], region: usize) -> Result<Option<u32>, NoMemory>
+    requires region { IsRegion gaps.now region }
+    requires inner { ¬ IsOuterRegion gaps.now region }
+    ensures { IfOk result (λ clearance. (o : Overlay) → o.edges ≡ gaps.now → label.now ≡ label_of o region → IsClearanceTold o region clearance) }
 {
     if label.is_empty() {
         Ok(Some(gaps.clearance(region)?))
@@ -94,20 +89,21 @@ fn region_list(alloc: Global, c: &Coverage) -> Result<Made, NoMemory>
     let arena = Arena::build(alloc, live.edges.to_vec(alloc)?)?;
     let regions = Regions::build(alloc, &arena)?;
     let labels = Labels::build(alloc, &arena, &regions, &live)?;
-    let text = rows_of(alloc, &arena, &regions, &labels)?;
+    let gaps = GapSearch::build(alloc, &arena, &regions)?;
+    let text = rows_of(alloc, &arena, &regions, &labels, &gaps)?;
     Ok(Made {
         outcome: Outcome::Done,
         text,
     })
 }
 
-/// Lists the regions of the coverage that the input is read as.
-pub fn make(alloc: Global, input: Vec<u8>) -> Result<Made, Outcome>
+/// Lists the regions of the coverage that the input of this name is read as.
+pub fn make(alloc: Global, from: &str, input: Vec<u8>) -> Result<Made, Outcome>
     requires { length input.items ≤ LONGEST_INPUT }
     ensures made { IfOk result (λ made.
-        IsReadAnd input.items (λ members. IsRegionList members made.outcome made.text.items)) }
-    ensures refused { IfErr result (IsRefusedFor (RefusesText input.items)) }
+        IsReadAnd from.now input.items (λ r. IsRegionList r.members made.outcome made.text.items)) }
+    ensures refused { IfErr result (IsRefusedFor (RefusesInput from.now input.items)) }
 {
-    let coverage = coverage_of(alloc, input)?;
-    Ok(region_list(alloc, &coverage)?)
+    let features = features_of(alloc, from, input)?;
+    Ok(region_list(alloc, &features.coverage)?)
 }

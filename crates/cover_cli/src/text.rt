@@ -1,23 +1,22 @@
-ghost use Rattle.std.specs.Prelude.{◌≤◌, length, IfOk, IfErr, OnOk};
+ghost use Rattle.std.specs.Prelude.{◌≤◌, length, IfOk, IfErr};
 ghost use Rattle.cov_types.specs.Coverage.{IsFormed};
+ghost use Rattle.feature_files.specs.Reading.{IsRead};
+ghost use Rattle.geo_json.specs.Reading.{held};
 ghost use Rattle.geo_text.specs.declared.reader.TheConstants.{LONGEST_INPUT};
 ghost use Rattle.cover_cli.specs.Refusal.{IsRefusedFor};
-ghost use Rattle.cover_cli.specs.Text.{RefusesText};
-ghost use Rattle.geo_text.specs.Fault.{HasNoFault};
-ghost use Rattle.geo_text.specs.Reading.{Reads};
+ghost use Rattle.cover_cli.specs.Text.{RefusesInput};
 
 use crate::outcome::Outcome;
-use cov_types::Coverage;
-use geo_text::read_text;
+use feature_files::read_features;
+use geo_json::Features;
 use std::alloc::Global;
 
-/// Reads an input as a coverage, and lets its bytes go. An error is the outcome that refuses it.
-pub fn coverage_of(alloc: Global, input: Vec<u8>) -> Result<Coverage, Outcome>
+/// Reads an input of this name as features, and lets its bytes go. An error is the outcome that refuses it.
+pub fn features_of(alloc: Global, name: &str, input: Vec<u8>) -> Result<Features, Outcome>
     requires { length input.items ≤ LONGEST_INPUT }
-    ensures read { IfOk result (λ c. Reads input.items c) }
-    ensures faultless { OnOk result (HasNoFault input.items) }
-    ensures formed { IfOk result IsFormed }
-    ensures refused { IfErr result (IsRefusedFor (RefusesText input.items)) }
+    ensures read { IfOk result (λ f. IsRead name.now input.items (held f)) }
+    ensures formed { IfOk result (λ f. IsFormed f.coverage) }
+    ensures refused { IfErr result (IsRefusedFor (RefusesInput name.now input.items)) }
 {
-    Ok(read_text(alloc, &input)?)
+    Ok(read_features(alloc, name, &input)?)
 }

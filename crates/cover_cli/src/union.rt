@@ -4,40 +4,42 @@ ghost use Rattle.plane.specs.Validity.{IsValid};
 ghost use Rattle.geo_text.specs.declared.reader.TheConstants.{LONGEST_INPUT};
 ghost use Rattle.cover_cli.specs.Refusal.{IsRefusedFor};
 ghost use Rattle.cover_cli.specs.Text.{IsReadAnd};
-ghost use Rattle.cover_cli.specs.Union.{IsUniting, RefusesUnion};
+ghost use Rattle.cover_cli.specs.Invalid.{RefusesInvalid};
+ghost use Rattle.cover_cli.specs.Union.{IsUniting};
 
 use crate::making::Made;
 use crate::outcome::Outcome;
-use crate::text::coverage_of;
-use cov_admit::{ValidCoverage, admit};
+use crate::valid::valid_features_of;
+use cov_admit::ValidCoverage;
 use cov_types::{Coverage, NoMemory};
 use cov_union::union_of;
-use cov_write::text_of;
+use feature_files::{bare_features, text_for};
 use std::alloc::Global;
 
-// The text of the union of a valid coverage.
-fn uniting(alloc: Global, v: &ValidCoverage) -> Result<Made, NoMemory>
+// The text of the union of a valid coverage, for an output of this name.
+fn uniting(alloc: Global, v: &ValidCoverage, to: &str) -> Result<Made, NoMemory>
     requires { IsValid (uses_of v.now) }
-    ensures { IfOk result (λ made. IsUniting v.now made.outcome made.text.items) }
+    ensures { IfOk result (λ made. IsUniting to.now v.now made.outcome made.text.items) }
 {
     let union = union_of(alloc, v)?;
     let mut members = Vec::new(alloc);
     members.push(union)?;
-    let text = text_of(alloc, &Coverage { members })?;
+    let features = bare_features(alloc, Coverage { members })?;
+    let text = text_for(alloc, to, &features)?;
     Ok(Made {
         outcome: Outcome::Done,
         text,
     })
 }
 
-/// Unites the coverage that the input is read as, where it is valid.
-pub fn make(alloc: Global, input: Vec<u8>) -> Result<Made, Outcome>
+/// Unites the coverage that the input is read as, where it is valid. The names of the input and of the output say which of
+/// the two is GeoJSON.
+pub fn make(alloc: Global, from: &str, to: &str, input: Vec<u8>) -> Result<Made, Outcome>
     requires { length input.items ≤ LONGEST_INPUT }
     ensures made { IfOk result (λ made.
-        IsReadAnd input.items (λ members. IsUniting members made.outcome made.text.items)) }
-    ensures refused { IfErr result (IsRefusedFor (RefusesUnion input.items)) }
+        IsReadAnd from.now input.items (λ r. IsUniting to.now r.members made.outcome made.text.items)) }
+    ensures refused { IfErr result (IsRefusedFor (RefusesInvalid from.now input.items)) }
 {
-    let coverage = coverage_of(alloc, input)?;
-    let valid = admit(alloc, coverage)?;
-    Ok(uniting(alloc, &valid)?)
+    let valid = valid_features_of(alloc, from, input)?;
+    Ok(uniting(alloc, &valid.coverage, to)?)
 }

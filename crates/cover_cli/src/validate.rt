@@ -2,15 +2,15 @@ ghost use Rattle.std.specs.Prelude.{◌≡◌, ◌≤◌, ◌^◌, length, IfOk,
 ghost use Rattle.cov_types.specs.Coverage.{AllInRange};
 ghost use Rattle.geo_text.specs.declared.reader.TheConstants.{LONGEST_INPUT};
 ghost use Rattle.cover_cli.specs.Refusal.{IsRefusedFor};
-ghost use Rattle.cover_cli.specs.Text.{IsReadAnd, RefusesText};
+ghost use Rattle.cover_cli.specs.Text.{IsReadAnd, RefusesInput};
 ghost use Rattle.cover_cli.specs.Validate.{marking, IsValidation};
 
 use crate::lines::{lists_by_member, uses_at_marks};
 use crate::making::Made;
 use crate::outcome::Outcome;
-use crate::text::coverage_of;
+use crate::text::features_of;
+use cov_marks::marks;
 use cov_types::{Coverage, NoMemory, uses};
-use cov_valid::marks;
 use cov_write::lines_of;
 use std::alloc::Global;
 
@@ -40,14 +40,14 @@ fn validation(alloc: Global, c: &Coverage, gap: u32) -> Result<Made, NoMemory>
     Ok(Made { outcome, text })
 }
 
-/// Validates the coverage that the input is read as, at the gap width, in grid units.
-pub fn make(alloc: Global, gap: u32, input: Vec<u8>) -> Result<Made, Outcome>
+/// Validates the coverage that the input of this name is read as, at the gap width, in grid units.
+pub fn make(alloc: Global, gap: u32, from: &str, input: Vec<u8>) -> Result<Made, Outcome>
     requires length { length input.items ≤ LONGEST_INPUT }
     requires gap { gap ≤ 2 ^ 30 }
     ensures made { IfOk result (λ made.
-        IsReadAnd input.items (λ members. IsValidation gap members made.outcome made.text.items)) }
-    ensures refused { IfErr result (IsRefusedFor (RefusesText input.items)) }
+        IsReadAnd from.now input.items (λ r. IsValidation gap r.members made.outcome made.text.items)) }
+    ensures refused { IfErr result (IsRefusedFor (RefusesInput from.now input.items)) }
 {
-    let coverage = coverage_of(alloc, input)?;
-    Ok(validation(alloc, &coverage, gap)?)
+    let features = features_of(alloc, from, input)?;
+    Ok(validation(alloc, &features.coverage, gap)?)
 }

@@ -1,5 +1,5 @@
 -- What is read of a document without a fault is formed.
-use Rattle.std.proofs.Common.{◌≡◌, ℕ, ◌+◌, ◌-◌, ◌≤◌, ℤ, pos, neg_ℤ, ◌≤ℤ◌, int_le, Bool, true, false, if◌then◌else◌, is_some, nat_lt, List, [], ◌∷◌, ◌++◌, length, map, get_or, Option, Some, None, option_map, option_and_then, unwrap_or, slice_get, refl, ap, ◌∙◌, sym, subst, arith, length-take, codes}
+use Rattle.std.proofs.Common.{◌≡◌, ℕ, ◌+◌, ◌-◌, ◌^◌, ◌<◌, ◌≤◌, ℤ, pos, neg_ℤ, ◌≤ℤ◌, int_le, Bool, true, false, if◌then◌else◌, is_some, nat_lt, List, [], ◌∷◌, ◌++◌, length, map, get_or, Option, Some, None, option_map, option_and_then, unwrap_or, slice_get, refl, ap, ◌∙◌, sym, subst, arith, length-take, codes}
 use Rattle.std.specs.Prelude.{⊤}
 use Rattle.std.specs.List.{AllByRecursion}
 use Rattle.std.proofs.lemmas.Bool.{and_parts}
@@ -190,17 +190,21 @@ features_formed (f ∷ fs) h = (All-from_recursion IsPolyFormed (polys_of_featur
 
 -- ---- the coverage
 
-pub formed : (d : Data) (c : Collected) → AreAllRead (document_of d) c → IsFormed c.members.items
-formed d c all =
-    let fs = all.features in
-    let clean = features_clean 0 0 fs (subst (AllByRecursion IsKept) all.shaped (document_kept d)) (ap (faults_from 0 0) (sym all.shaped) ∙ all.faultless) in
-    subst IsFormed (sym all.collected.members) (record {
+-- that of features, few enough
+pub features_are_formed : (d : Data) (fs : List FeatureShape) → document_of d ≡ map Some fs → faults_from 0 0 (document_of d) ≡ [] → length fs < 2 ^ 32 → IsFormed (map polys_of_feature fs)
+features_are_formed d fs shaped faultless few =
+    let clean = features_clean 0 0 fs (subst (AllByRecursion IsKept) shaped (document_kept d)) (ap (faults_from 0 0) (sym shaped) ∙ faultless) in
+    record {
       in_range = record {
         coords = All-map IsMemberInRange polys_of_feature fs (λ k d h. feature_in_range (get_or fs k d));
-        count = omega (arith, length-map fs polys_of_feature, all.collected.fits);
+        count = omega (arith, length-map fs polys_of_feature, few);
       };
       shapes = All-from_recursion IsMemberFormed (map polys_of_feature fs) (features_formed fs clean);
-    })
+    }
+
+-- that of what the reader has read
+pub formed : (d : Data) (c : Collected) → AreAllRead (document_of d) c → IsFormed c.members.items
+formed d c all = subst IsFormed (sym all.collected.members) (features_are_formed d all.features all.shaped all.faultless all.collected.fits)
 
 -- the three lists have equal length
 pub even : (document : List (Option FeatureShape)) (c : Collected) → AreAllRead document c → (length c.properties.items ≡ length c.members.items) × (length c.ids.items ≡ length c.members.items)

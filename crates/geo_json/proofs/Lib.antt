@@ -6,3 +6,5 @@ pub mod Kept
 pub mod Document
 pub mod Formed
 pub mod OneAnswer
+pub mod Counts
+pub mod ReadFormed

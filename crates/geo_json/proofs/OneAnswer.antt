@@ -15,7 +15,7 @@ use Rattle.geo_json.proofs.Formed.{no_parts}
 
 -- ---- one value, one reading
 
-same_value : (bytes : List ℕ) (d e : Data) → StandsFor bytes d → StandsFor bytes e → d ≡ e
+pub same_value : (bytes : List ℕ) (d e : Data) → StandsFor bytes d → StandsFor bytes e → d ≡ e
 same_value bytes d e h k = same_Some d e (sym h.1 ∙ k.1)
 
 same_features : (fs gs : List FeatureShape) → map Some fs ≡ map Some gs → fs ≡ gs
@@ -43,7 +43,7 @@ one_fault bytes e f (inr h) (inr k) = same_Some e f (sym h.2 ∙ ap fault_of (sa
 
 -- ---- a fault, or a reading without one
 
-no_first : (fs : List JsonFault) → first fs ≡ None → fs ≡ []
+pub no_first : (fs : List JsonFault) → first fs ≡ None → fs ≡ []
 no_first [] e = refl
 no_first (f ∷ fs) e = absurd (none-some f (sym e))
 

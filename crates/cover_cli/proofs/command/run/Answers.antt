@@ -4,7 +4,7 @@ use Rattle.std.specs.Prelude.{All}
 use Rattle.cov_io.specs.Calls.{IsPromised}
 use Rattle.cover_cli.proofs.Answering.{unread, unmade, answered}
 use Rattle.cover_cli.specs.Input.{AreInputs}
-use Rattle.cover_cli.specs.Named.{named}
+use Rattle.cover_words.specs.Named.{named}
 use Rattle.cover_cli.specs.Refusal.{IsUnread}
 use Rattle.cover_cli.specs.Written.{IsTextWritten}
 use Rattle.cover_cli.specs.declared.outcome.Outcome.TheVariants.{ReadFault}

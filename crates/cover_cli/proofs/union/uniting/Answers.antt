@@ -1,10 +1,15 @@
--- The text is that of the one member that is the union.
-use Rattle.std.proofs.Common.{[], ◌∷◌, refl, rules}
+-- The text is the written form of the one member that is the union.
+use Rattle.std.proofs.Common.{◌≡◌, [], ◌∷◌, refl, subst, rules}
+use Rattle.geo_json.specs.Reading.{Reading}
+use Rattle.cov_types.specs.Coverage.{Members}
+use Rattle.feature_files.specs.Form.{IsWrittenAs}
+use Rattle.feature_files.specs.Reading.{bare}
 use Rattle.cover_cli.proofs.union.uniting.Goals as goal
 
 pub returns : goal.returns
 returns c =
     let union = c.in_ok-union in
+    let one : c.push.new.self.items ≡ union.union ∷ [] = search rules in
     record {
       admitted = c.requires;
       done = refl;
@@ -13,5 +18,6 @@ returns c =
       union = union.ensures.union;
       valid = union.ensures.valid;
       formed = union.ensures.formed;
-      lines = search rules;
+      written = subst (λ (members : Members). IsWrittenAs c.args.to.now (bare members) c.in_ok-text.text.items) one
+          (subst (λ (r : Reading). IsWrittenAs c.args.to.now r c.in_ok-text.text.items) c.in_ok-features.ensures c.in_ok-text.ensures);
     }

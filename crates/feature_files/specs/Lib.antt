@@ -1,0 +1,5 @@
+pub mod Name
+pub mod Reading
+pub mod Fault
+pub mod Form
+pub mod Laws

@@ -1,9 +1,11 @@
 use crate::BEFORE;
-use cov_io::{Shelf, ShelfFile};
+use crate::files::file;
+use cov_io::Shelf;
+use cov_types::NoMemory;
 use cover_cli::{Outcome, cover, message, status};
 use geo_json::JsonFault;
 use geo_text::LONGEST_INPUT;
-use std::alloc::{AllocError, Global};
+use std::alloc::Global;
 use std::test::Fail;
 
 // Two features: a square with properties, and one with neither a geometry nor properties, but with an id.
@@ -22,34 +24,26 @@ const UNITED: &str =
     "{\"features\":[{\"geometry\":{\"coordinates\":[[[0,0],[10,0],[10,10],[0,10],[0,0]]],\"type\":\"Polygon\"},\
     \"properties\":null,\"type\":\"Feature\"}],\"type\":\"FeatureCollection\"}\n";
 
-// A case: the words, the names of the input and of the output, the input, and what the output then holds.
-type Case<'a> = (&'a str, &'a str, &'a str, &'a str, &'a str);
+// A case: the words, the name of the output, the input, and what the output then holds.
+type Case<'a> = (&'a str, &'a str, &'a str, &'a str);
 
-fn file(alloc: Global, name: &str, bytes: &[u8]) -> Result<ShelfFile, AllocError> {
-    Ok(ShelfFile {
-        name: String::from_str(alloc, name)?,
-        bytes: bytes.to_vec(alloc)?,
-    })
+// A shelf with the inputs `a.json` and `a`, which both hold the input, and the outputs `b.json` and `b.wkt`.
+fn shelf_with(alloc: Global, input: &str) -> Result<Shelf, NoMemory> {
+    let mut files = Vec::new(alloc);
+    files.push(file(alloc, "a.json", input.as_bytes())?)?;
+    files.push(file(alloc, "a", input.as_bytes())?)?;
+    files.push(file(alloc, "b.json", BEFORE.as_bytes())?)?;
+    files.push(file(alloc, "b.wkt", BEFORE.as_bytes())?)?;
+    Ok(Shelf::new(alloc, files, Vec::new(alloc), LONGEST_INPUT, LONGEST_INPUT)?)
 }
 
-// Runs the program on the words of a line, of which these two name its files.
-fn answer(
-    alloc: Global,
-    line: &str,
-    from: &str,
-    to: &str,
-    input: &str,
-) -> Result<(Outcome, Shelf), Fail> {
+// Runs the program on the words of a line.
+fn answer(alloc: Global, line: &str, files: &mut Shelf) -> Result<Outcome, Fail> {
     let mut words = Vec::new(alloc);
     for word in line.split_whitespace() {
         words.push(String::from_str(alloc, word)?)?;
     }
-    let mut files = Vec::new(alloc);
-    files.push(file(alloc, from, input.as_bytes())?)?;
-    files.push(file(alloc, to, BEFORE.as_bytes())?)?;
-    let mut shelf = Shelf::new(alloc, files, Vec::new(alloc), LONGEST_INPUT, LONGEST_INPUT)?;
-    let came = cover(alloc, &words, &mut shelf);
-    Ok((came, shelf))
+    Ok(cover(alloc, &words, files))
 }
 
 #[test]
@@ -60,37 +54,29 @@ fn each_name_has_its_form(rt: HostRuntime) -> Result<(), Fail> {
     let cases: [Case; 6] = [
         (
             "clean a.json b.json --rule least-index",
-            "a.json",
             "b.json",
             TWO,
             TWO_CLEANED,
         ),
         (
-            "simplify a.json b.geojson --tolerance 0",
-            "a.json",
-            "b.geojson",
+            "simplify a.json b.json --tolerance 0",
+            "b.json",
             TWO_CLEANED,
             TWO_CLEANED,
         ),
-        (
-            "clean a.json b.wkt --rule least-index",
-            "a.json",
-            "b.wkt",
-            TWO,
-            text,
-        ),
-        ("validate a.json b.json", "a.json", "b.json", TWO, none),
-        ("union a.json b.json", "a.json", "b.json", TWO, UNITED),
+        ("clean a.json b.wkt --rule least-index", "b.wkt", TWO, text),
+        ("validate a.json b.json", "b.json", TWO, none),
+        ("union a.json b.json", "b.json", TWO, UNITED),
         (
             "clean a b.json --rule least-index",
-            "a",
             "b.json",
             square,
             UNITED,
         ),
     ];
-    for (line, from, to, input, expected) in cases {
-        let (came, files) = answer(rt.alloc(), line, from, to, input)?;
+    for (line, to, input, expected) in cases {
+        let mut files = shelf_with(rt.alloc(), input)?;
+        let came = answer(rt.alloc(), line, &mut files)?;
         assert_eq!(rt; came, Outcome::Done, "{line}");
         assert!(rt; files.held(to) == Some(expected.as_bytes()), "{line}");
     }
@@ -99,12 +85,14 @@ fn each_name_has_its_form(rt: HostRuntime) -> Result<(), Fail> {
 
 #[test]
 fn a_float_of_the_properties_is_passed_on(rt: HostRuntime) -> Result<(), Fail> {
-    let (came, files) = answer(
+    let mut files = shelf_with(
+        rt.alloc(),
+        "{\"type\":\"Feature\",\"properties\":{\"h\":1.5},\"geometry\":{\"type\":\"Polygon\",\"coordinates\":[[[0,0],[4,0],[0,4],[0,0]]]}}",
+    )?;
+    let came = answer(
         rt.alloc(),
         "clean a.json b.json --rule least-index",
-        "a.json",
-        "b.json",
-        "{\"type\":\"Feature\",\"properties\":{\"h\":1.5},\"geometry\":{\"type\":\"Polygon\",\"coordinates\":[[[0,0],[4,0],[0,4],[0,0]]]}}",
+        &mut files,
     )?;
     assert_eq!(rt; came, Outcome::Done, "clean");
     let begin =
@@ -127,9 +115,10 @@ fn faulty_documents_are_refused(rt: HostRuntime) -> Result<(), Fail> {
             "json: bad shape in feature 0",
         ),
     ] {
-        let (came, files) = answer(alloc, "node a.geojson b", "a.geojson", "b", input)?;
+        let mut files = shelf_with(alloc, input)?;
+        let came = answer(alloc, "node a.json b.wkt", &mut files)?;
         assert_eq!(rt; came, Outcome::BadJson(fault), "{line}");
-        assert!(rt; files.held("b") == Some(BEFORE.as_bytes()), "{line}");
+        assert!(rt; files.held("b.wkt") == Some(BEFORE.as_bytes()), "{line}");
         assert_eq!(rt; status(&came), 5, "{line}");
         assert!(rt; message(alloc, &came)?.as_str() == line, "{line}");
     }

@@ -9,7 +9,8 @@ use std::alloc::Global;
 /// What `out` holds before the program runs.
 pub const BEFORE: &str = "as it was\n";
 
-fn file(alloc: Global, name: &str, bytes: &[u8]) -> Result<ShelfFile, NoMemory>
+/// A file of this name that holds the bytes.
+pub fn file(alloc: Global, name: &str, bytes: &[u8]) -> Result<ShelfFile, NoMemory>
     ensures { IfOk result (λ f. entry_of f ≡ record { name = name.now; bytes = bytes.now }) }
 {
     Ok(ShelfFile {

@@ -6,8 +6,9 @@ Usage: tools/regions.py FILE..          writes the rows of each file by the defi
 
 PROGRAM in the environment names another program than the proved one. It shares no method with the program: hot
 pixels by clipping, faces by the signed areas of boundary walks and containment, labels by counting the crossings of
-the leaning ray from the side point of each region's least side.
+the leaning ray from the side point of each region's least side, clearances by trying all grid points.
 """
+import math
 import os
 import pathlib
 import random
@@ -176,6 +177,24 @@ def regions_of(edges):
     return list(faces.values()), outer
 
 
+def distance4(p, e):
+    """Four times the squared distance of a point and an edge."""
+    (x, y), (dx, dy) = (p[0] - e[0][0], p[1] - e[0][1]), (e[1][0] - e[0][0], e[1][1] - e[0][1])
+    at = min(max(F(x * dx + y * dy, dx * dx + dy * dy), 0), 1)
+    return 4 * ((x - at * dx) ** 2 + (y - at * dy) ** 2)
+
+
+def clearance(edges, face):
+    """The greatest whole number that is at most twice the distance of some grid point of the face to every edge."""
+    xs, ys = zip(*(p for walk in face for side in walk for p in ends(edges, side)))
+    widest = 0
+    for x in range(min(xs), max(xs) + 1):
+        for y in range(min(ys), max(ys) + 1):
+            if sum(winds_round(edges, walk, (x, y)) for walk in face) != 0:
+                widest = max(widest, math.isqrt(math.floor(min(distance4((x, y), e) for e in edges))))
+    return widest
+
+
 def rows(text):
     members = members_of(text)
     uses = uses_of(members)
@@ -193,7 +212,8 @@ def rows(text):
                  if sum(n for (i, e), n in counts.items() if i == m and is_over(e, p)) % 2 == 1]
         kind = "gap" if not label else "single" if len(label) == 1 else "shared"
         area = sum(doubled_area(edges, walk) for walk in face)
-        lines.append((number, f"{kind} {','.join(map(str, label)) or '-'} {area} -"))
+        room = "-" if label else clearance(edges, face)
+        lines.append((number, f"{kind} {','.join(map(str, label)) or '-'} {area} {room}"))
     return "".join(f"{number} {line}\n" for number, line in sorted(lines))
 
 

@@ -28,7 +28,7 @@ pub(crate) fn split_block(boxes: &[Rect]) -> (&[Rect], &[Rect])
     boxes.split_at(boxes.len().min(8))
 }
 
-/// A box about all these boxes.
+/// A box about all these boxes. Takes time in proportion to them, and no memory.
 pub fn hull_of(boxes: &[Rect]) -> Rect
     requires { 0 < length boxes.now }
     ensures { All (λ b. IsInside b result) boxes.now }

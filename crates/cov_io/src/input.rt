@@ -37,7 +37,7 @@ impl From<AllocError> for SlurpError {
     }
 }
 
-/// Reads the whole file of this name, which may hold at most `limit` bytes.
+/// Reads the whole file of this name, which may hold at most `limit` bytes. Takes time and memory in proportion to what it reads.
 pub fn slurp<F: Files>(
     alloc: Global,
     files: &mut F,

@@ -36,7 +36,7 @@ fn write_all<F: Files>(files: &mut F, bytes: &[u8]) -> Result<(), WriteFault>
     Ok(())
 }
 
-/// Writes these bytes over the file of this name.
+/// Writes these bytes over the file of this name. Takes time in proportion to them, and no memory.
 pub fn spill<F: Files>(files: &mut F, name: &str, bytes: &[u8]) -> Result<(), WriteFault>
     ensures held { OnOk result (IsTrue (F.state files.old).tells_files
         → HoldsNow name.now bytes.now (F.state files.old).files (F.state files.new).files) }

@@ -2,7 +2,7 @@ ghost use Rattle.std.specs.Prelude.{IsTrue, ◌↔◌, ◌≡◌};
 
 use crate::coverage::{Coverage, Member, Poly, Ring};
 
-/// Whether the two coverages are equal lists.
+/// Whether the two coverages are equal lists. Takes time in proportion to the smaller one's points, and no memory.
 pub fn same_coverage(a: &Coverage, b: &Coverage) -> bool
     ensures { IsTrue result ↔ (a.now ≡ b.now) }
 {

@@ -60,7 +60,7 @@ fn append_member_line(out: &mut Vec<u8>, member: &Member) -> Result<(), NoMemory
 }
 
 /// The coverage as text, one line for each member, polygons and rings in the order of their lists.
-/// It fails only where memory runs out.
+/// It fails only where memory runs out. Takes time and memory in proportion to the text.
 pub fn text_of(alloc: Global, c: &Coverage) -> Result<Vec<u8>, NoMemory>
     ensures { IfOk result (λ v. v.items ≡ coverage_text c.now) }
 {

@@ -32,7 +32,7 @@ fn append_segments_line(out: &mut Vec<u8>, segments: &[Seg]) -> Result<(), NoMem
 }
 
 /// One line for each list of segments, which stay in their order.
-/// It fails only where memory runs out.
+/// It fails only where memory runs out. Takes time and memory in proportion to the text.
 pub fn lines_of(alloc: Global, lists: &[Vec<Seg>]) -> Result<Vec<u8>, NoMemory>
     ensures { IfOk result (λ v. v.items ≡ lines_text (map (λ l. l.items) lists.now)) }
 {

@@ -32,6 +32,9 @@ fn run<F: Files>(alloc: Global, operation: &Operation, files: &mut F) -> Outcome
 ///
 /// What is said of contents holds over a files object that tells them. Memory may run out at any point before the
 /// output is created, and at none after it; while the words are read too, whether they are accepted or not.
+///
+/// Takes n log n time for ordinary files of n segments, and memory in proportion to the input and the output; the calls that make each
+/// operation's text say what the rest depends on.
 pub fn cover<F: Files>(alloc: Global, words: &[String], files: &mut F) -> Outcome
     ensures usage { result ≡ Outcome.Usage → operation_of (map string_bytes words.now) ≡ None }
     ensures unaccepted { operation_of (map string_bytes words.now) ≡ None

@@ -130,6 +130,21 @@ impl<'a> Labels<'a> {
         border
     }
 
+    /// The owned border of the region with a member, in 1/256 units: the length shared with the regions that have a label and are owned
+    /// by the member. There is one owner for each side, read at the numbers of regions. Takes time in proportion to the sides of the
+    /// region.
+    pub fn border_by(&self, region: usize, owners: &[Option<u32>], member: u32) -> u128
+        requires region { IsRegion self.now.edges region }
+        requires owners { length owners.now ≡ 2 * length self.now.edges }
+        ensures { (o : Overlay) → IsOverlay self.now o → result ≡ owned_border o (owner_in owners.now) region member }
+    {
+        let mut border = 0;
+        for side in self.sides.group(region) {
+            border += self.length_if_owned(Side::of_number(*side), owners, member);
+        }
+        border
+    }
+
     /// The sides of the region beyond which a region with a label has an owner, each with that owner and its length. So the lengths of the
     /// sides of one owner add up to the owned border with it. There is one owner for each side, read at the numbers of regions. Takes
     /// time and memory in proportion to the sides of the region.
@@ -169,6 +184,25 @@ impl<'a> Labels<'a> {
                 length: length_of_side(self.edges, side),
             }),
             None => None,
+        }
+    }
+
+    // The length of the side, if the region across it has a label and is owned by the member.
+    fn length_if_owned(&self, side: Side, owners: &[Option<u32>], member: u32) -> u128
+        requires within { side.number < 2 * length self.now.edges }
+        requires owners { length owners.now ≡ 2 * length self.now.edges }
+        ensures exact { (o : Overlay) → IsOverlay self.now o → result ≡ side_length o (is_owned o (owner_in owners.now) member) side.number }
+        ensures small { result < 2 ^ 64 }
+    {
+        match self.owned_side(side, owners) {
+            Some(owned) => {
+                if owned.member == member {
+                    owned.length
+                } else {
+                    0
+                }
+            }
+            None => 0,
         }
     }
 

@@ -269,6 +269,11 @@ fn expect_owned(
         let region = region_of(rt, regions, labels, owners.len(), *number);
         let sides = labels.owned_sides(alloc, region, owners)?;
         assert_eq!(rt; length_by(&sides, *member), *border, "region {region}");
+        assert_eq!(rt;
+            labels.border_by(region, owners, *member),
+            *border,
+            "region {region}"
+        );
     }
     Ok(())
 }

@@ -4,6 +4,7 @@ ghost use Rattle.box_tree.specs.Curve.{above_least, spread, curve_of};
 use cov_types::Coord;
 
 /// The place of a point along a curve that keeps near points together: the bits of its two numbers in turn (Morton order).
+/// Takes constant time.
 pub fn curve(p: Coord) -> u64
     ensures { result ≡ curve_of p }
 {

@@ -21,7 +21,7 @@ pub enum Probe {
 }
 
 impl Probe {
-    /// Whether the probe reaches a box.
+    /// Whether the probe reaches a box. Takes constant time.
     pub fn reaches(&self, b: Rect) -> bool
         requires { IsProbeInRange self.now }
         ensures { result ≡ reaches self.now b }

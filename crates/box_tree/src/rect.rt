@@ -15,21 +15,21 @@ pub struct Rect {
 impl Rect {
     ghost use Rattle.box_tree.specs.Rect.{IsInside, box_of_point, box_of_segment, is_touching, spanned};
 
-    /// The box of one point.
+    /// The box of one point. Takes constant time.
     pub fn of_point(p: Coord) -> Rect
         ensures { result ≡ box_of_point p }
     {
         Rect { lo: p, hi: p }
     }
 
-    /// The least box that has both ends of the segment, and so all of it.
+    /// The least box that has both ends of the segment, and so all of it. Takes constant time.
     pub fn of_segment(s: Seg) -> Rect
         ensures { result ≡ box_of_segment s }
     {
         Rect::spanning(s.lo, s.hi)
     }
 
-    /// The least box that has both points.
+    /// The least box that has both points. Takes constant time.
     pub fn spanning(a: Coord, b: Coord) -> Rect
         ensures { result ≡ spanned a b }
     {
@@ -45,7 +45,7 @@ impl Rect {
         }
     }
 
-    /// The least box that has both boxes.
+    /// The least box that has both boxes. Takes constant time.
     pub fn hull(self, other: Rect) -> Rect
         ensures has_self { IsInside self result }
         ensures has_other { IsInside other result }
@@ -63,7 +63,7 @@ impl Rect {
         }
     }
 
-    /// Whether the two closed boxes have a point in common.
+    /// Whether the two closed boxes have a point in common. Takes constant time.
     pub fn touches(self, other: Rect) -> bool
         ensures { result ≡ is_touching self other }
     {

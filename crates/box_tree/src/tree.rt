@@ -48,7 +48,7 @@ impl BoxTree {
         Ok(BoxTree { levels })
     }
 
-    /// The boxes, in their order.
+    /// The boxes, in their order. Takes constant time.
     pub fn boxes(&self) -> &[Rect]
         ensures { result.now ≡ self.now }
     {
@@ -96,7 +96,8 @@ impl BoxTree {
         Ok(())
     }
 
-    /// Settles all boxes: it shows a search those whose hulls may matter when their turn comes, level by level.
+    /// Settles all boxes: it shows a search those whose hulls may matter when their turn comes, level by level. Takes
+    /// time in proportion to what it shows the search, of which each step takes its own.
     pub fn search<S: Search>(&self, search: &mut S)
         requires { S.is_among search.old self.now }
         ensures among { S.is_among search.new self.now }

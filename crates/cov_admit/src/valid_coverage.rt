@@ -25,7 +25,7 @@ impl Model for ValidCoverage {
 }
 
 impl ValidCoverage {
-    /// A coverage that is known to be formed and valid.
+    /// A coverage that is known to be formed and valid. Takes constant time.
     pub fn known(coverage: Coverage) -> ValidCoverage
         requires formed { IsFormed coverage }
         requires valid { IsValid (uses_of coverage) }
@@ -34,7 +34,7 @@ impl ValidCoverage {
         ValidCoverage { coverage }
     }
 
-    /// The coverage.
+    /// The coverage. Takes constant time.
     pub fn coverage(&self) -> &Coverage
         ensures coverage { result.now ≡ self.now }
         ensures formed { IsFormed self.now }
@@ -43,7 +43,7 @@ impl ValidCoverage {
         &self.coverage
     }
 
-    /// The coverage, given out.
+    /// The coverage, given out. Takes constant time.
     pub fn into_coverage(self) -> Coverage
         ensures coverage { result ≡ self }
         ensures formed { IsFormed result }

@@ -19,7 +19,7 @@ pub struct Disk<R: rt::Files + Drop> {
 }
 
 impl<R: rt::Files + Drop> Disk<R> {
-    /// No file is open yet.
+    /// No file is open yet. Takes constant time.
     pub fn new(rt: R) -> Disk<R>
         ensures { ⟦<Disk<R> as Files>⟧.state result ≡ untold 0 0 false false }
     {

@@ -95,7 +95,7 @@ impl Shelf {
         })
     }
 
-    /// What the file of this name holds.
+    /// What the file of this name holds. Takes time in proportion to the files.
     pub fn held(&self, name: &str) -> Option<&[u8]>
         ensures held { IfSome result (λ bytes. held self.now.stored.entries name.now ≡ Some bytes.now) }
         ensures missing { IfNone result (held self.now.stored.entries name.now ≡ None) }

@@ -12,7 +12,7 @@ pub struct Coord {
 }
 
 impl Coord {
-    /// Whether both numbers lie from -LIMIT to LIMIT.
+    /// Whether both numbers lie from -LIMIT to LIMIT. Takes constant time.
     pub fn is_in_range(self) -> bool
         ensures { IsTrue result ↔ IsInRange self }
     {

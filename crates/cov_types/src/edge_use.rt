@@ -11,7 +11,7 @@ pub struct EdgeUse {
 }
 
 impl EdgeUse {
-    /// Whether the two are one use.
+    /// Whether the two are one use. Takes constant time.
     pub fn is_same(self, other: EdgeUse) -> bool
         ensures { IsTrue result ↔ (self ≡ other) }
     {

@@ -3,7 +3,7 @@ ghost use Rattle.cov_types.specs.Coverage.{AllInRange, IsMemberInRange, IsPolyIn
 
 use crate::coverage::{Coverage, Member, Poly, Ring};
 
-/// Whether every coordinate is in range and there are fewer than 2^32 members.
+/// Whether every coordinate is in range and there are fewer than 2^32 members. Takes time in proportion to the points.
 pub fn in_range(c: &Coverage) -> bool
     ensures { IsTrue result ↔ AllInRange c.now }
 {

@@ -15,14 +15,14 @@ impl Seg {
     ghost use Rattle.cov_types.specs.Seg.{IsSegBetween};
     ghost use Rattle.cov_types.specs.Uses.{seg_between};
 
-    /// Whether the two are one segment.
+    /// Whether the two are one segment. Takes constant time.
     pub fn is_same(self, other: Seg) -> bool
         ensures { IsTrue result ↔ (self ≡ other) }
     {
         self == other
     }
 
-    /// The segment between two points, or None where they are one point.
+    /// The segment between two points, or None where they are one point. Takes constant time.
     pub fn between(a: Coord, b: Coord) -> Option<Seg>
         ensures same { IsNone result ↔ (a ≡ b) }
         ensures value { result ≡ seg_between a b }

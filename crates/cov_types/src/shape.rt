@@ -5,6 +5,7 @@ use crate::coverage::{Coverage, Member, Poly, Ring};
 use crate::range::in_range;
 
 /// Whether the coverage is in range, every polygon has a ring and every ring has three points or more.
+/// Takes time in proportion to the points.
 pub fn formed(c: &Coverage) -> bool
     ensures { IsTrue result ↔ IsFormed c.now }
 {

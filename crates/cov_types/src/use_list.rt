@@ -10,7 +10,7 @@ use crate::outline::Outline;
 use std::alloc::Global;
 
 /// The segments of non-zero length of the coverage, each beside the number of its member, in the order of
-/// members, polygons, rings and points; the closing segment of a ring comes last.
+/// members, polygons, rings and points; the closing segment of a ring comes last. Takes time and memory in proportion to the points.
 pub fn uses(alloc: Global, c: &Coverage) -> Result<Vec<EdgeUse>, NoMemory>
     requires { AllInRange c.now }
     ensures exact { IfOk result (λ v. v.items ≡ uses_of c.now) }

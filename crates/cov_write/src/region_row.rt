@@ -5,7 +5,7 @@ ghost use Rattle.cov_write.specs.Rows.{kind_text, label_text, clearance_text, ou
 use crate::written::append_number;
 use cov_types::NoMemory;
 
-/// Appends the row of the outer region. After an error some of it may be there.
+/// Appends the row of the outer region. After an error some of it may be there. Takes constant time.
 pub fn append_outer_row(out: &mut Vec<u8>, number: usize) -> Result<(), NoMemory>
     ensures { OnOk result (out.new.items ≡ out.old.items ++ outer_row number) }
 {
@@ -15,7 +15,7 @@ pub fn append_outer_row(out: &mut Vec<u8>, number: usize) -> Result<(), NoMemory
 }
 
 /// Appends the row of a region that isn't outer, by its label, its doubled area and, of a gap, its clearance. The label is
-/// the numbers of the members that hold its points. After an error some of the row may be there.
+/// the numbers of the members that hold its points. After an error some of the row may be there. Takes time in proportion to the row.
 pub fn append_inner_row(
     out: &mut Vec<u8>,
     number: usize,

@@ -33,7 +33,7 @@ pub enum Outcome {
     NoMemory,
 }
 
-/// The exit status of the program.
+/// The exit status of the program. Takes constant time.
 pub fn status(o: &Outcome) -> u8
     ensures { result ≡ status_of o.now }
 {
@@ -51,7 +51,7 @@ pub fn status(o: &Outcome) -> u8
     }
 }
 
-/// The line that the program prints, without its line end.
+/// The line that the program prints, without its line end. Takes constant time.
 pub fn message(alloc: Global, o: &Outcome) -> Result<String, NoMemory>
     ensures { IfOk result (λ text. string_bytes text ≡ message_of o.now) }
 {

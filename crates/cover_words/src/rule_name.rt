@@ -10,7 +10,7 @@ pub enum RuleName {
     LongestBorder,
 }
 
-/// The rule that the word names, if it is one of the four.
+/// The rule that the word names, if it is one of the four. Takes constant time.
 pub fn rule_named(word: &str) -> Option<RuleName>
     ensures { result ≡ rule_of_word word.now }
 {

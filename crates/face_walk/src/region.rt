@@ -56,7 +56,7 @@ impl<'a> Regions<'a> {
         })
     }
 
-    /// The region of a side: the least side whose side point is joined with its own.
+    /// The region of a side: the least side whose side point is joined with its own. Takes constant time.
     pub fn region_of(&self, side: usize) -> usize
         requires within { side < 2 * length self.now }
         ensures within { result < 2 * length self.now }
@@ -70,7 +70,7 @@ impl<'a> Regions<'a> {
         self.least[side]
     }
 
-    /// The region of each side, by the number of the side.
+    /// The region of each side, by the number of the side. Takes constant time.
     pub fn numbers(&self) -> &[usize]
         ensures regions { AreRegions self.now result.now }
         ensures no_later { (n : ℕ) → n < 2 * length self.now → slice_index result.now n ≤ n }
@@ -82,7 +82,7 @@ impl<'a> Regions<'a> {
         &self.least
     }
 
-    /// The region round everything; None where there is no edge.
+    /// The region round everything; None where there is no edge. Takes constant time.
     pub fn outer(&self) -> Option<usize>
         ensures none { IsNone result ↔ (self.now ≡ []) }
         ensures outer { IfSome result (λ r. IsOuterRegion self.now r) }

@@ -124,7 +124,7 @@ fn read_all(alloc: Global, bytes: &[u8]) -> Result<Coverage, TextError>
 }
 
 /// Reads a well-known text of polygons: each polygon, multipolygon and element of a collection is a member of the
-/// coverage, in order.
+/// coverage, in order. Takes time in proportion to the text, and memory in proportion to the points.
 pub fn read_text(alloc: Global, bytes: &[u8]) -> Result<Coverage, TextError>
     requires { length bytes.now ≤ LONGEST_INPUT }
     ensures read { IfOk result (λ c. Reads bytes.now c) }

@@ -11,7 +11,7 @@ use cov_types::{Coord, Seg};
 use std::cmp::Ordering;
 
 /// How a grid point lies to a segment along the ray, at a point within the segment's sweep range: Less
-/// below it, Equal on it, Greater above it.
+/// below it, Equal on it, Greater above it. Takes constant time.
 pub fn below(p: Coord, s: Seg) -> Ordering
     requires point_in_range { IsInRange p }
     requires segment_in_range { IsSegInRange s }

@@ -6,7 +6,7 @@ ghost use Rattle.plane.specs.Segment.{IsOn};
 use crate::orientation::turn_to;
 use cov_types::{Coord, Seg};
 
-/// Whether p is a point of s, the ends included.
+/// Whether p is a point of s, the ends included. Takes constant time.
 pub fn on_segment(p: Coord, s: Seg) -> bool
     requires point { IsInRange p }
     requires segment { IsSegInRange s }

@@ -12,7 +12,7 @@ use crate::orientation::turn_to;
 use cov_types::{Coord, Seg};
 use plane::{Badness, Contact};
 
-/// The point in which two segments cross: inside both, and their only common point.
+/// The point in which two segments cross: inside both, and their only common point. Takes constant time.
 pub fn crossing(s: Seg, t: Seg) -> Option<Cross>
     requires s_in_range { IsSegInRange s }
     requires t_in_range { IsSegInRange t }

@@ -5,14 +5,14 @@ ghost use Rattle.plane.specs.Length.{root, edge_length};
 
 use cov_types::Seg;
 
-/// The square root of a number, rounded down.
+/// The square root of a number, rounded down. Takes constant time.
 pub fn root(n: u128) -> u128
     ensures { result ≡ root n }
 {
     n.isqrt()
 }
 
-/// The length of a segment in 1/256 units, rounded down.
+/// The length of a segment in 1/256 units, rounded down. Takes constant time.
 pub fn edge_len(s: Seg) -> u64
     requires in_range { IsSegInRange s }
     ensures { result ≡ edge_length s }

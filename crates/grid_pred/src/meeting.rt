@@ -8,7 +8,7 @@ use crate::orientation::turn_to;
 use cov_types::Seg;
 use plane::{Badness, Contact};
 
-/// How two segments meet.
+/// How two segments meet. Takes constant time.
 pub fn relation(s: Seg, t: Seg) -> Contact
     requires s_in_range { IsSegInRange s }
     requires t_in_range { IsSegInRange t }
@@ -34,7 +34,7 @@ pub fn relation(s: Seg, t: Seg) -> Contact
     contact_at(is_end_on_line(s_lo, s_hi), is_end_on_line(t_lo, t_hi))
 }
 
-/// Whether two segments that are not equal have a point in common that is not an end of both.
+/// Whether two segments that are not equal have a point in common that is not an end of both. Takes constant time.
 pub fn meets_badly(s: Seg, t: Seg) -> bool
     requires s_in_range { IsSegInRange s }
     requires t_in_range { IsSegInRange t }

@@ -7,7 +7,7 @@ ghost use Rattle.plane.specs.Segment.{turn_of, side};
 use crate::exact::{difference, product, wide_product};
 use cov_types::{Coord, Seg};
 
-/// Twice the area of the triangle abc, in square grid units: positive where c is on the left of a to b.
+/// Twice the area of the triangle abc, in square grid units: positive where c is on the left of a to b. Takes constant time.
 pub fn turn(a: Coord, b: Coord, c: Coord) -> i128
     ensures { result ≡ turn_of a b c }
 {
@@ -15,7 +15,7 @@ pub fn turn(a: Coord, b: Coord, c: Coord) -> i128
         - wide_product(difference(b.y, a.y), difference(c.x, a.x))
 }
 
-/// The same of three points in range, in 64 bits.
+/// The same of three points in range, in 64 bits. Takes constant time.
 pub fn turn_in_range(a: Coord, b: Coord, c: Coord) -> i64
     requires a_in_range { IsInRange a }
     requires b_in_range { IsInRange b }
@@ -28,7 +28,7 @@ pub fn turn_in_range(a: Coord, b: Coord, c: Coord) -> i64
 }
 
 /// The turn from the ends of a segment to a point: negative where the point is on the right of lo to hi, 0 where it is on their
-/// line, positive on the left.
+/// line, positive on the left. Takes constant time.
 pub fn turn_to(s: Seg, p: Coord) -> i64
     requires segment_in_range { IsSegInRange s }
     requires point_in_range { IsInRange p }

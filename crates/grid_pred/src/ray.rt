@@ -11,7 +11,7 @@ ghost use Rattle.grid_pred.specs.Ray.{IsSmallPoint, IsSmallVector, Writes};
 use crate::exact::{difference, product, sum};
 use cov_types::{Coord, Seg};
 
-/// Whether the edge is over a grid point: the ray from the point meets it.
+/// Whether the edge is over a grid point: the ray from the point meets it. Takes constant time.
 pub fn over(e: Seg, p: Coord) -> bool
     requires edge_in_range { IsSegInRange e }
     requires point_in_range { IsInRange p }
@@ -27,7 +27,7 @@ pub fn over(e: Seg, p: Coord) -> bool
     )
 }
 
-/// Whether the edge e is over the midpoint of s.
+/// Whether the edge e is over the midpoint of s. Takes constant time.
 pub fn over_mid(e: Seg, s: Seg) -> bool
     requires edge_in_range { IsSegInRange e }
     requires segment_in_range { IsSegInRange s }
@@ -44,7 +44,7 @@ pub fn over_mid(e: Seg, s: Seg) -> bool
 }
 
 /// Whether the edge e is over the upper side point of s. It is exactly where it is over the midpoint: the ray leads from the one to
-/// the other, which is so near that each edge strictly above the midpoint is strictly above it too.
+/// the other, which is so near that each edge strictly above the midpoint is strictly above it too. Takes constant time.
 pub fn over_upper(e: Seg, s: Seg) -> bool
     requires edge_in_range { IsSegInRange e }
     requires segment_in_range { IsSegInRange s }
@@ -53,7 +53,7 @@ pub fn over_upper(e: Seg, s: Seg) -> bool
     over_mid(e, s)
 }
 
-/// Whether the edge is over the point c/2 of the half grid: the ray from the point meets it.
+/// Whether the edge is over the point c/2 of the half grid: the ray from the point meets it. Takes constant time.
 pub fn over_half(e: Seg, c: Coord) -> bool
     requires edge_in_range { IsSegInRange e }
     requires point { IsHalfInRange c }
@@ -62,7 +62,7 @@ pub fn over_half(e: Seg, c: Coord) -> bool
     over_point(e, half(c))
 }
 
-/// How much the sweep value grows along a segment.
+/// How much the sweep value grows along a segment. Takes constant time.
 pub fn rise(s: Seg) -> i64
     requires { IsSegInRange s }
     ensures exact { result ≡ sweep_rise s }

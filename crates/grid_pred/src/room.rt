@@ -31,7 +31,7 @@ pub fn reach(c: Coord, e: Seg) -> u64
     (wide_product(side, side).unsigned_abs() / length as u128) as u64
 }
 
-/// Whether twice the distance of a grid point to a segment is w or more, in grid units.
+/// Whether twice the distance of a grid point to a segment is w or more, in grid units. Takes constant time.
 pub fn at_least(q: Coord, s: Seg, w: u32) -> bool
     requires point { IsInRange q }
     requires segment { IsSegInRange s }

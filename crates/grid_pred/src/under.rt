@@ -11,6 +11,7 @@ use crate::ray::rise;
 use cov_types::{Coord, Seg};
 
 /// Whether the edge is under a grid point: the way straight down the ray from the point meets it, and not in its greater end.
+/// Takes constant time.
 pub fn is_under(e: Seg, v: Coord) -> bool
     requires edge_in_range { IsSegInRange e }
     requires point_in_range { IsInRange v }
@@ -20,6 +21,7 @@ pub fn is_under(e: Seg, v: Coord) -> bool
 }
 
 /// Whether e is nearer below v than f, of two edges under v: by how far each is below v, and then by which leads on above the other.
+/// Takes constant time.
 pub fn is_nearer(v: Coord, e: Seg, f: Seg) -> bool
     requires point_in_range { IsInRange v }
     requires e_in_range { IsSegInRange e }

@@ -45,7 +45,7 @@ impl Arena {
         Ok(Arena { edges, next })
     }
 
-    /// How many half-edges there are.
+    /// How many half-edges there are. Takes constant time.
     pub fn len(&self) -> usize
         ensures count { result ≡ 2 * length self.now }
         ensures planar { IsPlanar self.now }
@@ -54,7 +54,7 @@ impl Arena {
         self.next.len()
     }
 
-    /// The edges, in the order in which they were given.
+    /// The edges, in the order in which they were given. Takes constant time.
     pub fn edges(&self) -> &[Seg]
         ensures edges { result.now ≡ self.now }
         ensures planar { IsPlanar self.now }
@@ -63,7 +63,7 @@ impl Arena {
         &self.edges
     }
 
-    /// The half-edge of the same edge in the other direction.
+    /// The half-edge of the same edge in the other direction. Takes constant time.
     pub fn twin(&self, h: usize) -> usize
         requires within { h < 2 * length self.now }
         ensures within { result < 2 * length self.now }
@@ -73,7 +73,7 @@ impl Arena {
         Side::of_number(h).twin().number()
     }
 
-    /// The vertex where the half-edge begins.
+    /// The vertex where the half-edge begins. Takes constant time.
     pub fn origin(&self, h: usize) -> Coord
         requires within { h < 2 * length self.now }
         ensures { (g : HalfEdge) → IsHalfEdge self.now h g → result ≡ origin g }
@@ -81,7 +81,7 @@ impl Arena {
         directed(&self.edges, Side::of_number(h)).origin()
     }
 
-    /// The half-edge that follows it round the region on its left. At a dead end it is the twin.
+    /// The half-edge that follows it round the region on its left. At a dead end it is the twin. Takes constant time.
     pub fn next(&self, h: usize) -> usize
         requires within { h < 2 * length self.now }
         ensures within { result < 2 * length self.now }
@@ -99,6 +99,7 @@ impl Arena {
     }
 
     /// Whether the way straight down the ray is in the sector on the left, between the half-edge and the one that follows it.
+    /// Takes constant time.
     pub fn opens_down(&self, h: usize) -> bool
         requires within { h < 2 * length self.now }
         ensures { (f g : HalfEdge) → IsHalfEdge self.now h f → IsNext self.now f g → result ≡ not (is_before_by_angle g (twin f)) }
@@ -112,7 +113,7 @@ impl Arena {
         next >= back
     }
 
-    /// The edge of the half-edge.
+    /// The edge of the half-edge. Takes constant time.
     pub fn edge(&self, h: usize) -> Seg
         requires within { h < 2 * length self.now }
         ensures { slice_get self.now (h / 2) ≡ Some result }

@@ -11,14 +11,14 @@ pub struct Side {
 }
 
 impl Side {
-    /// The side with the number.
+    /// The side with the number. Takes constant time.
     pub fn of_number(number: usize) -> Side
         ensures { result.number ≡ number }
     {
         Side { number }
     }
 
-    /// The upper side of edge k.
+    /// The upper side of edge k. Takes constant time.
     pub fn upper(k: usize) -> Side
         requires { k < 2 ^ 63 }
         ensures { result.number ≡ 2 * k }
@@ -26,7 +26,7 @@ impl Side {
         Side { number: 2 * k }
     }
 
-    /// The lower side of edge k.
+    /// The lower side of edge k. Takes constant time.
     pub fn lower(k: usize) -> Side
         requires { k < 2 ^ 63 }
         ensures { result.number ≡ 2 * k + 1 }
@@ -34,28 +34,28 @@ impl Side {
         Side { number: 2 * k + 1 }
     }
 
-    /// Its number.
+    /// Its number. Takes constant time.
     pub fn number(self) -> usize
         ensures { result ≡ self.number }
     {
         self.number
     }
 
-    /// The place of its edge.
+    /// The place of its edge. Takes constant time.
     pub fn edge(self) -> usize
         ensures { result ≡ self.number / 2 }
     {
         self.number / 2
     }
 
-    /// Whether it is the upper side of its edge.
+    /// Whether it is the upper side of its edge. Takes constant time.
     pub fn is_upper(self) -> bool
         ensures { result ≡ (self.number % 2 == 0) }
     {
         self.number % 2 == 0
     }
 
-    /// The other side of the same edge, and the half-edge in the other direction.
+    /// The other side of the same edge, and the half-edge in the other direction. Takes constant time.
     pub fn twin(self) -> Side
         ensures across { result.number ≡ across self.number }
         ensures opposite { (edges : List Seg) (g : HalfEdge) → IsHalfEdge edges self.number g → IsHalfEdge edges result.number (twin g) }

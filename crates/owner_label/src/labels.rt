@@ -77,7 +77,7 @@ impl<'a> Labels<'a> {
         })
     }
 
-    /// The members that hold the points of the region, ascending.
+    /// The members that hold the points of the region, ascending. Takes constant time.
     pub fn label(&self, region: usize) -> &[u32]
         requires region { IsRegion self.now.edges region }
         ensures label { (o : Overlay) → IsOverlay self.now o → result.now ≡ label_of o region }

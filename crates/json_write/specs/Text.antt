@@ -69,6 +69,7 @@ abbrev pub features_from : List (List (List (List Coord))) → List Data → Lis
 features_from (m ∷ ms) (p ∷ ps) (i ∷ ids) = record { polys = m; properties = p; id = i } ∷ features_from ms ps ids
 features_from _ _ _ = []
 
+-- the features of what was read
 abbrev pub features_of : Reading → List Feature
 features_of r = features_from r.members r.properties r.ids
 

@@ -19,6 +19,7 @@ use Rattle.json_write.proofs.Standing.{Stands, AllStand, deeper, value_stands, s
 
 -- ---- values
 
+-- a position
 abbrev pub position_data : Coord → Data
 position_data c = array (items (number (of_integer c.x) ∷ number (of_integer c.y) ∷ []))
 
@@ -26,9 +27,11 @@ position_data c = array (items (number (of_integer c.x) ∷ number (of_integer c
 abbrev pub closed : List Coord → List Coord
 closed points = points ++ take 1 points
 
+-- a ring
 abbrev pub ring_data : List Coord → Data
 ring_data points = array (items (map position_data (closed points)))
 
+-- the coordinates of a polygon
 abbrev pub polygon_data : List (List Coord) → Data
 polygon_data rings = array (items (map ring_data rings))
 
@@ -36,6 +39,7 @@ polygon_data rings = array (items (map ring_data rings))
 abbrev pub shape_data : List ℕ → Data → Data
 shape_data name coordinates = object (member (codes "coordinates") coordinates (member (codes "type") (string name) no_members))
 
+-- the geometry of a member
 abbrev pub geometry_data : List (List (List Coord)) → Data
 geometry_data [] = null
 geometry_data (p ∷ []) = shape_data (codes "Polygon") (polygon_data p)
@@ -46,9 +50,11 @@ abbrev pub feature_data_by : Bool → Feature → Data
 feature_data_by true f = object (member (codes "geometry") (geometry_data f.polys) (member (codes "properties") f.properties (member (codes "type") (string (codes "Feature")) no_members)))
 feature_data_by false f = object (member (codes "geometry") (geometry_data f.polys) (member (codes "id") f.id (member (codes "properties") f.properties (member (codes "type") (string (codes "Feature")) no_members))))
 
+-- a feature
 abbrev pub feature_data : Feature → Data
 feature_data f = feature_data_by (is_some (as_null f.id)) f
 
+-- the document of the features
 abbrev pub document_data : List Feature → Data
 document_data fs = object (member (codes "features") (array (items (map feature_data fs))) (member (codes "type") (string (codes "FeatureCollection")) no_members))
 

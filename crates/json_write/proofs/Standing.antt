@@ -29,9 +29,12 @@ use Rattle.json_write.proofs.Printing.{json_text, items_text, members_text, json
 abbrev whole : Option (json.Json × List Token) → Option Data
 whole parsed = option_and_then of_json (option_and_then (λ p. json.if_last p.0 p.1) parsed)
 
--- tokens of JSON that doesn't nest too deep are read as it
+-- tokens of JSON that doesn't nest too deep are parsed as it
+tokens_parsed : (text : List ℕ) (j : json.Json) → tokens text ≡ json_tokens j → tree.depth j ≤ max_depth → json.value max_depth (tokens text) ≡ Some (j, [])
+tokens_parsed text j same shallow = ap (json.value max_depth) (same ∙ sym (append-nil (json_tokens j))) ∙ value-json_tokens j max_depth [] shallow
+
 pub tokens_read : (text : List ℕ) (j : json.Json) → tokens text ≡ json_tokens j → tree.depth j ≤ max_depth → read text ≡ of_json j
-tokens_read text j same shallow = ap whole (ap (json.value max_depth) (same ∙ sym (append-nil (json_tokens j))) ∙ value-json_tokens j max_depth [] shallow)
+tokens_read text j same shallow = ap whole (tokens_parsed text j same shallow)
 
 -- the text is that of JSON that is read as the value and nests at most so deep
 pub record Stands (deep : ℕ) (text : List ℕ) (d : Data) : Type 0 where
@@ -47,18 +50,19 @@ deeper low high text d h s = record { spelling = s.spelling; text_is = s.text_is
 
 -- ---- values, names and numbers
 
+-- what serde_json writes of a value stands for it, numbers that are held as floats or not
 pub value_stands : (deep : ℕ) (d : Data) (text : List ℕ) → IsValueText d text → depth d ≤ deep → deep ≤ max_depth → Stands deep text d
 value_stands deep d text h shallow within =
     let j = h.order.0 in
     let same : tokens text ≡ json_tokens j = h.order.1 in
     let nests = same_depth j d h.order.2 in
-    let parsed : json.value max_depth (tokens text) ≡ Some (j, []) = ap (json.value max_depth) (same ∙ sym (append-nil (json_tokens j))) ∙ value-json_tokens j max_depth [] (omega (arith, nests)) in
+    let within_all : tree.depth j ≤ max_depth = omega (arith, nests) in
     record {
       spelling = j;
       text_is = sym (h.compact ∙ ap print same ∙ json_printed j);
       utf8 = h.utf8;
-      numbers = value-HasNumbers max_depth (tokens text) [] j (ArePrintableOrBad-tokens text) parsed;
-      value = sym (tokens_read text j same (omega (arith, nests))) ∙ h.reads_back (omega arith);
+      numbers = value-HasNumbers max_depth (tokens text) [] j (ArePrintableOrBad-tokens text) (tokens_parsed text j same within_all);
+      value = sym (tokens_read text j same within_all) ∙ h.reads_back (omega arith);
       shallow = omega (arith, nests);
     }
 
@@ -93,6 +97,7 @@ AllStand deep [] (d ∷ ds) = ⊥
 AllStand deep (t ∷ ts) [] = ⊥
 AllStand deep (t ∷ ts) (d ∷ ds) = Stands deep t d × AllStand deep ts ds
 
+-- the text is that of items, the first behind a comma where others stand before, and of the closing bracket
 record ItemsStand (deep : ℕ) (later : Bool) (text : List ℕ) (ds : Items) : Type 0 where
   spelling : json.Items
   text_is : items_text later spelling ≡ text

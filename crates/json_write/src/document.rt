@@ -63,8 +63,8 @@ fn append_features(
     Ok(())
 }
 
-/// The features as one FeatureCollection on one line, which reads back as them unless properties or ids nest too deep.
-/// Linear in time and memory; it fails only where memory runs out.
+/// The features as one FeatureCollection on one line. It reads back as them where their coverage is formed and no value of
+/// properties or of an id nests more than 124 deep. Linear in time and memory; it fails only where memory runs out.
 pub fn json_of(alloc: Global, features: &Features) -> Result<Vec<u8>, NoMemory>
     ensures written { IfOk result (λ v. IsWritten (features_of (held features.now)) v.items) }
     ensures reads_back { IfOk result (λ v. IsReadable (held features.now)

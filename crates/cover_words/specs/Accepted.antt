@@ -23,6 +23,7 @@ is_accepted_by word words =
     else (if bytes_eq word (codes "regions") then takes regions_command words
     else false)))))
 
+-- there is a first word, and the words are accepted by it
 abbrev pub is_accepted : List Text → Bool
 is_accepted [] = false
 is_accepted (word ∷ rest) = is_accepted_by word (word ∷ rest)

@@ -17,8 +17,11 @@ pub data Operation : Type 0 where
   Clean : RuleName → ℕ → Text → Text → Operation
   -- the tolerance, whether only inner lines are simplified; the input, the output
   Simplify : ℕ → Bool → Text → Text → Operation
+  -- the input, the output
   Union : Text → Text → Operation
+  -- the input, the output
   Node : Text → Text → Operation
+  -- the input, the output
   Regions : Text → Text → Operation
 
 -- the names of the files that the operation reads, in the order in which it reads them
@@ -57,39 +60,47 @@ rule_named word =
 
 -- ---- the operation that the matches of its command name
 
--- of the values that were found, where all are there
+-- a validation of the values that were found, where all are there
 abbrev pub validate_with : Option Text → Option Text → Option ℕ → Option Operation
 validate_with (Some from) (Some to) (Some gap) = Some (Validate gap from to)
 validate_with _ _ _ = None
 
+-- a cleaning of the values that were found, where all are there
 abbrev pub clean_with : Option Text → Option Text → Option RuleName → Option ℕ → Option Operation
 clean_with (Some from) (Some to) (Some rule) (Some gap) = Some (Clean rule gap from to)
 clean_with _ _ _ _ = None
 
+-- a simplification of the values that were found, where all are there
 abbrev pub simplify_with : Option Text → Option Text → Option ℕ → Option Bool → Option Operation
 simplify_with (Some from) (Some to) (Some tolerance) (Some inner) = Some (Simplify tolerance inner from to)
 simplify_with _ _ _ _ = None
 
+-- an operation that has no values but its files, where both are there
 abbrev pub files_with : (Text → Text → Operation) → Option Text → Option Text → Option Operation
 files_with operation (Some from) (Some to) = Some (operation from to)
 files_with operation _ _ = None
 
--- of the matches, by the ids of the arguments
+-- the validation that the matches name, by the ids of its arguments
 abbrev pub validate_in : List Row → Option Operation
 validate_in rows = validate_with (text_at (codes "IN") rows) (text_at (codes "OUT") rows) (number_at (codes "gap") rows)
 
+-- the cleaning that they name
 abbrev pub clean_in : List Row → Option Operation
 clean_in rows = clean_with (text_at (codes "IN") rows) (text_at (codes "OUT") rows) (option_and_then rule_named (text_at (codes "rule") rows)) (number_at (codes "gap") rows)
 
+-- the simplification that they name
 abbrev pub simplify_in : List Row → Option Operation
 simplify_in rows = simplify_with (text_at (codes "IN") rows) (text_at (codes "OUT") rows) (number_at (codes "tolerance") rows) (flag_at (codes "inner") rows)
 
+-- the union that they name
 abbrev pub union_in : List Row → Option Operation
 union_in rows = files_with Union (text_at (codes "IN") rows) (text_at (codes "OUT") rows)
 
+-- the noding that they name
 abbrev pub node_in : List Row → Option Operation
 node_in rows = files_with Node (text_at (codes "IN") rows) (text_at (codes "OUT") rows)
 
+-- the listing of regions that they name
 abbrev pub regions_in : List Row → Option Operation
 regions_in rows = files_with Regions (text_at (codes "IN") rows) (text_at (codes "OUT") rows)
 

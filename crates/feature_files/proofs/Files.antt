@@ -1,5 +1,5 @@
 -- By its name a file has one reading or one fault.
-use Rattle.std.proofs.Common.{◌≡◌, ℕ, ◌≤◌, Bool, true, false, List, length, ◌⊎◌, inl, inr, refl, ap, sym, ◌∙◌}
+use Rattle.std.proofs.Common.{◌≡◌, ℕ, ◌≤◌, Bool, true, false, List, length, ◌⊎◌, inl, inr, refl, ap, sym, subst, ◌∙◌}
 use Rattle.cov_types.specs.Coverage.{Members, IsFormed}
 use Rattle.geo_json.proofs.OneAnswer as json
 use Rattle.geo_json.proofs.ReadFormed as json_formed
@@ -14,7 +14,10 @@ use Rattle.geo_text.specs.Fault as text_faults
 use Rattle.geo_text.specs.Reading as text_readings
 use Rattle.geo_text.specs.declared.error.TextFault.{TextFault}
 use Rattle.geo_text.specs.declared.reader.TheConstants.{LONGEST_INPUT}
+use Rattle.json_write.proofs.ReadBack as json_written
+use Rattle.json_write.specs.ReadBack.{IsReadable}
 use Rattle.feature_files.specs.Fault.{IsFaultBy, IsFault}
+use Rattle.feature_files.specs.Form.{IsWrittenBy, IsWrittenAs}
 use Rattle.feature_files.specs.Name.{is_json}
 use Rattle.feature_files.specs.Reading.{bare, IsReadBy, IsRead}
 use Rattle.feature_files.specs.declared.error.FileFault.{FileFault}
@@ -73,3 +76,8 @@ read_faultless name = faultless_by (is_json name)
 
 pub read_formed : (name bytes : List ℕ) (r : Reading) → length bytes ≤ LONGEST_INPUT → IsRead name bytes r → IsFormed r.members
 read_formed name = formed_by (is_json name)
+
+pub read_back : (name text : List ℕ) (r : Reading) → is_json name ≡ true → IsReadable r → IsWrittenAs name r text → IsRead name text r
+read_back name text r named readable written =
+    let back = json_written.read_back r text readable (subst (λ (json_file : Bool). IsWrittenBy json_file r text) named written) in
+    subst (λ (json_file : Bool). IsReadBy json_file text r) (sym named) (record { reads = back.0; faultless = back.1 })

@@ -1,10 +1,12 @@
 -- The laws of files by their name.
-use Rattle.std.specs.Prelude.{◌≡◌, ◌⊎◌, ℕ, ◌≤◌, List, length}
+use Rattle.std.specs.Prelude.{◌≡◌, ◌⊎◌, ℕ, ◌≤◌, true, List, length}
 use Rattle.cov_types.specs.Coverage.{IsFormed}
 use Rattle.geo_json.specs.Reading.{Reading}
 use Rattle.geo_text.specs.declared.reader.TheConstants.{LONGEST_INPUT}
+use Rattle.json_write.specs.ReadBack.{IsReadable}
 use Rattle.feature_files.specs.Fault.{IsFault}
 use Rattle.feature_files.specs.Form.{IsWrittenAs, HasNoFloat}
+use Rattle.feature_files.specs.Name.{is_json}
 use Rattle.feature_files.specs.Reading.{IsRead}
 use Rattle.feature_files.specs.declared.error.FileFault.{FileFault}
 
@@ -31,3 +33,7 @@ FormedLaw = (name bytes : List ℕ) (r : Reading) → length bytes ≤ LONGEST_I
 -- features without a float have one written form
 abbrev pub OneFormLaw : Type 0
 OneFormLaw = (name : List ℕ) (r : Reading) (text other : List ℕ) → HasNoFloat r → IsWrittenAs name r text → IsWrittenAs name r other → text ≡ other
+
+-- a GeoJSON file that holds the written form of features that can be read back is read as those features
+abbrev pub ReadBackLaw : Type 0
+ReadBackLaw = (name text : List ℕ) (r : Reading) → is_json name ≡ true → IsReadable r → IsWrittenAs name r text → IsRead name text r

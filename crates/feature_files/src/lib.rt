@@ -1,7 +1,7 @@
 //! Coverages with properties and ids, in the form that the name of their file says: GeoJSON or text.
 //!
-//! Its promise: a file is read, or refused with its one fault, by the reader of its name's form; and the bytes are the
-//! written form of the name, in which text keeps the members alone.
+//! Its promise: a file is read, or refused with its one fault, by the reader of its name's form; the bytes are the written
+//! form of the name, in which text keeps the members alone; and what is written as GeoJSON reads back.
 #![tactic(auto)]
 
 mod bare;

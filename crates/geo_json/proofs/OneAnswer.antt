@@ -56,7 +56,7 @@ all_shaped number rings (Some f ∷ document) e =
     let rest = all_shaped (number + 1) (rings + ring_count (Some f)) document parts.1 in
     (f ∷ rest.0, ap (λ l. Some f ∷ l) rest.1)
 
-faultless : (bytes : List ℕ) (d : Data) → StandsFor bytes d → fault_of d ≡ None → HasNoFault bytes
+pub faultless : (bytes : List ℕ) (d : Data) → StandsFor bytes d → fault_of d ≡ None → HasNoFault bytes
 faultless bytes d stands none fault (inl h) = h.1 d stands
 faultless bytes d stands none fault (inr h) = none-some fault (sym none ∙ ap fault_of (same_value bytes d h.0 stands h.1) ∙ h.2)
 

@@ -53,21 +53,26 @@ pub record IsTaken {D A B : Type 0} (reading : D → Option A) (shape : A → B)
 abbrev pub AreTaken : {A B : Type 0} → (Data → Option A) → (A → B) → (List A → FirstFaults → FirstFaults) → List Data → FirstFaults → List B → FirstFaults → Type 0
 AreTaken reading shape notes ds before bs after = IsTaken (each reading) (λ items. map shape items) notes ds before bs after
 
--- a position, a ring, a polygon, the polygons of a MultiPolygon that have rings, a geometry
+-- the value is a position, and its point was taken
 abbrev pub IsPositionTaken : Data → FirstFaults → Coord → FirstFaults → Type 0
 IsPositionTaken d before p after = IsTaken position_of point_of (λ position f. noting_positions (position ∷ []) f) d before p after
 
+-- it is a ring, and its points were taken
 abbrev pub IsRingTaken : Data → FirstFaults → List Coord → FirstFaults → Type 0
 IsRingTaken d before points after = IsTaken ring_of points_of (λ ring f. noting_rings (ring ∷ []) f) d before points after
 
+-- it is the coordinates of a Polygon, and its rings were taken
 abbrev pub IsPolygonTaken : Data → FirstFaults → List (List Coord) → FirstFaults → Type 0
 IsPolygonTaken d before rings after = IsTaken polygon_of poly_of noting_rings d before rings after
 
+-- the values are the coordinates of Polygons, and those that have rings were taken
 abbrev pub ArePolygonsTaken : List Data → FirstFaults → List (List (List Coord)) → FirstFaults → Type 0
 ArePolygonsTaken ds before polys after = IsTaken (each polygon_of) (λ polygons. map poly_of (with_rings polygons)) (λ polygons f. noting_rings (rings_of polygons) f) ds before polys after
 
+-- the value is the coordinates of a MultiPolygon, and its polygons that have rings were taken
 abbrev pub IsMultiPolygonTaken : Data → FirstFaults → List (List (List Coord)) → FirstFaults → Type 0
 IsMultiPolygonTaken d before polys after = IsTaken multi_polygon_of (λ polygons. map poly_of (with_rings polygons)) (λ polygons f. noting_rings (rings_of polygons) f) d before polys after
 
+-- it is a geometry, and its polygons were taken
 abbrev pub IsGeometryTaken : Data → FirstFaults → List (List (List Coord)) → FirstFaults → Type 0
 IsGeometryTaken d before polys after = IsTaken geometry_of polys_of (λ polygons f. noting_rings (rings_of polygons) f) d before polys after

@@ -36,13 +36,15 @@ point_of position = record { x = ordinate_at 0 position; y = ordinate_at 1 posit
 abbrev pub points_of : RingShape → List Coord
 points_of ring = take (length ring - 1) (map point_of ring)
 
--- the rings of a polygon, the polygons of a list, those of a feature
+-- the rings of a polygon, each by its points
 abbrev pub poly_of : PolygonShape → List (List Coord)
 poly_of rings = map points_of rings
 
+-- the polygons of a list, each by its rings
 abbrev pub polys_of : List PolygonShape → List (List (List Coord))
 polys_of polygons = map poly_of polygons
 
+-- the polygons of a feature
 abbrev pub polys_of_feature : FeatureShape → List (List (List Coord))
 polys_of_feature f = polys_of f.polygons
 

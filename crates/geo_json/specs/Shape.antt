@@ -34,13 +34,15 @@ is_of_type name d = unwrap_or (option_map (λ text. bytes_eq text name) (option_
 
 -- ---- coordinates
 
--- a position, by its numbers; a ring, by its positions; a polygon, by its rings
+-- a position, by its numbers
 abbrev pub Position : Type 0
 Position = List Num
 
+-- a ring, by its positions
 abbrev pub RingShape : Type 0
 RingShape = List Position
 
+-- a polygon, by its rings
 abbrev pub PolygonShape : Type 0
 PolygonShape = List RingShape
 

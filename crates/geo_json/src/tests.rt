@@ -1,6 +1,7 @@
 use crate::{Features, JsonError, JsonFault, read_json};
 use geo_text::LONGEST_INPUT;
 use std::alloc::{AllocError, Global};
+use std::process::Abort;
 use std::test::Fail;
 
 /// Each member with its polygons, rings and points, and behind it its properties and its id.
@@ -51,6 +52,13 @@ fn answer(alloc: Global, text: &[u8]) -> Result<String, Fail> {
     })
 }
 
+/// The answer on a text is the one that is wanted.
+fn expect(alloc: Global, rt: &impl Abort, text: &str, want: &str) -> Result<(), Fail> {
+    let got = answer(alloc, text.as_bytes())?;
+    assert_eq!(rt; got.as_str(), want, "at {text}");
+    Ok(())
+}
+
 #[test]
 fn documents_are_read(rt: HostRuntime) -> Result<(), Fail> {
     for (text, want) in [
@@ -76,19 +84,27 @@ fn documents_are_read(rt: HostRuntime) -> Result<(), Fail> {
         ),
         (r#"{"type":"FeatureCollection","features":[]}"#, ""),
     ] {
-        let got = answer(rt.alloc(), text.as_bytes())?;
-        assert_eq!(rt; got.as_str(), want, "at {text}");
+        expect(rt.alloc(), &rt, text, want)?;
     }
     Ok(())
 }
 
 #[test]
-fn the_first_fault_decides(rt: HostRuntime) -> Result<(), Fail> {
+fn what_is_no_json_is_refused(rt: HostRuntime) -> Result<(), Fail> {
     for (text, want) in [
         ("", "not json"),
         ("{", "not json"),
         ("\u{feff}{}", "not json"),
         (r#"{"type":"Feature","x":1e999}"#, "not json"),
+    ] {
+        expect(rt.alloc(), &rt, text, want)?;
+    }
+    Ok(())
+}
+
+#[test]
+fn other_shapes_are_refused(rt: HostRuntime) -> Result<(), Fail> {
+    for (text, want) in [
         (r#"{"type":"FeatureCollection"}"#, "bad shape 0"),
         (
             r#"{"type":"FeatureCollection","features":{}}"#,
@@ -119,6 +135,15 @@ fn the_first_fault_decides(rt: HostRuntime) -> Result<(), Fail> {
             r#"{"type":"Polygon","coordinates":[[[0,0,0]],[[0.5,null]]]}"#,
             "bad shape 0",
         ),
+    ] {
+        expect(rt.alloc(), &rt, text, want)?;
+    }
+    Ok(())
+}
+
+#[test]
+fn faulty_positions_and_numbers_are_refused(rt: HostRuntime) -> Result<(), Fail> {
+    for (text, want) in [
         (
             r#"{"type":"Polygon","coordinates":[[[0,0],[4,0,1],[0,4],[0,0]]]}"#,
             "not planar 0",
@@ -152,6 +177,19 @@ fn the_first_fault_decides(rt: HostRuntime) -> Result<(), Fail> {
             "out of range 0",
         ),
         (
+            r#"{"type":"FeatureCollection","features":[{"type":"Feature","geometry":{"type":"Polygon","coordinates":[[[0,0.5]]]}},{"type":"Feature","geometry":{"type":"Polygon","coordinates":[[[0,0,0]]]}}]}"#,
+            "not whole 0",
+        ),
+    ] {
+        expect(rt.alloc(), &rt, text, want)?;
+    }
+    Ok(())
+}
+
+#[test]
+fn short_and_open_rings_are_refused(rt: HostRuntime) -> Result<(), Fail> {
+    for (text, want) in [
+        (
             r#"{"type":"Polygon","coordinates":[[[0,0],[4,0],[0,0]],[[0,0],[4,0],[0,4],[1,0]]]}"#,
             "short 0",
         ),
@@ -163,13 +201,8 @@ fn the_first_fault_decides(rt: HostRuntime) -> Result<(), Fail> {
             r#"{"type":"FeatureCollection","features":[{"type":"Feature","geometry":{"type":"Polygon","coordinates":[[[0,0],[4,0],[0,4],[0,0]]]}},{"type":"Feature","geometry":{"type":"MultiPolygon","coordinates":[[],[[]]]}},{}]}"#,
             "short 1",
         ),
-        (
-            r#"{"type":"FeatureCollection","features":[{"type":"Feature","geometry":{"type":"Polygon","coordinates":[[[0,0.5]]]}},{"type":"Feature","geometry":{"type":"Polygon","coordinates":[[[0,0,0]]]}}]}"#,
-            "not whole 0",
-        ),
     ] {
-        let got = answer(rt.alloc(), text.as_bytes())?;
-        assert_eq!(rt; got.as_str(), want, "at {text}");
+        expect(rt.alloc(), &rt, text, want)?;
     }
     Ok(())
 }

@@ -1,2 +1,11 @@
 pub mod Features
 pub mod Pieces
+pub mod LineFeed
+pub mod Printing
+pub mod Depths
+pub mod Standing
+pub mod DocumentData
+pub mod Shapes
+pub mod Faultless
+pub mod ReadBack
+pub mod Whole

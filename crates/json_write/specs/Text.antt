@@ -1,6 +1,6 @@
 -- The written form of features: one FeatureCollection (RFC 7946) as compact JSON text, the members of objects in the
 -- order of their names.
-use Rattle.std.specs.Prelude.{◌≡◌, ℕ, ◌≤◌, false, if◌then◌else◌, is_some, List, [], ◌∷◌, ◌++◌, take, flat_map, Some, codes, ⊤}
+use Rattle.std.specs.Prelude.{◌≡◌, ℕ, ◌≤◌, false, if◌then◌else◌, is_some, List, [], ◌∷◌, ◌++◌, take, flat_map, Some, codes, IsUtf8, ⊤}
 use Rattle.std.specs.Fmt.{signed_decimal}
 use Rattle.cov_types.specs.declared.coord.Coord.{Coord}
 use Rattle.json.specs.Lex.{tokens}
@@ -52,6 +52,7 @@ geometry_text polys = codes "{\"coordinates\":" ++ in_brackets (separated polygo
 -- a compact text of the value, which is exact where no number of it is held as a float, and reads back
 pub record IsValueText (d : Data) (text : List ℕ) : Type 0 where
   pub exact : has_float d ≡ false → text ≡ compact_text d
+  pub utf8 : IsUtf8 text
   pub compact : text ≡ print (tokens text)
   pub order : IsInOrder text d
   pub reads_back : depth d ≤ max_depth → read text ≡ Some d
@@ -69,6 +70,7 @@ abbrev pub features_from : List (List (List (List Coord))) → List Data → Lis
 features_from (m ∷ ms) (p ∷ ps) (i ∷ ids) = record { polys = m; properties = p; id = i } ∷ features_from ms ps ids
 features_from _ _ _ = []
 
+-- the features of what was read
 abbrev pub features_of : Reading → List Feature
 features_of r = features_from r.members r.properties r.ids
 

@@ -1,7 +1,9 @@
 ghost use Rattle.std.specs.Prelude.{◌≡◌, ℕ, List, ◌++◌, ◌≤◌, map, length, codes, OnOk, IfOk};
 ghost use Rattle.serde_json.specs.View.{view};
 ghost use Rattle.serde_json.specs.Written.{comma_if};
-ghost use Rattle.geo_json.specs.Reading.{held};
+ghost use Rattle.geo_json.specs.Reading.{held, Reads};
+ghost use Rattle.geo_json.specs.Fault.{HasNoFault};
+ghost use Rattle.json_write.specs.ReadBack.{IsReadable};
 ghost use Rattle.json_write.specs.Text.{IsFeatureText, AreFeatureTexts, with_commas, features_from, features_of, IsWritten};
 
 use crate::geometry::append_geometry;
@@ -61,9 +63,12 @@ fn append_features(
     Ok(())
 }
 
-/// The features as one FeatureCollection on one line. Linear in time and memory; it fails only where memory runs out.
+/// The features as one FeatureCollection on one line. It reads back as them where their coverage is formed and no value of
+/// properties or of an id nests more than 124 deep. Linear in time and memory; it fails only where memory runs out.
 pub fn json_of(alloc: Global, features: &Features) -> Result<Vec<u8>, NoMemory>
-    ensures { IfOk result (λ v. IsWritten (features_of (held features.now)) v.items) }
+    ensures written { IfOk result (λ v. IsWritten (features_of (held features.now)) v.items) }
+    ensures reads_back { IfOk result (λ v. IsReadable (held features.now)
+        → Reads v.items (held features.now) × HasNoFault v.items) }
 {
     let mut out = Vec::new(alloc);
     out.extend_from_slice(b"{\"features\":[")?;

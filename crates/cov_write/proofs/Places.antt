@@ -10,7 +10,7 @@ use Rattle.cov_write.specs.Written.{places, without_end_zeros}
 abbrev pub is_zero : ℕ → Bool
 is_zero b = eqb b 48
 
-some_power : (k : ℕ) → 0 < 10 ^ k
+pub some_power : (k : ℕ) → 0 < 10 ^ k
 some_power k = one-le-pow k 10 (omega arith)
 
 no_rest : (k : ℕ) → 0 % 10 ^ k ≡ 0

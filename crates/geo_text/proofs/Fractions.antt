@@ -138,7 +138,7 @@ capped_units cap size whole p up some e =
         omega (arith, a, b, h, much)
     by_cases (inl h) = let same : size ≡ whole = omega (arith, e, h) in ap (λ n. capped cap (n * p + up)) same
 
-times_signed : (p n : ℕ) (negative : Bool) → pos p *ℤ signed negative n ≡ signed negative (p * n)
+pub times_signed : (p n : ℕ) (negative : Bool) → pos p *ℤ signed negative n ≡ signed negative (p * n)
 times_signed p n false = refl
 times_signed p zero true = rw (mul-zero p) refl
 times_signed p (suc n) true = omega (arith, ints)
@@ -163,7 +163,7 @@ scaled_value cap k n h =
     let w = kept cap n.fraction k size (number_from 0 n.whole) h (capped-capped cap (number_from 0 n.whole)) in
     let q = 10 ^ length n.fraction in
     let m = w.whole * 10 ^ w.left_after in
-    let up = if rounds_up n.negative (Scaled w.left_after w.tail) then 1 else 0 in
+    let up : ℕ = if rounds_up n.negative (Scaled w.left_after w.tail) then 1 else 0 in
     let all = number_from 0 (n.whole ++ n.fraction) in
     let digits : all ≡ number_from (number_from 0 n.whole) n.fraction = fold-append (λ i b. 10 * i + (b - 48)) 0 n.whole n.fraction in
     let scaled : 10 ^ k * all ≡ m * q + w.rest = mul_comm (10 ^ k) all ∙ ap (λ i. i * 10 ^ k) digits ∙ w.digits_are in

@@ -1,5 +1,5 @@
 -- The whole number nearest to a fraction, by its whole part and what is left beside one half.
-use Rattle.std.proofs.Common.{◌≡◌, ℕ, zero, suc, ◌+◌, ◌-◌, ◌*◌, ◌/◌, ◌<◌, ◌≤◌, Bool, true, false, pos, negsuc, neg_ℤ, ◌+ℤ◌, ◌*ℤ◌, refl, ap, ◌∙◌, arith, if◌then◌else◌}
+use Rattle.std.proofs.Common.{◌≡◌, ℕ, zero, suc, ◌+◌, ◌-◌, ◌*◌, ◌/◌, ◌<◌, ◌≤◌, Bool, true, false, pos, negsuc, neg_ℤ, ◌+ℤ◌, ◌*ℤ◌, refl, sym, ap, ◌∙◌, arith, if◌then◌else◌}
 use Rattle.std.specs.Int.{int_div_euclid}
 use Rattle.std.proofs.lemmas.Int.{ints}
 use Rattle.std.proofs.lemmas.Nat.{div-mul-add}
@@ -88,3 +88,8 @@ rounds true Empty left m r q some k h = down_neg m r q some (omega (arith, h)) �
 rounds true BelowHalf left m r q some k h = down_neg m r q some (omega (arith, h)) ∙ ap (λ n. neg_ℤ (pos n)) (none_more m)
 rounds true Half left m r q some k h = down_neg m r q some (omega (arith, h)) ∙ ap (λ n. neg_ℤ (pos n)) (none_more m)
 rounds true AboveHalf left m r q some k h = up_neg m r q k h
+
+-- a whole number is the nearest one
+pub nearest_exact : (negative : Bool) (m q : ℕ) → 0 < q → nearest (signed negative (m * q)) q ≡ signed negative m
+nearest_exact negative m q some =
+    ap (λ n. nearest (signed negative n) q) (none_more (m * q)) ∙ rounds negative Empty 0 m 0 q some some refl ∙ ap (signed negative) (sym (none_more m))

@@ -12,9 +12,8 @@ use Rattle.std.proofs.Math.Nat.{add-mul, mul-add, mul_assoc, mul_comm, mul_left_
 use Rattle.cov_types.specs.declared.coord.TheConstants.{LIMIT}
 use Rattle.geo_text.specs.Token.{Numeral, AreDigits, is_digit, IsNumeral, IsSign, IsPoint, number_from, signed}
 use Rattle.geo_text.specs.Decimal.{nearest, value}
-use Rattle.geo_text.specs.declared.fraction.Tail.TheVariants.{Empty}
 use Rattle.geo_text.proofs.Fractions.{times_signed}
-use Rattle.geo_text.proofs.Nearest.{rounds}
+use Rattle.geo_text.proofs.Nearest.{nearest_exact}
 use Rattle.cov_write.specs.Written.{places, without_end_zeros, fraction_text, sign_text, number_text}
 use Rattle.cov_write.proofs.Decimal.{decimal_is_IsDecimal}
 use Rattle.cov_write.proofs.Places.{some_power, nothing_left, first_place, digit_small, rest_below}
@@ -145,7 +144,7 @@ number_is_numeral (Some k) at z h =
       whole = digits.each_digit;
       fraction = digits_are k (size % 10 ^ k) (rest_below k size);
       some_digit = omega arith;
-      spelling = ap (λ (bs : List ℕ). sign_text z ++ (decimal (size / 10 ^ k) ++ bs)) rest.spelling;
+      spelling = append_assoc (sign_text z) (decimal (size / 10 ^ k)) (fraction_text k (size % 10 ^ k)) ∙ ap (λ (bs : List ℕ). sign_text z ++ (decimal (size / 10 ^ k) ++ bs)) rest.spelling;
     }
 
 -- ---- its value
@@ -158,21 +157,13 @@ scaled_value k at z h =
     let q = 10 ^ length fraction in
     let all : number_from 0 (whole ++ fraction) ≡ number_from (size / 10 ^ k) fraction
     = fold-append (λ i b. 10 * i + (b - 48)) 0 whole fraction ∙ ap (λ n. number_from n fraction) (decimal_is_IsDecimal (size / 10 ^ k) (quotient_small size k (small_size z h))).value in
-    let exact : 10 ^ k * number_from 0 (whole ++ fraction) ≡ size * q + 0
+    let exact : 10 ^ k * number_from 0 (whole ++ fraction) ≡ size * q
     = ap (λ n. 10 ^ k * n) all ∙ mul_comm (10 ^ k) (number_from (size / 10 ^ k) fraction)
     ∙ come_to k (size % 10 ^ k) (size / 10 ^ k) (rest_below k size)
-    ∙ ap (λ n. n * q) (div-add-mod' size (10 ^ k)) ∙ no_more (size * q) in
-    let none_up : size + 0 ≡ size = sym (no_more size) in
+    ∙ ap (λ n. n * q) (div-add-mod' size (10 ^ k)) in
     ap (λ n. nearest n q) (times_signed (10 ^ k) (number_from 0 (whole ++ fraction)) (is_negative z) ∙ ap (signed (is_negative z)) exact)
-    ∙ rounds (is_negative z) Empty 0 size 0 q (some_power (length fraction)) (some_power (length fraction)) refl
-    ∙ nothing_up (is_negative z) size
+    ∙ nearest_exact (is_negative z) size q (some_power (length fraction))
     ∙ signed_size z
-  where
-    no_more : (n : ℕ) → n ≡ n + 0
-    no_more n = omega arith
-
-    nothing_up : (negative : Bool) (n : ℕ) → signed negative (n + 0) ≡ signed negative n
-    nothing_up negative n = ap (signed negative) (sym (no_more n))
 
 pub value_read : (scale : Option ℕ) (at : ℕ) (z : ℤ) → IsSmall z → value scale (number_at scale at z) ≡ z
 value_read None at z h = ap (signed (is_negative z)) (decimal_is_IsDecimal (unsigned_abs z) (small_size z h)).value ∙ signed_size z

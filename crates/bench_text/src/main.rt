@@ -26,13 +26,13 @@ fn run(rt: &HostRuntime, input: &str, output: Option<&str>) -> bool {
     let Ok(bytes) = slurp(rt.alloc(), &mut files, input, LONGEST_INPUT) else {
         return false;
     };
-    let Ok(coverage) = read_text(rt.alloc(), &bytes) else {
+    let Ok(coverage) = read_text(rt.alloc(), &bytes, None) else {
         return false;
     };
     let Some(output) = output else {
         return true;
     };
-    let Ok(text) = text_of(rt.alloc(), &coverage) else {
+    let Ok(text) = text_of(rt.alloc(), &coverage, None) else {
         return false;
     };
     spill(&mut files, output, &text).is_ok()

@@ -1,6 +1,6 @@
 -- What the text of a number is: digits without a leading zero, behind a `-` where it is negative.
 use Rattle.std.proofs.Common.{◌≡◌, ◌≢◌, ◌++◌, ◌+◌, ◌-◌, ◌*◌, ◌^◌, ◌<◌, ℕ, zero, suc, Bool, true, false, List, [], ◌∷◌, length, get_or, fold, refl, ap, arith, rules, ℤ, pos, negsuc, neg_ℤ}
-use Rattle.std.specs.Prelude.{IsTrue, ◌&&◌, nat_le, if◌then◌else◌}
+use Rattle.std.specs.Prelude.{None, IsTrue, ◌&&◌, nat_le, if◌then◌else◌}
 use Rattle.std.specs.List.{AllByRecursion}
 use Rattle.std.specs.Fmt.{decimal}
 use Rattle.std.proofs.lemmas.Fmt.{decimal_nonempty, decimal_digit, first_decimal, digits_decimal, digits_value-decimal}
@@ -49,7 +49,7 @@ decimal_is_IsDecimal n fits = record {
 }
 
 -- the text of any number of 64 bits
-pub number_text_is_IsSignedDecimal : (z : ℤ) → mag z < 2 ^ 63 → IsSignedDecimal (number_text z) z
+pub number_text_is_IsSignedDecimal : (z : ℤ) → mag z < 2 ^ 63 → IsSignedDecimal (number_text None z) z
 number_text_is_IsSignedDecimal (pos n) fits = record {
   negative = false;
   digits = decimal n;

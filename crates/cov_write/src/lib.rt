@@ -1,10 +1,11 @@
 //! The text format, written: coverages as lines of `POLYGON` and `MULTIPOLYGON`, lists of segments as lines of
 //! `MULTILINESTRING`, and the rows that list regions.
 //!
-//! Its promise: the bytes are exactly the written form, whatever the coverage, the segments or the region.
+//! Its promise: the bytes are exactly the written form, whatever the coverage, the segments, the scale or the region.
 #![tactic(auto)]
 
 mod coverage;
+mod number;
 mod region_row;
 mod segment;
 mod written;

@@ -2,7 +2,7 @@ ghost use Rattle.std.specs.Prelude.{◌≡◌, ◌++◌, List, flat_map, codes, 
 ghost use Rattle.std.specs.Fmt.{decimal};
 ghost use Rattle.cov_write.specs.Rows.{kind_text, label_text, clearance_text, outer_row, inner_row};
 
-use crate::written::append_number;
+use crate::number::append_number;
 use cov_types::NoMemory;
 
 /// Appends the row of the outer region. After an error some of it may be there. Takes constant time.

@@ -30,7 +30,7 @@ fn a_member_without_polygons_and_a_square(rt: HostRuntime) -> Result<(), Fail> {
     let coverage = Coverage {
         members: vec![in rt.alloc(); none, one]?,
     };
-    let written = text_of(rt.alloc(), &coverage)?;
+    let written = text_of(rt.alloc(), &coverage, None)?;
     let wanted = b"POLYGON EMPTY\n\
         POLYGON ((0 0, 10 0, 10 10, 0 10, 0 0))\n";
     assert!(rt; same(&written, wanted));
@@ -42,8 +42,8 @@ fn no_members_are_the_empty_text(rt: HostRuntime) -> Result<(), Fail> {
     let coverage = Coverage {
         members: Vec::new(rt.alloc()),
     };
-    assert!(rt; text_of(rt.alloc(), &coverage)?.is_empty());
-    assert!(rt; lines_of(rt.alloc(), &[])?.is_empty());
+    assert!(rt; text_of(rt.alloc(), &coverage, None)?.is_empty());
+    assert!(rt; lines_of(rt.alloc(), &[], None)?.is_empty());
     Ok(())
 }
 
@@ -68,7 +68,7 @@ fn two_polygons_a_hole_a_bare_ring_and_both_ends_of_the_range(rt: HostRuntime) -
     let coverage = Coverage {
         members: vec![in rt.alloc(); two]?,
     };
-    let written = text_of(rt.alloc(), &coverage)?;
+    let written = text_of(rt.alloc(), &coverage, None)?;
     let wanted = b"MULTIPOLYGON (\
         ((-2147483648 -2147483648, 2147483647 -1, 7 2147483647, -2147483648 -2147483648), \
         (-10 0, 100 20, 3 9999, -10 0)), \
@@ -81,7 +81,7 @@ fn two_polygons_a_hole_a_bare_ring_and_both_ends_of_the_range(rt: HostRuntime) -
 fn an_empty_list_and_one_segment(rt: HostRuntime) -> Result<(), Fail> {
     let unit = Seg::between(Coord { x: 0, y: 0 }, Coord { x: 1, y: 0 }).ok_or("one point")?;
     let lists = vec![in rt.alloc(); Vec::new(rt.alloc()), vec![in rt.alloc(); unit]?]?;
-    let written = lines_of(rt.alloc(), &lists)?;
+    let written = lines_of(rt.alloc(), &lists, None)?;
     let wanted = b"MULTILINESTRING EMPTY\nMULTILINESTRING ((0 0, 1 0))\n";
     assert!(rt; same(&written, wanted));
     Ok(())
@@ -93,7 +93,7 @@ fn several_segments_share_a_line(rt: HostRuntime) -> Result<(), Fail> {
     let right = Seg::between(zero, Coord { x: 7, y: -5 }).ok_or("one point")?;
     let left = Seg::between(zero, Coord { x: -1, y: 12 }).ok_or("one point")?;
     let lists = vec![in rt.alloc(); vec![in rt.alloc(); right, left, right]?]?;
-    let written = lines_of(rt.alloc(), &lists)?;
+    let written = lines_of(rt.alloc(), &lists, None)?;
     let wanted = b"MULTILINESTRING ((0 0, 7 -5), (-1 12, 0 0), (0 0, 7 -5))\n";
     assert!(rt; same(&written, wanted));
     Ok(())
@@ -111,5 +111,48 @@ fn rows_of_regions_by_the_members_in_their_labels(rt: HostRuntime) -> Result<(),
         7 gap - 72 12\n\
         13 shared 0,2,10 576460752303423488 -\n";
     assert!(rt; same(&rows, wanted));
+    Ok(())
+}
+
+/// Both numbers of a point, as they are written at each scale.
+#[test]
+fn numbers_at_scales(rt: HostRuntime) -> Result<(), Fail> {
+    for (scale, x, y, want) in [
+        (2, -5, -100, "-0.05 -1"),
+        (2, 120, 0, "1.2 0"),
+        (2, 101, 199, "1.01 1.99"),
+        (2, -10, 99, "-0.1 0.99"),
+        (2, 100_000, -100_001, "1000 -1000.01"),
+        (0, -5, 268_435_456, "-5 268435456"),
+        (1, 268_435_456, -1, "26843545.6 -0.1"),
+        (7, 268_435_456, 1, "26.8435456 0.0000001"),
+        (7, -268_435_456, 10_000_000, "-26.8435456 1"),
+        (7, 9_999_999, -1_000_000, "0.9999999 -0.1"),
+        (7, i32::MIN, i32::MAX, "-214.7483648 214.7483647"),
+    ] {
+        let point = ring(rt.alloc(), &[(x, y)])?;
+        let poly = Poly {
+            rings: vec![in rt.alloc(); point]?,
+        };
+        let one = Member {
+            polys: vec![in rt.alloc(); poly]?,
+        };
+        let coverage = Coverage {
+            members: vec![in rt.alloc(); one]?,
+        };
+        let written = text_of(rt.alloc(), &coverage, Some(scale))?;
+        let wanted = format!(in rt.alloc(); "POLYGON (({want}, {want}))\n")?;
+        assert!(rt; same(&written, wanted.as_bytes()), "at {scale} {want}");
+    }
+    Ok(())
+}
+
+#[test]
+fn segments_at_a_scale(rt: HostRuntime) -> Result<(), Fail> {
+    let half = Seg::between(Coord { x: 0, y: 5 }, Coord { x: -15, y: 20 }).ok_or("one point")?;
+    let lists = vec![in rt.alloc(); Vec::new(rt.alloc()), vec![in rt.alloc(); half]?]?;
+    let written = lines_of(rt.alloc(), &lists, Some(1))?;
+    let wanted = b"MULTILINESTRING EMPTY\nMULTILINESTRING ((-1.5 2, 0 0.5))\n";
+    assert!(rt; same(&written, wanted));
     Ok(())
 }

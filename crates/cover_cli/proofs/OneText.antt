@@ -53,13 +53,13 @@ use Rattle.merge_rule.specs.RuleState.{no_state}
 one_validation : (gap : ℕ) (members : List (List (List (List Coord)))) (o p : Outcome) (text other : List ℕ) → IsValidation gap members o text → IsValidation gap members p other → (o ≡ p) × (text ≡ other)
 one_validation gap members o p text other v w =
     let same : v.marks ≡ w.marks = one_marks (uses_of members) (length members) gap v.marks w.marks v.marked w.marked in
-    let listing : List Mark → List ℕ = λ marks. lines_text (member_lists (marked_uses (uses_of members) marks) members) in
+    let listing : List Mark → List ℕ = λ marks. lines_text None (member_lists (marked_uses (uses_of members) marks) members) in
     (v.counted ∙ ap (λ (marks : List Mark). marking (length marks)) same ∙ sym w.counted, v.lines ∙ ap listing same ∙ sym w.lines)
 
 one_node : (members : List (List (List (List Coord)))) (o p : Outcome) (text other : List ℕ) → AllInRange members → IsNoding members o text → IsNoding members p other → (o ≡ p) × (text ≡ other)
 one_node members o p text other in_range v w =
     let same = one_noding (uses_of members) (uses-in_range members in_range) v.edges w.edges v.odd w.odd v.noded w.noded in
-    let listing : List Seg → List OddUse → List ℕ = λ edges odd. lines_text (edges ∷ member_lists (odd_uses edges odd) members) in
+    let listing : List Seg → List OddUse → List ℕ = λ edges odd. lines_text None (edges ∷ member_lists (odd_uses edges odd) members) in
     (v.done ∙ sym w.done, v.lines ∙ (λ i. listing (same.0 i) (same.1 i)) ∙ sym w.lines)
 
 -- the form of features beside these members has determined bytes: it is text, or no float is kept

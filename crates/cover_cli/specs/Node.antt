@@ -1,5 +1,5 @@
 -- What noding a coverage answers and writes.
-use Rattle.std.specs.Prelude.{◌≡◌, ℕ, List, ◌∷◌}
+use Rattle.std.specs.Prelude.{◌≡◌, ℕ, List, ◌∷◌, None}
 use Rattle.arrangement.specs.Noding.{IsNoded, odd_uses}
 use Rattle.arrangement.specs.declared.odd_use.OddUse.{OddUse}
 use Rattle.cov_types.specs.declared.coord.Coord.{Coord}
@@ -16,4 +16,4 @@ pub record IsNoding (members : List (List (List (List Coord)))) (outcome : Outco
   pub edges : List Seg
   pub odd : List OddUse
   pub noded : IsNoded (uses_of members) edges odd
-  pub lines : text ≡ lines_text (edges ∷ member_lists (odd_uses edges odd) members)
+  pub lines : text ≡ lines_text None (edges ∷ member_lists (odd_uses edges odd) members)

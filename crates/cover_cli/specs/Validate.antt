@@ -1,5 +1,5 @@
 -- What validating a coverage answers and writes.
-use Rattle.std.specs.Prelude.{◌≡◌, ℕ, zero, suc, List, length}
+use Rattle.std.specs.Prelude.{◌≡◌, ℕ, zero, suc, List, length, None}
 use Rattle.cov_types.specs.declared.coord.Coord.{Coord}
 use Rattle.cov_types.specs.Uses.{uses_of}
 use Rattle.cov_valid.specs.declared.mark.Mark.{Mark}
@@ -19,4 +19,4 @@ pub record IsValidation (gap : ℕ) (members : List (List (List (List Coord)))) 
   pub marks : List Mark
   pub marked : AreMarks (uses_of members) (length members) gap marks
   pub counted : outcome ≡ marking (length marks)
-  pub lines : text ≡ lines_text (member_lists (marked_uses (uses_of members) marks) members)
+  pub lines : text ≡ lines_text None (member_lists (marked_uses (uses_of members) marks) members)

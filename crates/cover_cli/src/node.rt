@@ -24,7 +24,7 @@ fn noding(alloc: Global, c: &Coverage) -> Result<Made, NoMemory>
     let odd = uses_of_odd(alloc, &noded)?;
     let mut lists = lists_by_member(alloc, &odd, c.members.len())?;
     lists.insert(0, noded.edges)?;
-    let text = lines_of(alloc, &lists)?;
+    let text = lines_of(alloc, &lists, None)?;
     Ok(Made {
         outcome: Outcome::Done,
         text,

@@ -35,7 +35,7 @@ fn validation(alloc: Global, c: &Coverage, gap: u32) -> Result<Made, NoMemory>
     let marks = marks(alloc, c, gap)?;
     let marked = uses_at_marks(alloc, &uses, &marks)?;
     let lists = lists_by_member(alloc, &marked, c.members.len())?;
-    let text = lines_of(alloc, &lists)?;
+    let text = lines_of(alloc, &lists, None)?;
     let outcome = outcome_of(marks.len() as u64);
     Ok(Made { outcome, text })
 }

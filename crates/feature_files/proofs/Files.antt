@@ -1,5 +1,5 @@
 -- By its name a file has one reading or one fault.
-use Rattle.std.proofs.Common.{◌≡◌, ℕ, ◌≤◌, Bool, true, false, List, length, ◌⊎◌, inl, inr, refl, ap, sym, subst, ◌∙◌}
+use Rattle.std.proofs.Common.{◌≡◌, ℕ, ◌≤◌, Bool, true, false, List, length, None, ◌⊎◌, inl, inr, refl, ap, sym, subst, ◌∙◌}
 use Rattle.cov_types.specs.Coverage.{Members, IsFormed}
 use Rattle.geo_json.proofs.OneAnswer as json
 use Rattle.geo_json.proofs.ReadFormed as json_formed
@@ -25,13 +25,13 @@ use Rattle.feature_files.specs.declared.error.FileFault.TheVariants.{Text, Json}
 
 one_reading_by : (json_file : Bool) (bytes : List ℕ) (r s : Reading) → IsReadBy json_file bytes r → IsReadBy json_file bytes s → r ≡ s
 one_reading_by true bytes r s h k = json.one_reading bytes r s h.reads k.reads
-one_reading_by false bytes r s h k = h.is_bare ∙ ap bare (text_reading.one_reading bytes r.members s.members h.reads k.reads) ∙ sym k.is_bare
+one_reading_by false bytes r s h k = h.is_bare ∙ ap bare (text_reading.one_reading None bytes r.members s.members h.reads k.reads) ∙ sym k.is_bare
 
 one_fault_by : (json_file : Bool) (bytes : List ℕ) (e f : FileFault) → IsFaultBy json_file bytes e → IsFaultBy json_file bytes f → e ≡ f
 one_fault_by true bytes (Json e) (Json f) h k = ap Json (json.one_fault bytes e f h k)
 one_fault_by true bytes (Json e) (Text f) h k = absurd k
 one_fault_by true bytes (Text e) f h k = absurd h
-one_fault_by false bytes (Text e) (Text f) h k = ap Text (text.one_fault bytes e f h k)
+one_fault_by false bytes (Text e) (Text f) h k = ap Text (text.one_fault None bytes e f h k)
 one_fault_by false bytes (Text e) (Json f) h k = absurd k
 one_fault_by false bytes (Json e) f h k = absurd h
 
@@ -42,13 +42,13 @@ json_answer : (bytes : List ℕ) → ((r : Reading) × json_readings.Reads bytes
 json_answer bytes (inl (r, reads, faultless)) = inl (r, record { reads = reads; faultless = faultless })
 json_answer bytes (inr (fault, is)) = inr (Json fault, is)
 
-text_answer : (bytes : List ℕ) → ((c : Members) × text_readings.Reads bytes c × text_faults.HasNoFault bytes) ⊎ ((fault : TextFault) × text_faults.IsFault bytes fault) → HasAnswer false bytes
+text_answer : (bytes : List ℕ) → ((c : Members) × text_readings.Reads None bytes c × text_faults.HasNoFault None bytes) ⊎ ((fault : TextFault) × text_faults.IsFault None bytes fault) → HasAnswer false bytes
 text_answer bytes (inl (c, reads, faultless)) = inl (bare c, record { reads = reads; faultless = faultless; is_bare = refl })
 text_answer bytes (inr (fault, is)) = inr (Text fault, is)
 
 read_or_fault_by : (json_file : Bool) (bytes : List ℕ) → HasAnswer json_file bytes
 read_or_fault_by true bytes = json_answer bytes (json.read_or_fault bytes)
-read_or_fault_by false bytes = text_answer bytes (text.read_or_fault bytes)
+read_or_fault_by false bytes = text_answer bytes (text.read_or_fault None bytes)
 
 faultless_by : (json_file : Bool) (bytes : List ℕ) (r : Reading) (fault : FileFault) → IsReadBy json_file bytes r → IsFaultBy json_file bytes fault → ⊥
 faultless_by true bytes r (Json fault) h k = h.faultless fault k
@@ -58,7 +58,7 @@ faultless_by false bytes r (Json fault) h k = k
 
 formed_by : (json_file : Bool) (bytes : List ℕ) (r : Reading) → length bytes ≤ LONGEST_INPUT → IsReadBy json_file bytes r → IsFormed r.members
 formed_by true bytes r within h = json_formed.read_formed bytes r within h.reads h.faultless
-formed_by false bytes r within h = text_formed.read_formed bytes r.members within h.reads h.faultless
+formed_by false bytes r within h = text_formed.read_formed None bytes r.members within h.reads h.faultless
 
 -- ---- by the name
 

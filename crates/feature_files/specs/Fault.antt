@@ -1,5 +1,5 @@
 -- The one fault of a file, by its name.
-use Rattle.std.specs.Prelude.{ℕ, Bool, true, false, List, ⊤}
+use Rattle.std.specs.Prelude.{ℕ, Bool, true, false, List, None, ⊤}
 use Rattle.geo_json.specs.Fault as json
 use Rattle.geo_json.specs.declared.error.JsonError.{JsonError}
 use Rattle.geo_json.specs.declared.error.JsonError.TheVariants as json_errors
@@ -17,7 +17,7 @@ abbrev pub IsFaultBy : Bool → List ℕ → FileFault → Type 0
 IsFaultBy true bytes (Json fault) = json.IsFault bytes fault
 IsFaultBy true bytes (Text fault) = ⊥
 IsFaultBy false bytes (Json fault) = ⊥
-IsFaultBy false bytes (Text fault) = text.IsFault bytes fault
+IsFaultBy false bytes (Text fault) = text.IsFault None bytes fault
 
 -- a file of this name and these bytes has the fault
 abbrev pub IsFault : List ℕ → List ℕ → FileFault → Type 0

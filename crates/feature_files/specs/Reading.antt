@@ -1,5 +1,5 @@
 -- What a file is read as, by its name.
-use Rattle.std.specs.Prelude.{◌≡◌, ℕ, Bool, true, false, List, length, replicate}
+use Rattle.std.specs.Prelude.{◌≡◌, ℕ, Bool, true, false, List, length, replicate, None}
 use Rattle.cov_types.specs.Coverage.{Members}
 use Rattle.serde_json.specs.Data.{null}
 use Rattle.geo_json.specs.Fault as json_faults
@@ -19,8 +19,8 @@ with_members r members = record { members = members; properties = r.properties; 
 
 -- the bytes are a text without a fault that is read as this
 pub record IsTextRead (bytes : List ℕ) (r : Reading) : Type 0 where
-  pub reads : text.Reads bytes r.members
-  pub faultless : text_faults.HasNoFault bytes
+  pub reads : text.Reads None bytes r.members
+  pub faultless : text_faults.HasNoFault None bytes
   pub is_bare : r ≡ bare r.members
 
 -- the bytes are a GeoJSON document without a fault that is read as this

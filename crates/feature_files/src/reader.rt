@@ -19,7 +19,7 @@ fn read_bare(alloc: Global, bytes: &[u8]) -> Result<Features, FileError>
     ensures formed { IfOk result (λ f. IsFormed f.coverage) }
     ensures fault { IfErr result (IsErrorBy false bytes.now) }
 {
-    let coverage = read_text(alloc, bytes)?;
+    let coverage = read_text(alloc, bytes, None)?;
     Ok(bare_features(alloc, coverage)?)
 }
 

@@ -17,6 +17,6 @@ pub fn text_for(alloc: Global, name: &str, features: &Features) -> Result<Vec<u8
     if is_json(name) {
         json_of(alloc, features)
     } else {
-        text_of(alloc, &features.coverage)
+        text_of(alloc, &features.coverage, None)
     }
 }

@@ -1,33 +1,33 @@
 -- What the machine keeps of the parts of a file.
-use Rattle.std.proofs.Common.{◌≡◌, ℕ, ◌+◌, length-append, Bool, true, ◌&&◌, ◌==◌, List, [], ◌∷◌, ◌++◌, length, map, fold, flat_map, Option, Some, None, ℤ, sym, refl, ap, ◌∙◌, append-nil, arith}
+use Rattle.std.proofs.Common.{◌≡◌, ℕ, ◌+◌, length-append, Bool, List, [], ◌∷◌, ◌++◌, length, map, flat_map, Option, Some, None, ℤ, sym, refl, ap, ◌∙◌, append-nil, arith}
 use Rattle.std.proofs.lemmas.Grind.{flat_map-append}
 use Rattle.std.specs.Option.{option_or}
 use Rattle.cov_types.specs.declared.coord.Coord.{Coord}
-use Rattle.geo_text.specs.Token.{Numeral, value}
+use Rattle.geo_text.specs.Token.{Numeral}
+use Rattle.geo_text.specs.Decimal.{value}
 use Rattle.geo_text.specs.Grammar.{Position, Ring}
 use Rattle.geo_text.specs.Reading.{x_of, y_of, positions}
 use Rattle.geo_text.specs.Fault.{ring_numbers}
+use Rattle.geo_text.specs.Number.{Precision, no_fraction, is_fine}
 use Rattle.geo_text.specs.Machine.{with_extra, with_number, number_fault, with_ring, ring_fault}
 use Rattle.geo_text.specs.declared.error.TextFault.{TextFault}
 use Rattle.geo_text.specs.declared.error.TextFault.TheVariants.{NotPlanar}
 use Rattle.geo_text.specs.declared.faults.Faults.{Faults}
 use Rattle.geo_text.proofs.Options.{option_or-assoc, option_or-none}
 use Rattle.geo_text.proofs.Limits.{limit}
+use Rattle.geo_text.proofs.Fractions.{fraction_from}
 
 -- a position by the values of its first two numbers
 abbrev pub coordinate_by : (Numeral → ℤ) → Position → Coord
 coordinate_by v p = record { x = v (x_of p); y = v (y_of p) }
 
-module _ (cap : ℕ) where
-  -- the value that is read of a number, and whether it is whole
+module _ (precision : Precision) where
+  -- the value that is read of a number, and whether its fraction is not at fault
   abbrev pub read_value : Numeral → ℤ
-  read_value n = limit cap (value n)
-
-  abbrev pub whole_from : Bool → List ℕ → Bool
-  whole_from whole digits = fold (λ w b. w && (b == 48)) whole digits
+  read_value n = limit precision.cap (value precision.scale n)
 
   abbrev pub is_whole : Numeral → Bool
-  is_whole n = whole_from true n.fraction
+  is_whole n = is_fine (fraction_from (no_fraction precision.scale) n.fraction)
 
   -- the points that are read of a ring, the last too
   abbrev pub ring_points : Ring → List Coord

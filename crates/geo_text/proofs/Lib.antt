@@ -1,5 +1,8 @@
 pub mod Options
 pub mod Limits
+pub mod Decimals
+pub mod Nearest
+pub mod Fractions
 pub mod Keeping
 pub mod Parsing
 pub mod Rests

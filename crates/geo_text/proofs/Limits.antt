@@ -1,7 +1,7 @@
 -- To read a size no further than one past the range changes nothing that is asked of it.
 use Rattle.std.proofs.Common.{◌≡◌, ℕ, zero, suc, ◌+◌, ◌-◌, ◌*◌, ◌≤◌, Bool, true, false, List, [], ◌∷◌, ℤ, pos, negsuc, neg_ℤ, refl, ap, ◌∙◌, sym, arith}
 use Rattle.geo_text.specs.Token.{signed, number_from}
-use Rattle.geo_text.specs.Machine.{capped}
+use Rattle.geo_text.specs.Number.{capped}
 
 module _ (cap : ℕ) where
   -- a number whose size is read no further

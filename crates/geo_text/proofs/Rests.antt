@@ -3,6 +3,7 @@ use Rattle.std.proofs.Common.{◌≡◌, ℕ, suc, ◌+◌, ◌<◌, ◌≤◌, 
 use Rattle.std.proofs.lemmas.Bool.{false≢true}
 use Rattle.geo_text.specs.Token.{Polygon, MultiPolygon, GeometryCollection, Empty, Dimension, Numeral, Token, Word, Dimensions, Number, Open, Close, Comma}
 use Rattle.geo_text.specs.Grammar.{Position, Two, Three, Four, Ring, Element, OnePolygon, ManyPolygons, Geometry, Single, Collection, bracketed, body, dimension, position, ring, polygon_body, multi_body, element, file}
+use Rattle.geo_text.specs.Number.{Precision}
 use Rattle.geo_text.specs.Machine.{Kept, ParserState, at, start, body_end, element_end, member_kept}
 use Rattle.geo_text.specs.declared.place.Body.TheVariants as kinds
 use Rattle.geo_text.specs.declared.place.Place.{Place}
@@ -10,7 +11,7 @@ use Rattle.geo_text.specs.declared.place.Place.TheVariants.{Outside, Head, Eleme
 use Rattle.geo_text.proofs.Options.{none_some}
 use Rattle.geo_text.proofs.Parsing.{run}
 
-module _ (cap : ℕ) where
+module _ (precision : Precision) where
   -- between geometries
   abbrev pub FileRest : List Token → Type 0
   FileRest ts = (gs : List Geometry) × (ts ≡ file gs)
@@ -143,13 +144,13 @@ module _ (cap : ℕ) where
   -- ---- each step
 
   abbrev Sound : List Token → Type 0
-  Sound ts = (place : Place) (c m : Bool) (k : Kept) (f : ParserState) → run cap (at place c m k) ts ≡ Some f → f.place ≡ Outside → Rest place c m ts
+  Sound ts = (place : Place) (c m : Bool) (k : Kept) (f : ParserState) → run precision (at place c m k) ts ≡ Some f → f.place ≡ Outside → Rest place c m ts
 
-  behind_element : (ts : List Token) → Sound ts → (c : Bool) (k : Kept) (f : ParserState) → run cap (element_end c k) ts ≡ Some f → f.place ≡ Outside → ElementEndRest c ts
+  behind_element : (ts : List Token) → Sound ts → (c : Bool) (k : Kept) (f : ParserState) → run precision (element_end c k) ts ≡ Some f → f.place ≡ Outside → ElementEndRest c ts
   behind_element ts sound true k f e h = sound ElementEnd true false (member_kept k) f e h refl refl
   behind_element ts sound false k f e h = sound Outside false false (member_kept k) f e h refl refl
 
-  behind_body : (ts : List Token) → Sound ts → (c m : Bool) (k : Kept) (f : ParserState) → run cap (body_end c m k) ts ≡ Some f → f.place ≡ Outside → BodyEndRest c m ts
+  behind_body : (ts : List Token) → Sound ts → (c m : Bool) (k : Kept) (f : ParserState) → run precision (body_end c m k) ts ≡ Some f → f.place ≡ Outside → BodyEndRest c m ts
   behind_body ts sound c true k f e h = sound BodyEnd c true k f e h refl
   behind_body ts sound c false k f e h = behind_element ts sound c k f e h
 
@@ -227,7 +228,7 @@ module _ (cap : ℕ) where
   sound_step (Number x) ts sound PositionStart c m k f e h = first_number x c m ts (sound (SecondNumber _) c m _ f e h)
   sound_step (Number y) ts sound (SecondNumber x) c m k f e h = (y, ts, refl, sound (PositionEnd 0) c m _ f e h)
   sound_step (Number z) ts sound (PositionEnd n) c m k f e h =
-      let t = taken (ltb n 2) _ (λ s. run cap s ts) f e in
+      let t = taken (ltb n 2) _ (λ s. run precision s ts) f e in
       further_number z n c m ts (ltb-true n 2 t.0) (sound (PositionEnd (n + 1)) c m _ f t.1 h)
   sound_step Comma ts sound (PositionEnd n) c m k f e h = next_position n c m ts (sound PositionStart c m k f e h)
   sound_step Close ts sound (PositionEnd n) c m k f e h = ring_closes n c m ts (sound RingEnd c m _ f e h)
@@ -253,5 +254,5 @@ module _ (cap : ℕ) where
   sound (t ∷ ts) place c m k f e h = sound_step t ts (sound ts) place c m k f e h
 
   -- what the machine takes is a file
-  pub file-run : (ts : List Token) (f : ParserState) → run cap start ts ≡ Some f → f.place ≡ Outside → (gs : List Geometry) × (ts ≡ file gs)
+  pub file-run : (ts : List Token) (f : ParserState) → run precision start ts ≡ Some f → f.place ≡ Outside → (gs : List Geometry) × (ts ≡ file gs)
   file-run ts f e h = sound ts Outside false false start.kept f e h refl refl

@@ -3,8 +3,9 @@ use Rattle.std.proofs.Common.{◌≡◌, ℕ, ◌+◌, ◌<◌, Bool, true, fals
 use Rattle.std.proofs.lemmas.List.{length-map}
 use Rattle.std.proofs.Math.Bool.{or-true}
 use Rattle.std.specs.Char.{to_ascii_uppercase}
-use Rattle.geo_text.specs.Token.{Name, Polygon, MultiPolygon, GeometryCollection, Empty, Axes, Z, M, ZM, Numeral, Token, Word, Dimensions, Number, Open, Close, Comma, IsWhite, IsNumeral, IsSign, IsPoint, AreDigits, IsSpelled, IsWord, letters_of, axes_letters, is_word, is_number, is_alike, number_from, value, Spells}
-use Rattle.geo_text.specs.Machine.{Kept, ParserState, Named, Axes as AxesAt, Numbered, step, step_at, letters, symbol_of, is_complete, keyword_at, takes_number, is_number_byte, is_letter, capped, goes_on, ending}
+use Rattle.geo_text.specs.Token.{Name, Polygon, MultiPolygon, GeometryCollection, Empty, Axes, Z, M, ZM, Numeral, Token, Word, Dimensions, Number, Open, Close, Comma, IsWhite, IsNumeral, IsSign, IsPoint, AreDigits, IsSpelled, IsWord, letters_of, axes_letters, is_word, is_number, is_alike, Spells}
+use Rattle.geo_text.specs.Machine.{Kept, ParserState, Named, Axes as AxesAt, Numbered, step, step_at, letters, symbol_of, is_complete, keyword_at, takes_number, is_number_byte, is_letter, goes_on, ending}
+use Rattle.geo_text.specs.Number.{Precision}
 use Rattle.geo_text.specs.declared.keyword.Keyword.{Keyword}
 use Rattle.geo_text.specs.declared.keyword.Keyword.TheVariants as keywords
 use Rattle.geo_text.specs.declared.lexeme.Lexeme.{Lexeme}
@@ -13,12 +14,12 @@ use Rattle.geo_text.specs.declared.place.Body.TheVariants as kinds
 use Rattle.geo_text.specs.declared.place.Place.{Place}
 use Rattle.geo_text.specs.declared.place.Place.TheVariants.{Outside, Head, ElementStart, BodyStart, PositionStart, SecondNumber, PositionEnd}
 use Rattle.geo_text.proofs.Options.{none_some, opened}
-use Rattle.geo_text.proofs.Limits.{limit, limit-signed}
-use Rattle.geo_text.proofs.Keeping.{whole_from}
+use Rattle.geo_text.proofs.Fractions.{seen_value_is}
+use Rattle.geo_text.proofs.Keeping.{read_value, is_whole}
 use Rattle.geo_text.proofs.Parsing.{run, seen}
-use Rattle.geo_text.proofs.Typing.{read_bytes, stops, white_stops, white_first, word_begins, typing, numeral_is_read, num, letter_no_number, number_no_letter, is_capital, digit_is_number}
+use Rattle.geo_text.proofs.Typing.{read_bytes, stops, white_stops, white_first, word_begins, typing, numeral_is_read, num, kept_fraction, kept_size, letter_no_number, number_no_letter, is_capital, digit_is_number}
 
-module _ (cap : ℕ) where
+module _ (precision : Precision) where
   -- ---- where a word or a number stands
 
   abbrev pub keyword_of : Name → Keyword
@@ -89,12 +90,12 @@ module _ (cap : ℕ) where
   record Leaves (a : ℕ) (s last : ParserState) (token : Token) (spelling : List ℕ) : Type 0 where
     lexeme : Lexeme
     state : ParserState
-    ended_is : ending lexeme state ≡ Some last
+    ended_is : ending precision.cap lexeme state ≡ Some last
     pending : Pending lexeme (Some token)
-    steps : (rest : List ℕ) → read_bytes cap a lexemes.Blank s (spelling ++ rest) ≡ read_bytes cap (a + length spelling) lexeme state rest
+    steps : (rest : List ℕ) → read_bytes precision a lexemes.Blank s (spelling ++ rest) ≡ read_bytes precision (a + length spelling) lexeme state rest
 
   leaves_word : (k : Keyword) (letter : ℕ) (others : List ℕ) (token : Token) (a : ℕ) (s last : ParserState) (spelling : List ℕ)
-      → is_word token ≡ true → is_capital cap letter ≡ true → others ≡ take (length others) (drop 1 (letters k)) → is_complete k (1 + length others) ≡ true
+      → is_word token ≡ true → is_capital precision letter ≡ true → others ≡ take (length others) (drop 1 (letters k)) → is_complete k (1 + length others) ≡ true
       → keyword_at s.place letter ≡ Some k → step s (symbol_of k a) ≡ Some last → IsWord (letter ∷ others) spelling → Leaves a s last token spelling
   leaves_word k letter others token a s last [] w capital prefix complete expected e h = absurd (cc)
   leaves_word k letter others token a s last (b ∷ typed) w capital prefix complete expected e h =
@@ -107,12 +108,12 @@ module _ (cap : ℕ) where
         ended_is = rw (← size) (rw complete e);
         pending = (token, refl, w);
         steps = λ rest.
-            word_begins cap k b (typed ++ rest) a s (ap (is_capital cap) upper ∙ capital) (ap (keyword_at s.place) upper ∙ expected)
-            ∙ typing cap typed rest k 1 a (a + 1) s (more ∙ prefix ∙ ap (λ n. take n (drop 1 (letters k))) size)
-            ∙ ap (λ i. read_bytes cap i (lexemes.Word a k (1 + length typed)) s rest) (omega arith);
+            word_begins precision k b (typed ++ rest) a s (ap (is_capital precision) upper ∙ capital) (ap (keyword_at s.place) upper ∙ expected)
+            ∙ typing precision typed rest k 1 a (a + 1) s (more ∙ prefix ∙ ap (λ n. take n (drop 1 (letters k))) size)
+            ∙ ap (λ i. read_bytes precision i (lexemes.Word a k (1 + length typed)) s rest) (omega arith);
       }
 
-  leaves_mark : (mark : ℕ) (token : Token) (a : ℕ) (s last : ParserState) → ((bytes : List ℕ) → read_bytes cap a lexemes.Blank s (mark ∷ bytes) ≡ read_bytes cap (a + 1) lexemes.Blank last bytes) → Leaves a s last token (mark ∷ [])
+  leaves_mark : (mark : ℕ) (token : Token) (a : ℕ) (s last : ParserState) → ((bytes : List ℕ) → read_bytes precision a lexemes.Blank s (mark ∷ bytes) ≡ read_bytes precision (a + 1) lexemes.Blank last bytes) → Leaves a s last token (mark ∷ [])
   leaves_mark mark token a s last h = record { lexeme = lexemes.Blank; state = last; ended_is = refl; pending = tt; steps = h }
 
   leaves_name : (name : Name) (a : ℕ) (s last : ParserState) (spelling : List ℕ) → step s (Named name) ≡ Some last → IsWord (letters_of name) spelling → Leaves a s last (Word name) spelling
@@ -126,20 +127,19 @@ module _ (cap : ℕ) where
   leaves_axes M token a s last spelling w e h = leaves_word keywords.M 77 [] token a s last spelling w refl refl refl (expected_axes M a s.place s.in_collection s.in_multi s.kept last e) e h
   leaves_axes ZM token a s last spelling w e h = leaves_word keywords.Zm 90 (codes "M") token a s last spelling w refl refl refl (expected_axes ZM a s.place s.in_collection s.in_multi s.kept last e) e h
 
-  leaves_number : (n : Numeral) (a : ℕ) (s last : ParserState) (spelling : List ℕ) → step s (seen cap (Number n)) ≡ Some last → n.at ≡ a → IsNumeral spelling n → Leaves a s last (Number n) spelling
+  leaves_number : (n : Numeral) (a : ℕ) (s last : ParserState) (spelling : List ℕ) → step s (seen precision (Number n)) ≡ Some last → n.at ≡ a → IsNumeral spelling n → Leaves a s last (Number n) spelling
   leaves_number n a s last spelling e here h =
-      let read = numeral_is_read cap spelling n a h in
-      let size = capped cap (number_from 0 n.whole) in
-      let whole = whole_from cap true n.fraction in
+      let read = numeral_is_read precision spelling n a h in
+      let number = num precision a n.negative true read.0 (kept_fraction precision n.fraction) (kept_size precision n.whole n.fraction) in
       record {
-        lexeme = lexemes.Number (num cap a n.negative true read.0 whole size);
+        lexeme = lexemes.Number number;
         state = s;
-        ended_is = ap₂ (λ (i : ℕ) (v : ℤ). step s (Numbered i v whole)) (sym here) (sym (limit-signed cap n.negative (number_from 0 n.whole))) ∙ e;
+        ended_is = ap₂ (λ (i : ℕ) (v : ℤ). step s (Numbered i v (is_whole precision n))) (sym here) (seen_value_is precision n h.fraction) ∙ e;
         pending = (Number n, refl, refl);
-        steps = λ rest. read.1 rest s (expected_number n.at (limit cap (value n)) whole s.place s.in_collection s.in_multi s.kept last e);
+        steps = λ rest. read.1 rest s (expected_number n.at (read_value precision n) (is_whole precision n) s.place s.in_collection s.in_multi s.kept last e);
       }
 
-  leaves : (token : Token) (a : ℕ) (s last : ParserState) (spelling : List ℕ) → step s (seen cap token) ≡ Some last → IsSpelled a token spelling → Leaves a s last token spelling
+  leaves : (token : Token) (a : ℕ) (s last : ParserState) (spelling : List ℕ) → step s (seen precision token) ≡ Some last → IsSpelled a token spelling → Leaves a s last token spelling
   leaves (Word name) a s last spelling e h = leaves_name name a s last spelling e h
   leaves (Dimensions d) a s last spelling e h = leaves_axes d.axes (Dimensions d) a s last spelling refl (ap (λ i. step s (AxesAt i)) (sym h.0) ∙ e) h.1
   leaves (Number n) a s last spelling e h = leaves_number n a s last spelling e h.0 h.1
@@ -161,9 +161,9 @@ module _ (cap : ℕ) where
   abbrev pub Begins : Token → List ℕ → Type 0
   Begins token spelling = (b : ℕ) × (rest : List ℕ) × (spelling ≡ b ∷ rest) × FirstByte token b
 
-  word_begins_so : (letter : ℕ) (others spelling : List ℕ) → is_capital cap letter ≡ true → IsWord (letter ∷ others) spelling → (b : ℕ) × (rest : List ℕ) × (spelling ≡ b ∷ rest) × (is_letter b ≡ true)
+  word_begins_so : (letter : ℕ) (others spelling : List ℕ) → is_capital precision letter ≡ true → IsWord (letter ∷ others) spelling → (b : ℕ) × (rest : List ℕ) × (spelling ≡ b ∷ rest) × (is_letter b ≡ true)
   word_begins_so letter others [] capital h = absurd (cc)
-  word_begins_so letter others (b ∷ typed) capital h = let upper : to_ascii_uppercase b ≡ letter = cc in (b, typed, refl, ap (is_capital cap) upper ∙ capital)
+  word_begins_so letter others (b ∷ typed) capital h = let upper : to_ascii_uppercase b ≡ letter = cc in (b, typed, refl, ap (is_capital precision) upper ∙ capital)
 
   name_begins : (name : Name) (spelling : List ℕ) → IsWord (letters_of name) spelling → (b : ℕ) × (rest : List ℕ) × (spelling ≡ b ∷ rest) × (is_letter b ≡ true)
   name_begins Polygon spelling h = word_begins_so 80 (codes "OLYGON") spelling refl h
@@ -178,7 +178,7 @@ module _ (cap : ℕ) where
 
   -- digits, a point and digits begin as a number
   digits_begin : (whole point fraction : List ℕ) → AreDigits whole → AreDigits fraction → IsPoint point fraction → 0 < length whole + length fraction → (b : ℕ) × (rest : List ℕ) × (whole ++ (point ++ fraction) ≡ b ∷ rest) × (is_number_byte b ≡ true)
-  digits_begin (d ∷ whole) point fraction hw hf hp some = (d, whole ++ (point ++ fraction), refl, digit_is_number cap d hw.0)
+  digits_begin (d ∷ whole) point fraction hw hf hp some = (d, whole ++ (point ++ fraction), refl, digit_is_number precision d hw.0)
   digits_begin [] point fraction hw hf (inr dot) some = (46, fraction, ap (λ xs. xs ++ fraction) dot, refl)
   digits_begin [] point fraction hw hf (inl h) some = absurd (omega (arith, some, ap length h.1))
 
@@ -211,12 +211,12 @@ module _ (cap : ℕ) where
   keeps_apart lexemes.Blank previous token b p a h = refl
   keeps_apart (lexemes.Word i k n) previous (Word name) b (like, p, w) a h = absurd (a (word_alike previous (Word name) like p w refl))
   keeps_apart (lexemes.Word i k n) previous (Dimensions d) b (like, p, w) a h = absurd (a (word_alike previous (Dimensions d) like p w refl))
-  keeps_apart (lexemes.Word i k n) previous (Number z) b p a h = number_no_letter cap b h
+  keeps_apart (lexemes.Word i k n) previous (Number z) b p a h = number_no_letter precision b h
   keeps_apart (lexemes.Word i k n) previous Open b p a h = ap is_letter h
   keeps_apart (lexemes.Word i k n) previous Close b p a h = ap is_letter h
   keeps_apart (lexemes.Word i k n) previous Comma b p a h = ap is_letter h
-  keeps_apart (lexemes.Number n) previous (Word name) b p a h = letter_no_number cap b h
-  keeps_apart (lexemes.Number n) previous (Dimensions d) b p a h = letter_no_number cap b h
+  keeps_apart (lexemes.Number n) previous (Word name) b p a h = letter_no_number precision b h
+  keeps_apart (lexemes.Number n) previous (Dimensions d) b p a h = letter_no_number precision b h
   keeps_apart (lexemes.Number n) previous (Number z) b (like, p, w) a h = absurd (a (number_alike previous (Number z) like p w refl))
   keeps_apart (lexemes.Number n) previous Open b p a h = ap is_number_byte h
   keeps_apart (lexemes.Number n) previous Close b p a h = ap is_number_byte h
@@ -225,29 +225,29 @@ module _ (cap : ℕ) where
   -- ---- all tokens
 
   -- a lexeme ends before the next token
-  ends_before : (a : ℕ) (l : Lexeme) (s last : ParserState) (previous : Option Token) (token : Token) (white spelling rest : List ℕ) → Pending l previous → ending l s ≡ Some last → IsWhite white → (is_alike previous token ≡ true → 0 < length white) → Begins token spelling
-      → read_bytes cap a l s (white ++ (spelling ++ rest)) ≡ read_bytes cap (a + length white) lexemes.Blank last (spelling ++ rest)
+  ends_before : (a : ℕ) (l : Lexeme) (s last : ParserState) (previous : Option Token) (token : Token) (white spelling rest : List ℕ) → Pending l previous → ending precision.cap l s ≡ Some last → IsWhite white → (is_alike previous token ≡ true → 0 < length white) → Begins token spelling
+      → read_bytes precision a l s (white ++ (spelling ++ rest)) ≡ read_bytes precision (a + length white) lexemes.Blank last (spelling ++ rest)
   ends_before a l s last previous token (w ∷ white) spelling rest p e h apart first =
-      stops cap a l s last w (white ++ (spelling ++ rest)) (white_stops cap l w h.0) e ∙ white_first cap (w ∷ white) (spelling ++ rest) a last h
+      stops precision a l s last w (white ++ (spelling ++ rest)) (white_stops precision l w h.0) e ∙ white_first precision (w ∷ white) (spelling ++ rest) a last h
   ends_before a l s last previous token [] spelling rest p e h apart (b, more, same, byte) =
-      subst (λ (xs : List ℕ). read_bytes cap a l s (xs ++ rest) ≡ read_bytes cap (a + 0) lexemes.Blank last (xs ++ rest)) (sym same)
-      (stops cap a l s last b (more ++ rest) (keeps_apart l previous token b p (λ t. let n : 0 < 0 = apart t in omega arith) byte) e
-      ∙ ap (λ i. read_bytes cap i lexemes.Blank last (b ∷ (more ++ rest))) (omega arith))
+      subst (λ (xs : List ℕ). read_bytes precision a l s (xs ++ rest) ≡ read_bytes precision (a + 0) lexemes.Blank last (xs ++ rest)) (sym same)
+      (stops precision a l s last b (more ++ rest) (keeps_apart l previous token b p (λ t. let n : 0 < 0 = apart t in omega arith) byte) e
+      ∙ ap (λ i. read_bytes precision i lexemes.Blank last (b ∷ (more ++ rest))) (omega arith))
 
-  ends_white : (bytes : List ℕ) (a : ℕ) (l : Lexeme) (s last : ParserState) → ending l s ≡ Some last → IsWhite bytes → read_bytes cap a l s bytes ≡ Some last
+  ends_white : (bytes : List ℕ) (a : ℕ) (l : Lexeme) (s last : ParserState) → ending precision.cap l s ≡ Some last → IsWhite bytes → read_bytes precision a l s bytes ≡ Some last
   ends_white [] a l s last e h = e
   ends_white (b ∷ bytes) a l s last e h =
-      stops cap a l s last b bytes (white_stops cap l b h.0) e
-      ∙ ap (read_bytes cap a lexemes.Blank last) (sym (append-nil (b ∷ bytes)))
-      ∙ white_first cap (b ∷ bytes) [] a last h
+      stops precision a l s last b bytes (white_stops precision l b h.0) e
+      ∙ ap (read_bytes precision a lexemes.Blank last) (sym (append-nil (b ∷ bytes)))
+      ∙ white_first precision (b ∷ bytes) [] a last h
 
   -- bytes that spell tokens which the parser takes lead to the parser's state
-  pub read_bytes-spelled : (tokens : List Token) (a : ℕ) (l : Lexeme) (s last f : ParserState) (previous : Option Token) (bytes : List ℕ) → Pending l previous → ending l s ≡ Some last → Spells a previous tokens bytes → run cap last tokens ≡ Some f → read_bytes cap a l s bytes ≡ Some f
+  pub read_bytes-spelled : (tokens : List Token) (a : ℕ) (l : Lexeme) (s last f : ParserState) (previous : Option Token) (bytes : List ℕ) → Pending l previous → ending precision.cap l s ≡ Some last → Spells a previous tokens bytes → run precision last tokens ≡ Some f → read_bytes precision a l s bytes ≡ Some f
   read_bytes-spelled [] a l s last f previous bytes p e h r = ends_white bytes a l s last e h ∙ r
   read_bytes-spelled (token ∷ tokens) a l s last f previous bytes p e (white, spelling, rest, each_white, is_apart, spelled, same, more) r =
-      let stepped = opened (step last (seen cap token)) (λ after. run cap after tokens) f r in
+      let stepped = opened (step last (seen precision token)) (λ after. run precision after tokens) f r in
       let left = leaves token (a + length white) last stepped.0 spelling stepped.1 spelled in
-      ap (read_bytes cap a l s) same
+      ap (read_bytes precision a l s) same
       ∙ ends_before a l s last previous token white spelling rest p e each_white is_apart (begins token (a + length white) spelling spelled)
       ∙ left.steps rest
       ∙ read_bytes-spelled tokens (a + length white + length spelling) left.lexeme left.state stepped.0 f (Some token) rest left.pending left.ended_is more stepped.2

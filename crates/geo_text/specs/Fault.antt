@@ -1,7 +1,8 @@
--- The one fault of a text.
+-- The one fault of a text, without a scale or at one.
 use Rattle.std.specs.Prelude.{◌≡◌, ℕ, ◌-◌, ◌≤◌, ◌<◌, Option, Some, None, List, [], ◌∷◌, ◌++◌, length, map, take, flat_map, slice_get, All, neg_ℤ, ◌≤ℤ◌}
 use Rattle.cov_types.specs.declared.coord.TheConstants.{LIMIT}
-use Rattle.geo_text.specs.Token.{Numeral, Dimension, value}
+use Rattle.geo_text.specs.Token.{Numeral, Dimension}
+use Rattle.geo_text.specs.Decimal.{value}
 use Rattle.geo_text.specs.Grammar.{Position, Two, Three, Four, Ring, Element, OnePolygon, ManyPolygons, Geometry, Single, Collection, IsFile}
 use Rattle.geo_text.specs.Reading.{coordinate, positions, elements, bodies}
 use Rattle.geo_text.specs.declared.error.TextFault.{TextFault}
@@ -79,29 +80,30 @@ extra_places geometries = flat_map geometry_extras geometries
 
 -- ---- what is asked of numbers and rings
 
--- no fraction digit but 0
-abbrev pub IsWhole : Numeral → Type 0
-IsWhole n = All (λ digit. digit ≡ 48) n.fraction
+-- at a scale, or no fraction digit but 0
+abbrev pub IsWhole : Option ℕ → Numeral → Type 0
+IsWhole None n = All (λ digit. digit ≡ 48) n.fraction
+IsWhole (Some k) n = Unit {0}
 
 -- a value from -268,435,456 to 268,435,456
-abbrev pub IsValueInRange : Numeral → Type 0
-IsValueInRange n = ((neg_ℤ LIMIT) ≤ℤ value n) × (value n ≤ℤ LIMIT)
+abbrev pub IsValueInRange : Option ℕ → Numeral → Type 0
+IsValueInRange scale n = ((neg_ℤ LIMIT) ≤ℤ value scale n) × (value scale n ≤ℤ LIMIT)
 
 -- whole, and in range
-abbrev pub IsNumberFine : Numeral → Type 0
-IsNumberFine n = IsWhole n × IsValueInRange n
+abbrev pub IsNumberFine : Option ℕ → Numeral → Type 0
+IsNumberFine scale n = IsWhole scale n × IsValueInRange scale n
 
 -- a ring has four positions or more
 abbrev pub IsRingLong : Ring → Type 0
 IsRingLong r = 4 ≤ length (positions r)
 
 -- the numbers of its last position have the values of those of its first
-abbrev pub IsRingClosed : Ring → Type 0
-IsRingClosed r = slice_get (map coordinate (positions r)) (length (positions r) - 1) ≡ Some (coordinate r.first)
+abbrev pub IsRingClosed : Option ℕ → Ring → Type 0
+IsRingClosed scale r = slice_get (map (coordinate scale) (positions r)) (length (positions r) - 1) ≡ Some (coordinate scale r.first)
 
 -- long enough, and closed
-abbrev pub IsRingFine : Ring → Type 0
-IsRingFine r = IsRingLong r × IsRingClosed r
+abbrev pub IsRingFine : Option ℕ → Ring → Type 0
+IsRingFine scale r = IsRingLong r × IsRingClosed scale r
 
 -- ---- the fault
 
@@ -117,35 +119,35 @@ pub record IsPlanarFile (bytes : List ℕ) (geometries : List Geometry) : Type 0
   pub planar : extra_places geometries ≡ []
 
 -- and its numbers are whole and in range
-pub record IsNumericFile (bytes : List ℕ) (geometries : List Geometry) : Type 0 where
+pub record IsNumericFile (scale : Option ℕ) (bytes : List ℕ) (geometries : List Geometry) : Type 0 where
   pub is_planar : IsPlanarFile bytes geometries
-  pub numeric : All IsNumberFine (numbers geometries)
+  pub numeric : All (IsNumberFine scale) (numbers geometries)
 
 -- the number behind `at` bytes is the first that is not fine
-pub record IsFirstNumber (bytes : List ℕ) (at : ℕ) (n : Numeral) : Type 0 where
+pub record IsFirstNumber (scale : Option ℕ) (bytes : List ℕ) (at : ℕ) (n : Numeral) : Type 0 where
   pub geometries : List Geometry
   pub before : List Numeral
   pub is_planar : IsPlanarFile bytes geometries
-  pub first : IsBehindFine IsNumberFine (numbers geometries) before n
+  pub first : IsBehindFine (IsNumberFine scale) (numbers geometries) before n
   pub here : n.at ≡ at
 
 -- the ring of this number is the first that is not fine
-pub record IsFirstRing (bytes : List ℕ) (ring : ℕ) (r : Ring) : Type 0 where
+pub record IsFirstRing (scale : Option ℕ) (bytes : List ℕ) (ring : ℕ) (r : Ring) : Type 0 where
   pub geometries : List Geometry
   pub before : List Ring
-  pub is_numeric : IsNumericFile bytes geometries
-  pub first : IsBehindFine IsRingFine (rings geometries) before r
+  pub is_numeric : IsNumericFile scale bytes geometries
+  pub first : IsBehindFine (IsRingFine scale) (rings geometries) before r
   pub here : length before ≡ ring
 
 -- the text has the fault
-abbrev pub IsFault : List ℕ → TextFault → Type 0
-IsFault bytes (Syntax at) = IsSyntaxFault bytes at
-IsFault bytes (NotPlanar at) = (geometries : List Geometry) × (more : List ℕ) × IsFile bytes geometries × (extra_places geometries ≡ at ∷ more)
-IsFault bytes (NotWhole at) = (n : Numeral) × IsFirstNumber bytes at n × ¬ IsWhole n
-IsFault bytes (OutOfRange at) = (n : Numeral) × IsFirstNumber bytes at n × IsWhole n × ¬ IsValueInRange n
-IsFault bytes (RingShort ring) = (r : Ring) × IsFirstRing bytes ring r × ¬ IsRingLong r
-IsFault bytes (RingOpen ring) = (r : Ring) × IsFirstRing bytes ring r × IsRingLong r × ¬ IsRingClosed r
+abbrev pub IsFault : Option ℕ → List ℕ → TextFault → Type 0
+IsFault scale bytes (Syntax at) = IsSyntaxFault bytes at
+IsFault scale bytes (NotPlanar at) = (geometries : List Geometry) × (more : List ℕ) × IsFile bytes geometries × (extra_places geometries ≡ at ∷ more)
+IsFault scale bytes (NotWhole at) = (n : Numeral) × IsFirstNumber scale bytes at n × ¬ IsWhole scale n
+IsFault scale bytes (OutOfRange at) = (n : Numeral) × IsFirstNumber scale bytes at n × IsWhole scale n × ¬ IsValueInRange scale n
+IsFault scale bytes (RingShort ring) = (r : Ring) × IsFirstRing scale bytes ring r × ¬ IsRingLong r
+IsFault scale bytes (RingOpen ring) = (r : Ring) × IsFirstRing scale bytes ring r × IsRingLong r × ¬ IsRingClosed scale r
 
 -- the text has no fault
-abbrev pub HasNoFault : List ℕ → Type 0
-HasNoFault bytes = (fault : TextFault) → IsFault bytes fault → ⊥
+abbrev pub HasNoFault : Option ℕ → List ℕ → Type 0
+HasNoFault scale bytes = (fault : TextFault) → IsFault scale bytes fault → ⊥

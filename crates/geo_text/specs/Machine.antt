@@ -1,12 +1,13 @@
 -- How the reader goes over the bytes: a lexeme that is being typed, and a parser that takes whole tokens.
-use Rattle.std.specs.Prelude.{◌≡◌, ℕ, ◌+◌, ◌-◌, ◌*◌, ◌≤◌, min, Bool, true, false, ◌&&◌, ◌||◌, not, if◌then◌else◌, ◌==◌, nat_lt, nat_le, int_le, List, [], ◌∷◌, ◌++◌, length, take, get_or, slice_index, Option, Some, None, option_map, option_and_then, Result, Ok, Err, ℤ, pos, neg_ℤ, codes}
+use Rattle.std.specs.Prelude.{◌≡◌, ℕ, ◌+◌, ◌-◌, Bool, true, false, ◌&&◌, ◌||◌, if◌then◌else◌, ◌==◌, nat_lt, nat_le, int_le, List, [], ◌∷◌, ◌++◌, length, take, get_or, slice_index, Option, Some, None, option_map, option_and_then, Result, Ok, Err, ℤ, pos, neg_ℤ, codes}
 use Rattle.std.specs.Char.{to_ascii_uppercase}
 use Rattle.std.specs.Option.{option_or}
 use Rattle.cov_types.specs.Coord.{is_same_coord}
 use Rattle.cov_types.specs.Coverage.{Members}
 use Rattle.cov_types.specs.declared.coord.Coord.{Coord}
 use Rattle.cov_types.specs.declared.coord.TheConstants.{LIMIT}
-use Rattle.geo_text.specs.Token.{Name, Polygon, MultiPolygon, GeometryCollection, Empty, is_white, is_digit, signed}
+use Rattle.geo_text.specs.Token.{Name, Polygon, MultiPolygon, GeometryCollection, Empty, is_white, is_digit}
+use Rattle.geo_text.specs.Number.{Precision, number_on, number_begun, value_of, is_fine, IsCapped}
 use Rattle.geo_text.specs.declared.error.TextFault.{TextFault}
 use Rattle.geo_text.specs.declared.error.TextFault.TheVariants.{Syntax, NotPlanar, NotWhole, OutOfRange, RingShort, RingOpen}
 use Rattle.geo_text.specs.declared.error.TextError.{TextError}
@@ -18,7 +19,6 @@ use Rattle.geo_text.specs.declared.keyword.Keyword.{Keyword}
 use Rattle.geo_text.specs.declared.keyword.Keyword.TheVariants as keywords
 use Rattle.geo_text.specs.declared.lexeme.Lexeme.{Lexeme}
 use Rattle.geo_text.specs.declared.lexeme.Lexeme.TheVariants as lexemes
-use Rattle.geo_text.specs.declared.number.Number.{Number}
 use Rattle.geo_text.specs.declared.place.Body.{Body}
 use Rattle.geo_text.specs.declared.place.Body.TheVariants as kinds
 use Rattle.geo_text.specs.declared.place.Place.{Place}
@@ -235,35 +235,6 @@ takes_number (places.SecondNumber x) = true
 takes_number (places.PositionEnd further) = nat_lt further 2
 takes_number place = false
 
--- the size of a number, read no further than the cap
-abbrev pub capped : ℕ → ℕ → ℕ
-capped cap size = min size cap
-
--- no byte of a number but its sign
-abbrev pub no_number : ℕ → Bool → Number
-no_number a negative = record { at = a; negative = negative; some_digit = false; point = false; whole = true; size = 0 }
-
--- the number with one digit more
-abbrev pub with_digit : ℕ → Number → ℕ → Number
-with_digit cap n b =
-    if n.point
-    then record n { some_digit = true; whole = n.whole && (b == 48) }
-    else record n { some_digit = true; size = capped cap (10 * n.size + (b - 48)) }
-
--- the number with one byte more, where it may have it
-abbrev pub number_on : ℕ → Number → ℕ → Option Number
-number_on cap n b =
-    if is_digit b then Some (with_digit cap n b)
-    else (if (b == 46) && not n.point then Some (record n { point = true }) else None)
-
--- the number that a byte at this place begins, if it begins one
-abbrev pub number_begun : ℕ → ℕ → ℕ → Option Number
-number_begun cap a b = if b == 45 then Some (no_number a true) else (if b == 43 then Some (no_number a false) else number_on cap (no_number a false) b)
-
--- a number's size is at most one past the range
-abbrev pub IsCapped : Number → Type 0
-IsCapped n = n.size ≤ 268435457
-
 -- ---- lexemes
 
 -- a letter of either case
@@ -283,30 +254,30 @@ typed_on cap (lexemes.Word a keyword typed) b = option_map (λ more. lexemes.Wor
 typed_on cap (lexemes.Number n) b = option_map (λ m. lexemes.Number m) (number_on cap n b)
 
 -- the parser behind a lexeme that ends
-abbrev pub ending : Lexeme → ParserState → Option ParserState
-ending lexemes.Blank s = Some s
-ending (lexemes.Word a keyword typed) s = if is_complete keyword typed then step s (symbol_of keyword a) else None
-ending (lexemes.Number n) s = if n.some_digit then step s (Numbered n.at (signed n.negative n.size) n.whole) else None
+abbrev pub ending : ℕ → Lexeme → ParserState → Option ParserState
+ending cap lexemes.Blank s = Some s
+ending cap (lexemes.Word a keyword typed) s = if is_complete keyword typed then step s (symbol_of keyword a) else None
+ending cap (lexemes.Number n) s = if n.some_digit then step s (Numbered n.at (value_of cap n) (is_fine n.fraction)) else None
 
 -- the lexeme and the parser behind a byte that begins a lexeme
-abbrev pub beginning : ℕ → ℕ → ParserState → ℕ → Option (Lexeme × ParserState)
-beginning cap a s b =
+abbrev pub beginning : Precision → ℕ → ParserState → ℕ → Option (Lexeme × ParserState)
+beginning precision a s b =
     if is_white b then Some (lexemes.Blank, s)
     else (if is_letter b then option_map (λ keyword. (lexemes.Word a keyword 1, s)) (keyword_at s.place (to_ascii_uppercase b))
-    else (if is_number_byte b then (if takes_number s.place then option_map (λ n. (lexemes.Number n, s)) (number_begun cap a b) else None)
+    else (if is_number_byte b then (if takes_number s.place then option_map (λ n. (lexemes.Number n, s)) (number_begun precision a b) else None)
     else (if b == 40 then option_map (λ after. (lexemes.Blank, after)) (step s Opening)
     else (if b == 41 then option_map (λ after. (lexemes.Blank, after)) (step s Closing)
     else (if b == 44 then option_map (λ after. (lexemes.Blank, after)) (step s Separator)
     else None)))))
 
 -- one byte more, behind `a` bytes
-abbrev pub read_byte : ℕ → ℕ → Lexeme → ParserState → ℕ → Option (Lexeme × ParserState)
-read_byte cap a lexeme s b =
+abbrev pub read_byte : Precision → ℕ → Lexeme → ParserState → ℕ → Option (Lexeme × ParserState)
+read_byte precision a lexeme s b =
     if goes_on lexeme b
-    then option_map (λ more. (more, s)) (typed_on cap lexeme b)
-    else option_and_then (λ after. beginning cap a after b) (ending lexeme s)
+    then option_map (λ more. (more, s)) (typed_on precision.cap lexeme b)
+    else option_and_then (λ after. beginning precision a after b) (ending precision.cap lexeme s)
 
--- the size of a number that is being typed is capped
+-- a number that is being typed is capped
 abbrev pub IsLexeme : Lexeme → Type 0
 IsLexeme (lexemes.Number n) = IsCapped n
 IsLexeme lexeme = Unit {0}
@@ -329,9 +300,9 @@ answer_by a f None = Err (Syntax a)
 answer_by a f (Some x) = f x
 
 -- the answer to the bytes behind `a` bytes
-abbrev pub answer : ℕ → ℕ → Lexeme → ParserState → List ℕ → Result Members TextFault
-answer cap a lexeme s [] = answer_by a (λ (last : ParserState). answer_at a last.place last.kept) (ending lexeme s)
-answer cap a lexeme s (b ∷ bytes) = answer_by a (λ (p : Lexeme × ParserState). answer cap (a + 1) p.0 p.1 bytes) (read_byte cap a lexeme s b)
+abbrev pub answer : Precision → ℕ → Lexeme → ParserState → List ℕ → Result Members TextFault
+answer precision a lexeme s [] = answer_by a (λ (last : ParserState). answer_at a last.place last.kept) (ending precision.cap lexeme s)
+answer precision a lexeme s (b ∷ bytes) = answer_by a (λ (p : Lexeme × ParserState). answer precision (a + 1) p.0 p.1 bytes) (read_byte precision a lexeme s b)
 
 -- ---- what the code answers
 

@@ -1,7 +1,8 @@
--- What a file is read as.
-use Rattle.std.specs.Prelude.{◌≡◌, ℕ, ◌-◌, Bool, true, false, List, [], ◌∷◌, length, map, take, filter, flat_map}
+-- What a file is read as, without a scale or at one.
+use Rattle.std.specs.Prelude.{◌≡◌, ℕ, ◌-◌, Bool, true, false, Option, List, [], ◌∷◌, length, map, take, filter, flat_map}
 use Rattle.cov_types.specs.declared.coord.Coord.{Coord}
-use Rattle.geo_text.specs.Token.{Numeral, value}
+use Rattle.geo_text.specs.Token.{Numeral}
+use Rattle.geo_text.specs.Decimal.{value}
 use Rattle.geo_text.specs.Grammar.{Position, Two, Three, Four, Ring, Element, OnePolygon, ManyPolygons, Geometry, Single, Collection, IsFile}
 
 -- the first number of a position
@@ -17,16 +18,16 @@ y_of (Three x y z) = y
 y_of (Four x y z m) = y
 
 -- the values of the first two numbers of a position
-abbrev pub coordinate : Position → Coord
-coordinate p = record { x = value (x_of p); y = value (y_of p) }
+abbrev pub coordinate : Option ℕ → Position → Coord
+coordinate scale p = record { x = value scale (x_of p); y = value scale (y_of p) }
 
 -- the positions of a ring, one or more
 abbrev pub positions : Ring → List Position
 positions r = r.first ∷ r.others
 
 -- the points of a ring are its positions without the last, which repeats the first
-abbrev pub points : Ring → List Coord
-points r = take (length (positions r) - 1) (map coordinate (positions r))
+abbrev pub points : Option ℕ → Ring → List Coord
+points scale r = take (length (positions r) - 1) (map (coordinate scale) (positions r))
 
 -- the elements of a geometry: itself, or those of the collection
 abbrev pub elements : Geometry → List Element
@@ -44,13 +45,13 @@ has_ring [] = false
 has_ring (r ∷ rings) = true
 
 -- an element is a member: its polygon bodies that are not EMPTY
-abbrev pub member : Element → List (List (List Coord))
-member e = map (λ rings. map points rings) (filter has_ring (bodies e))
+abbrev pub member : Option ℕ → Element → List (List (List Coord))
+member scale e = map (λ rings. map (points scale) rings) (filter has_ring (bodies e))
 
 -- the members of all geometries, in their order
-abbrev pub coverage : List Geometry → List (List (List (List Coord)))
-coverage geometries = map member (flat_map elements geometries)
+abbrev pub coverage : Option ℕ → List Geometry → List (List (List (List Coord)))
+coverage scale geometries = map (member scale) (flat_map elements geometries)
 
 -- the bytes are a file that is read as the coverage c
-abbrev pub Reads : List ℕ → List (List (List (List Coord))) → Type 0
-Reads bytes c = (geometries : List Geometry) × IsFile bytes geometries × (c ≡ coverage geometries)
+abbrev pub Reads : Option ℕ → List ℕ → List (List (List (List Coord))) → Type 0
+Reads scale bytes c = (geometries : List Geometry) × IsFile bytes geometries × (c ≡ coverage scale geometries)

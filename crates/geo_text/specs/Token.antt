@@ -64,10 +64,6 @@ number_from n digits = fold (λ m b. 10 * m + (b - 48)) n digits
 abbrev pub signed : Bool → ℕ → ℤ
 signed negative n = if negative then neg_ℤ (pos n) else pos n
 
--- the value of a number is its whole part with its sign
-abbrev pub value : Numeral → ℤ
-value n = signed n.negative (number_from 0 n.whole)
-
 -- `-`, or `+` or nothing
 abbrev pub IsSign : List ℕ → Bool → Type 0
 IsSign bytes true = bytes ≡ codes "-"

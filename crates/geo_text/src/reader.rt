@@ -1,9 +1,11 @@
-ghost use Rattle.std.specs.Prelude.{◌≡◌, ◌⊎◌, ◌+◌, ◌^◌, ◌<◌, ◌≤◌, ℕ, List, length, IsErrOf, OnOk, IfOk, Some, None};
+ghost use Rattle.std.specs.Prelude.{◌≡◌, ◌⊎◌, ◌+◌, ◌^◌, ◌<◌, ◌≤◌, ℕ, List, length, Option, IsErrOf, OnOk, IfOk, Some, None};
 ghost use Rattle.cov_types.specs.Coverage.{IsFormed};
 ghost use Rattle.cov_types.specs.declared.coord.Coord.{Coord};
 ghost use Rattle.geo_text.specs.Reading.{Reads};
 ghost use Rattle.geo_text.specs.Fault.{IsFault, HasNoFault};
 ghost use Rattle.geo_text.specs.declared.error.TextFault.{TextFault};
+ghost use Rattle.geo_text.specs.Decimal.{IsScale};
+ghost use Rattle.geo_text.specs.Number.{precision_at};
 ghost use Rattle.geo_text.specs.Machine.{ending, beginning, read_byte, IsLexeme, answer, Gives, error_of, start};
 ghost use Rattle.geo_text.specs.declared.number.TheConstants.{CAP};
 ghost use Rattle.geo_text.specs.declared.reader.TheConstants.{LONGEST_INPUT};
@@ -23,8 +25,8 @@ pub const LONGEST_INPUT: usize = 67_108_864;
 /// Ends a lexeme: the parser takes the token that it is.
 fn end(lexeme: Lexeme, parser: &mut Parser) -> Result<(), Stop>
     requires { IsLexeme lexeme }
-    ensures ok { OnOk result (ending lexeme parser.old ≡ Some parser.new) }
-    ensures refused { IsErrOf result Stop.Refused → ending lexeme parser.old ≡ None }
+    ensures ok { OnOk result (ending CAP lexeme parser.old ≡ Some parser.new) }
+    ensures refused { IsErrOf result Stop.Refused → ending CAP lexeme parser.old ≡ None }
     ensures rings { OnOk result (parser.new.kept.faults.rings ≡ parser.old.kept.faults.rings) }
 {
     match lexeme {
@@ -33,18 +35,19 @@ fn end(lexeme: Lexeme, parser: &mut Parser) -> Result<(), Stop>
             parser.word(keyword, at)
         }
         Lexeme::Number(number) if number.some_digit => {
-            parser.number(number.at, number.value(), number.whole)
+            parser.number(number.at, number.value(), number.fraction.is_fine())
         }
         _ => Err(Stop::Refused),
     }
 }
 
 /// Begins a lexeme with a byte behind `at` bytes, or lets the parser take the token that the byte is.
-fn begin(at: u64, parser: &mut Parser, byte: u8) -> Result<Lexeme, Stop>
-    requires { parser.old.kept.faults.rings + 1 < 2 ^ 32 }
-    ensures ok { IfOk result (λ lexeme. beginning CAP at parser.old byte ≡ Some (lexeme, parser.new)) }
+fn begin(at: u64, parser: &mut Parser, byte: u8, scale: Option<u8>) -> Result<Lexeme, Stop>
+    requires scale { IsScale scale }
+    requires room { parser.old.kept.faults.rings + 1 < 2 ^ 32 }
+    ensures ok { IfOk result (λ lexeme. beginning (precision_at scale) at parser.old byte ≡ Some (lexeme, parser.new)) }
     ensures kept { IfOk result IsLexeme }
-    ensures refused { IsErrOf result Stop.Refused → beginning CAP at parser.old byte ≡ None }
+    ensures refused { IsErrOf result Stop.Refused → beginning (precision_at scale) at parser.old byte ≡ None }
     ensures rings { OnOk result (parser.new.kept.faults.rings ≤ parser.old.kept.faults.rings + 1) }
 {
     if is_white(byte) {
@@ -64,7 +67,7 @@ fn begin(at: u64, parser: &mut Parser, byte: u8) -> Result<Lexeme, Stop>
         if !parser.place().takes_number() {
             return Err(Stop::Refused);
         }
-        return match Number::begun(at, byte) {
+        return match Number::begun(at, byte, scale) {
             Some(number) => Ok(Lexeme::Number(number)),
             None => Err(Stop::Refused),
         };
@@ -79,19 +82,26 @@ fn begin(at: u64, parser: &mut Parser, byte: u8) -> Result<Lexeme, Stop>
 }
 
 /// Takes one byte more, behind `at` bytes.
-fn read_byte(at: u64, lexeme: Lexeme, parser: &mut Parser, byte: u8) -> Result<Lexeme, Stop>
+fn read_byte(
+    at: u64,
+    lexeme: Lexeme,
+    parser: &mut Parser,
+    byte: u8,
+    scale: Option<u8>,
+) -> Result<Lexeme, Stop>
+    requires scale { IsScale scale }
     requires kept { IsLexeme lexeme }
     requires room { parser.old.kept.faults.rings + 1 < 2 ^ 32 }
-    ensures ok { IfOk result (λ next. read_byte CAP at lexeme parser.old byte ≡ Some (next, parser.new)) }
+    ensures ok { IfOk result (λ next. read_byte (precision_at scale) at lexeme parser.old byte ≡ Some (next, parser.new)) }
     ensures kept { IfOk result IsLexeme }
-    ensures refused { IsErrOf result Stop.Refused → read_byte CAP at lexeme parser.old byte ≡ None }
+    ensures refused { IsErrOf result Stop.Refused → read_byte (precision_at scale) at lexeme parser.old byte ≡ None }
     ensures rings { OnOk result (parser.new.kept.faults.rings ≤ parser.old.kept.faults.rings + 1) }
 {
     if lexeme.goes_on(byte) {
         return lexeme.typed_on(byte).ok_or(Stop::Refused);
     }
     end(lexeme, parser)?;
-    begin(at, parser, byte)
+    begin(at, parser, byte, scale)
 }
 
 /// What a refusal behind `at` bytes means.
@@ -104,14 +114,15 @@ fn stopped(stop: Stop, at: u64) -> TextError
     }
 }
 
-fn read_all(alloc: Global, bytes: &[u8]) -> Result<Coverage, TextError>
-    requires { length bytes.now ≤ LONGEST_INPUT }
-    ensures { Gives result (answer CAP 0 Blank start bytes.now) }
+fn read_all(alloc: Global, bytes: &[u8], scale: Option<u8>) -> Result<Coverage, TextError>
+    requires scale { IsScale scale }
+    requires length { length bytes.now ≤ LONGEST_INPUT }
+    ensures { Gives result (answer (precision_at scale) 0 Blank start bytes.now) }
 {
     let mut parser = Parser::new(alloc);
     let mut lexeme = Lexeme::Blank;
     for (at, byte) in bytes.iter().enumerate() {
-        match read_byte(at as u64, lexeme, &mut parser, *byte) {
+        match read_byte(at as u64, lexeme, &mut parser, *byte, scale) {
             Ok(next) => lexeme = next,
             Err(stop) => return Err(stopped(stop, at as u64)),
         }
@@ -124,24 +135,30 @@ fn read_all(alloc: Global, bytes: &[u8]) -> Result<Coverage, TextError>
 }
 
 /// Reads a well-known text of polygons: each polygon, multipolygon and element of a collection is a member of the
-/// coverage, in order. Takes time in proportion to the text, and memory in proportion to the points.
-pub fn read_text(alloc: Global, bytes: &[u8]) -> Result<Coverage, TextError>
-    requires { length bytes.now ≤ LONGEST_INPUT }
-    ensures read { IfOk result (λ c. Reads bytes.now c) }
-    ensures faultless { OnOk result (HasNoFault bytes.now) }
+/// coverage, in order. Without a scale the numbers must be whole. At scale `k`, from 0 to 7, each number is read as the
+/// whole number nearest to it times `10^k`, halves upwards. Takes time in proportion to the text, and memory in
+/// proportion to the points.
+pub fn read_text(alloc: Global, bytes: &[u8], scale: Option<u8>) -> Result<Coverage, TextError>
+    requires scale { IsScale scale }
+    requires length { length bytes.now ≤ LONGEST_INPUT }
+    ensures read { IfOk result (λ c. Reads scale bytes.now c) }
+    ensures faultless { OnOk result (HasNoFault scale bytes.now) }
     ensures formed { IfOk result IsFormed }
-    ensures fault { (fault : TextFault) → IsErrOf result (TextError.Fault fault) → IsFault bytes.now fault }
+    ensures fault { (fault : TextFault) → IsErrOf result (TextError.Fault fault) → IsFault scale bytes.now fault }
 {
-    read_all(alloc, bytes)
+    read_all(alloc, bytes, scale)
 }
 
-/// Laws of texts: each has at most one reading and at most one fault, and has a fault or is read without one, as a
-/// formed coverage. A call does nothing.
+/// Laws of texts: at one scale, and without one, each has at most one reading and at most one fault, and has a fault or
+/// is read without one, as a formed coverage. A call does nothing.
 pub fn one_answer()
-    ensures reading { (bytes : List ℕ) (c d : List (List (List (List Coord)))) → Reads bytes c → Reads bytes d → c ≡ d }
-    ensures fault { (bytes : List ℕ) (e f : TextFault) → IsFault bytes e → IsFault bytes f → e ≡ f }
-    ensures either { (bytes : List ℕ)
-        → ((c : List (List (List (List Coord)))) × Reads bytes c × HasNoFault bytes) ⊎ ((fault : TextFault) × IsFault bytes fault) }
-    ensures formed { (bytes : List ℕ) (c : List (List (List (List Coord))))
-        → length bytes ≤ LONGEST_INPUT → Reads bytes c → HasNoFault bytes → IsFormed c }
+    ensures reading { (scale : Option ℕ) (bytes : List ℕ) (c d : List (List (List (List Coord))))
+        → Reads scale bytes c → Reads scale bytes d → c ≡ d }
+    ensures fault { (scale : Option ℕ) (bytes : List ℕ) (e f : TextFault)
+        → IsFault scale bytes e → IsFault scale bytes f → e ≡ f }
+    ensures either { (scale : Option ℕ) (bytes : List ℕ)
+        → ((c : List (List (List (List Coord)))) × Reads scale bytes c × HasNoFault scale bytes)
+        ⊎ ((fault : TextFault) × IsFault scale bytes fault) }
+    ensures formed { (scale : Option ℕ) (bytes : List ℕ) (c : List (List (List (List Coord))))
+        → length bytes ≤ LONGEST_INPUT → Reads scale bytes c → HasNoFault scale bytes → IsFormed c }
 {}

@@ -24,10 +24,17 @@ fn shown(alloc: Global, coverage: &Coverage) -> Result<String, AllocError> {
 }
 
 fn answer(alloc: Global, text: &[u8]) -> Result<String, Fail> {
+    answer_at(alloc, text, None)
+}
+
+fn answer_at(alloc: Global, text: &[u8], scale: Option<u8>) -> Result<String, Fail> {
+    if scale.unwrap_or(0) > 7 {
+        return Ok(String::from_str(alloc, "no scale")?);
+    }
     if text.len() > LONGEST_INPUT {
         return Ok(String::from_str(alloc, "too long")?);
     }
-    Ok(match read_text(alloc, text) {
+    Ok(match read_text(alloc, text, scale) {
         Ok(coverage) => shown(alloc, &coverage)?,
         Err(TextError::Fault(fault)) => named(alloc, fault)?,
         Err(TextError::NoMemory) => String::from_str(alloc, "no memory")?,
@@ -218,6 +225,99 @@ fn a_number_of_a_thousand_digits_is_read(rt: HostRuntime) -> Result<(), Fail> {
         text.extend_from_slice(b" 0,1 0,1 1,0 0))")?;
         let got = answer(rt.alloc(), text.as_slice())?;
         assert_eq!(rt; got.as_str(), want);
+    }
+    Ok(())
+}
+
+/// Numbers at scales: halves go upwards, digits that are missing are 0, and only what comes out must be in range.
+#[test]
+fn numbers_are_read_at_a_scale(rt: HostRuntime) -> Result<(), Fail> {
+    for (scale, number, want) in [
+        (2, "-0.005", "0"),
+        (2, "-0.0051", "-1"),
+        (2, "-0.00500000000000000000000000001", "-1"),
+        (2, "-0.0149999", "-1"),
+        (2, "-0.015", "-1"),
+        (2, "-0.0150", "-1"),
+        (2, "-0.01501", "-2"),
+        (2, "0.005", "1"),
+        (2, "0.004999", "0"),
+        (2, "0.0149", "1"),
+        (2, "0.015", "2"),
+        (2, "+.995", "100"),
+        (2, ".5", "50"),
+        (2, "3.", "300"),
+        (2, "00012.340", "1234"),
+        (2, "1.005", "101"),
+        (2, "1.994", "199"),
+        (0, "1.5", "2"),
+        (0, "-1.5", "-1"),
+        (0, "-1.51", "-2"),
+        (0, "-0.5", "0"),
+        (0, "0.49999999999999999999999999999999", "0"),
+        (0, "268435456.4999", "268435456"),
+        (7, "26.84354564", "268435456"),
+        (7, "-26.84354565", "-268435456"),
+        (7, "0.0000001", "1"),
+    ] {
+        let text = format!(in rt.alloc(); "POLYGON (({number} 0, 1 0, 0 1, {number} 0))")?;
+        let got = answer_at(rt.alloc(), text.as_bytes(), Some(scale))?;
+        let one = match scale {
+            0 => "1",
+            2 => "100",
+            _ => "10000000",
+        };
+        let want = format!(in rt.alloc(); "mpr {want} 0 {one} 0 0 {one}")?;
+        assert_eq!(rt; got.as_str(), want.as_str(), "at {scale} {number}");
+    }
+    Ok(())
+}
+
+#[test]
+fn the_range_is_asked_of_what_is_read_at_the_scale(rt: HostRuntime) -> Result<(), Fail> {
+    for (scale, number, want) in [
+        (7, "26.84354565", "out of range 15"),
+        (7, "-26.84354566", "out of range 15"),
+        (7, "26.8435457", "out of range 15"),
+        (7, "27", "out of range 15"),
+        (7, "268435456", "out of range 15"),
+        (0, "268435456.5", "out of range 15"),
+        (0, "-268435456.500000001", "out of range 15"),
+        (2, "999999999999999999999999999999", "out of range 15"),
+        (2, "1e3", "syntax 16"),
+        (2, "1.2.3", "syntax 18"),
+    ] {
+        let text = format!(in rt.alloc(); "POLYGON ((0 0, {number} 0, 0 1, 0 0))")?;
+        let got = answer_at(rt.alloc(), text.as_bytes(), Some(scale))?;
+        assert_eq!(rt; got.as_str(), want, "at {scale} {number}");
+    }
+    Ok(())
+}
+
+/// A fraction is at fault without a scale alone; a ring is closed where its ends are read as one point.
+#[test]
+fn scales_decide_on_fractions_and_closing(rt: HostRuntime) -> Result<(), Fail> {
+    for (scale, text, want) in [
+        (None, "POLYGON ((0 0, 1.5 0, 0 5, 0 0))", "not whole 15"),
+        (
+            Some(0),
+            "POLYGON ((0 0, 1.5 0, 0 5, 0 0))",
+            "mpr 0 0 2 0 0 5",
+        ),
+        (
+            Some(1),
+            "POLYGON ((0.04 0, 1 0, 0 1, 0 -0.05))",
+            "mpr 0 0 10 0 0 10",
+        ),
+        (Some(2), "POLYGON ((0.04 0, 1 0, 0 1, 0 0))", "open 0"),
+        (
+            Some(2),
+            "POLYGON ((0 0, 1.005 0, 1 1.994, 0 0))",
+            "mpr 0 0 101 0 100 199",
+        ),
+    ] {
+        let got = answer_at(rt.alloc(), text.as_bytes(), scale)?;
+        assert_eq!(rt; got.as_str(), want, "at {text}");
     }
     Ok(())
 }

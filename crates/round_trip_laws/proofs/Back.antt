@@ -31,17 +31,17 @@ members_good : (members : List (List (List (List Coord)))) → IsFormed members 
 members_good members h = all_both IsMemberFormed IsMemberInRange IsGoodMember member_good members (recursion_from_All IsMemberFormed members h.shapes) (recursion_from_All IsMemberInRange members h.in_range.coords)
 
 pub read_back : IsReadBack
-read_back members formed =
+read_back scale is_scale members formed =
     let good = members_good members formed in
-    let gs = coverage_at 0 members in
-    let text = coverage_text members in
-    let written = coverage_spelled members 0 good in
-    let back = coverage_read members 0 good in
-    let clean : IsClean text gs = record {
+    let gs = coverage_at scale 0 members in
+    let text = coverage_text scale members in
+    let written = coverage_spelled scale members 0 good in
+    let back = coverage_read scale members 0 good in
+    let clean : IsClean scale text gs = record {
       is_numeric = record {
         is_planar = record { is_file = written; planar = back.planar };
-        numeric = All-from_recursion IsNumberFine (numbers gs) (all_numeric gs back.clean);
+        numeric = All-from_recursion (IsNumberFine scale) (numbers gs) (all_numeric scale gs back.clean);
       };
-      rings_fine = All-from_recursion IsRingFine (rings gs) (all_fine gs back.clean);
+      rings_fine = All-from_recursion (IsRingFine scale) (rings gs) (all_fine scale gs back.clean);
     } in
-    ((gs, written, sym back.read), ok_faultless text (coverage gs) (clean_answer text gs clean))
+    ((gs, written, sym back.read), ok_faultless scale text (coverage scale gs) (clean_answer scale text gs clean))

@@ -1,5 +1,5 @@
 -- The geometries of a formed coverage are read as it, and have no fault.
-use Rattle.std.proofs.Common.{◌≡◌, ℕ, suc, ◌+◌, ◌-◌, ◌<◌, true, List, [], ◌∷◌, ◌++◌, length, length-append, map, take, filter, slice_get, Some, None, ℤ, pos, negsuc, neg_ℤ, ◌≤ℤ◌, sym, refl, ap, ap₂, ◌∙◌, subst, arith}
+use Rattle.std.proofs.Common.{◌≡◌, ℕ, suc, ◌+◌, ◌-◌, ◌<◌, true, List, [], ◌∷◌, ◌++◌, length, length-append, map, take, filter, slice_get, Option, Some, None, ℤ, pos, negsuc, neg_ℤ, ◌≤ℤ◌, sym, refl, ap, ap₂, ◌∙◌, subst, arith}
 use Rattle.std.specs.List.{AllByRecursion}
 use Rattle.std.proofs.Math.Seq.{take-append_seam, get_or-append_seam}
 use Rattle.std.proofs.lemmas.Option.{slice_get-get_or}
@@ -13,8 +13,9 @@ use Rattle.geo_text.specs.Fault.{rings_of, rings, position_numbers, ring_numbers
 use Rattle.cov_write.specs.Written.{number_text, position_text, ring_text, polygon_text, member_line}
 use Rattle.round_trip_laws.proofs.Lists.{all_append, all_weaker, flat_all, flat_nothing, all_kept}
 use Rattle.round_trip_laws.proofs.Spelling.{others}
-use Rattle.round_trip_laws.proofs.Tree.{number_at, position_at, ring_at, polygon_at, element_at, coverage_at}
-use Rattle.round_trip_laws.proofs.Spelled.{IsSmall, IsGoodRing, IsGoodPolygon, IsGoodMember, x_small, y_small, value_read}
+use Rattle.round_trip_laws.proofs.Tree.{position_at, ring_at, polygon_at, element_at, coverage_at}
+use Rattle.round_trip_laws.proofs.Numbers.{IsSmall, number_at, value_read}
+use Rattle.round_trip_laws.proofs.Spelled.{IsGoodRing, IsGoodPolygon, IsGoodMember, x_small, y_small}
 
 -- ---- the entries of a list
 
@@ -30,144 +31,147 @@ others_length : {X T : Type 0} (text : X → List ℕ) (placed : ℕ → X → T
 others_length text placed [] at = refl
 others_length text placed (x ∷ xs) at = ap suc (others_length text placed xs (at + 2 + length (text x)))
 
--- ---- positions
+-- ---- numbers
 
-position_read : (at : ℕ) (c : Coord) → IsInRange c → coordinate (position_at at c) ≡ c
-position_read at c h = ap₂ (λ (x y : ℤ). let d : Coord = record { x = x; y = y } in d) (value_read at c.x (x_small c h)) (value_read (at + length (number_text c.x) + 1) c.y (y_small c h))
+is_whole : (scale : Option ℕ) (at : ℕ) (z : ℤ) → IsWhole scale (number_at scale at z)
+is_whole None at z = All-nil _
+is_whole (Some k) at z = tt
 
-no_fraction : (at : ℕ) (z : ℤ) → IsWhole (number_at at z)
-no_fraction at (pos n) = All-nil _
-no_fraction at (negsuc n) = All-nil _
+module _ (scale : Option ℕ) where
+  -- ---- positions
 
-number_fine : (at : ℕ) (z : ℤ) → IsSmall z → IsNumberFine (number_at at z)
-number_fine at z h = (no_fraction at z, subst (λ (v : ℤ). ((neg_ℤ LIMIT) ≤ℤ v) × (v ≤ℤ LIMIT)) (sym (value_read at z h)) (h.low, h.high))
+  position_read : (at : ℕ) (c : Coord) → IsInRange c → coordinate scale (position_at scale at c) ≡ c
+  position_read at c h = ap₂ (λ (x y : ℤ). let d : Coord = record { x = x; y = y } in d) (value_read scale at c.x (x_small c h)) (value_read scale (at + length (number_text scale c.x) + 1) c.y (y_small c h))
 
-abbrev ArePositionNumbersFine : Position → Type 0
-ArePositionNumbersFine p = AllByRecursion IsNumberFine (position_numbers p)
+  number_fine : (at : ℕ) (z : ℤ) → IsSmall z → IsNumberFine scale (number_at scale at z)
+  number_fine at z h = (is_whole scale at z, subst (λ (v : ℤ). ((neg_ℤ LIMIT) ≤ℤ v) × (v ≤ℤ LIMIT)) (sym (value_read scale at z h)) (h.low, h.high))
 
-position_fine : (at : ℕ) (c : Coord) → IsInRange c → ArePositionNumbersFine (position_at at c)
-position_fine at c h = (number_fine at c.x (x_small c h), (number_fine (at + length (number_text c.x) + 1) c.y (y_small c h), tt))
+  abbrev ArePositionNumbersFine : Position → Type 0
+  ArePositionNumbersFine p = AllByRecursion (IsNumberFine scale) (position_numbers p)
 
-abbrev IsPositionPlanar : Position → Type 0
-IsPositionPlanar p = third_places p ≡ []
+  position_fine : (at : ℕ) (c : Coord) → IsInRange c → ArePositionNumbersFine (position_at scale at c)
+  position_fine at c h = (number_fine at c.x (x_small c h), (number_fine (at + length (number_text scale c.x) + 1) c.y (y_small c h), tt))
 
--- ---- rings
+  abbrev IsPositionPlanar : Position → Type 0
+  IsPositionPlanar p = third_places p ≡ []
 
--- the ring has no third number, its numbers are fine, and so is it
-pub record IsRingClean (r : Ring) : Type 0 where
-  pub planar : ring_extras r ≡ []
-  pub numeric : AllByRecursion IsNumberFine (ring_numbers r)
-  pub fine : IsRingFine r
+  -- ---- rings
 
--- and it is read as the points
-record IsRingRead (r : Ring) (cs : List Coord) : Type 0 where
-  clean : IsRingClean r
-  read : points r ≡ cs
+  -- the ring has no third number, its numbers are fine, and so is it
+  pub record IsRingClean (r : Ring) : Type 0 where
+    pub planar : ring_extras r ≡ []
+    pub numeric : AllByRecursion (IsNumberFine scale) (ring_numbers r)
+    pub fine : IsRingFine scale r
 
-ring_read : (at : ℕ) (cs : List Coord) → IsGoodRing cs → IsRingRead (ring_at at cs) cs
-ring_read at [] h = absurd (omega (arith, h.long))
-ring_read at (c ∷ cs) h =
-    let place = at + 1 + length (position_text c) in
-    let r = ring_at at (c ∷ cs) in
-    let closing : AllByRecursion IsInRange (cs ++ c ∷ []) = all_append IsInRange cs (c ∷ []) h.in_range.1 (h.in_range.0, tt) in
-    let first : coordinate r.first ≡ c = position_read (at + 1) c h.in_range.0 in
-    let values : map coordinate (positions r) ≡ (c ∷ cs) ++ c ∷ [] = ap₂ (λ y ys. y ∷ ys) first (others_read position_text position_at coordinate IsInRange position_read (cs ++ c ∷ []) place closing) in
-    let count : length r.others ≡ suc (length cs) = others_length position_text position_at (cs ++ c ∷ []) place ∙ omega (arith, length-append cs (c ∷ [])) in
-    let last : length (positions r) - 1 ≡ length (c ∷ cs) = omega arith in
-    let within : length (c ∷ cs) < length ((c ∷ cs) ++ c ∷ []) = omega (arith, length-append cs (c ∷ [])) in
-    record {
-      clean = record {
-        planar = flat_nothing third_places (positions r) (refl, others_all position_text position_at IsPositionPlanar IsInRange (λ i d good. refl) (cs ++ c ∷ []) place closing);
-        numeric = flat_all ArePositionNumbersFine IsNumberFine position_numbers (λ p fine. fine) (positions r) (position_fine (at + 1) c h.in_range.0, others_all position_text position_at ArePositionNumbersFine IsInRange position_fine (cs ++ c ∷ []) place closing);
-        fine = (omega (arith, h.long), ap₂ slice_get values last ∙ slice_get-get_or ((c ∷ cs) ++ c ∷ []) (length (c ∷ cs)) c within ∙ ap Some (get_or-append_seam (c ∷ cs) c [] c) ∙ ap Some (sym first));
-      };
-      read = ap₂ (λ (n : ℕ) (xs : List Coord). take n xs) last values ∙ take-append_seam (c ∷ cs) (c ∷ []);
-    }
+  -- and it is read as the points
+  record IsRingRead (r : Ring) (cs : List Coord) : Type 0 where
+    clean : IsRingClean r
+    read : points scale r ≡ cs
 
--- ---- polygons
+  ring_read : (at : ℕ) (cs : List Coord) → IsGoodRing cs → IsRingRead (ring_at scale at cs) cs
+  ring_read at [] h = absurd (omega (arith, h.long))
+  ring_read at (c ∷ cs) h =
+      let place = at + 1 + length (position_text scale c) in
+      let r = ring_at scale at (c ∷ cs) in
+      let closing : AllByRecursion IsInRange (cs ++ c ∷ []) = all_append IsInRange cs (c ∷ []) h.in_range.1 (h.in_range.0, tt) in
+      let first : coordinate scale r.first ≡ c = position_read (at + 1) c h.in_range.0 in
+      let values : map (coordinate scale) (positions r) ≡ (c ∷ cs) ++ c ∷ [] = ap₂ (λ y ys. y ∷ ys) first (others_read (position_text scale) (position_at scale) (coordinate scale) IsInRange position_read (cs ++ c ∷ []) place closing) in
+      let count : length r.others ≡ suc (length cs) = others_length (position_text scale) (position_at scale) (cs ++ c ∷ []) place ∙ omega (arith, length-append cs (c ∷ [])) in
+      let last : length (positions r) - 1 ≡ length (c ∷ cs) = omega arith in
+      let within : length (c ∷ cs) < length ((c ∷ cs) ++ c ∷ []) = omega (arith, length-append cs (c ∷ [])) in
+      record {
+        clean = record {
+          planar = flat_nothing third_places (positions r) (refl, others_all (position_text scale) (position_at scale) IsPositionPlanar IsInRange (λ i d good. refl) (cs ++ c ∷ []) place closing);
+          numeric = flat_all ArePositionNumbersFine (IsNumberFine scale) position_numbers (λ p fine. fine) (positions r) (position_fine (at + 1) c h.in_range.0, others_all (position_text scale) (position_at scale) ArePositionNumbersFine IsInRange position_fine (cs ++ c ∷ []) place closing);
+          fine = (omega (arith, h.long), ap₂ slice_get values last ∙ slice_get-get_or ((c ∷ cs) ++ c ∷ []) (length (c ∷ cs)) c within ∙ ap Some (get_or-append_seam (c ∷ cs) c [] c) ∙ ap Some (sym first));
+        };
+        read = ap₂ (λ (n : ℕ) (xs : List Coord). take n xs) last values ∙ take-append_seam (c ∷ cs) (c ∷ []);
+      }
 
-record IsPolygonRead (rs : List Ring) (polygon : List (List Coord)) : Type 0 where
-  clean : AllByRecursion IsRingClean rs
-  some_ring : has_ring rs ≡ true
-  read : map points rs ≡ polygon
+  -- ---- polygons
 
-polygon_read : (at : ℕ) (polygon : List (List Coord)) → IsGoodPolygon polygon → IsPolygonRead (polygon_at at polygon) polygon
-polygon_read at [] h = absurd (omega (arith, h.some_ring))
-polygon_read at (r ∷ rs) h =
-    let place = at + 1 + length (ring_text r) in
-    let first = ring_read (at + 1) r h.rings_good.0 in
-    record {
-      clean = (first.clean, others_all ring_text ring_at IsRingClean IsGoodRing (λ i x good. (ring_read i x good).clean) rs place h.rings_good.1);
-      some_ring = refl;
-      read = ap₂ (λ y ys. y ∷ ys) first.read (others_read ring_text ring_at points IsGoodRing (λ i x good. (ring_read i x good).read) rs place h.rings_good.1);
-    }
+  record IsPolygonRead (rs : List Ring) (polygon : List (List Coord)) : Type 0 where
+    clean : AllByRecursion IsRingClean rs
+    some_ring : has_ring rs ≡ true
+    read : map (points scale) rs ≡ polygon
 
--- ---- members
+  polygon_read : (at : ℕ) (polygon : List (List Coord)) → IsGoodPolygon polygon → IsPolygonRead (polygon_at scale at polygon) polygon
+  polygon_read at [] h = absurd (omega (arith, h.some_ring))
+  polygon_read at (r ∷ rs) h =
+      let place = at + 1 + length (ring_text scale r) in
+      let first = ring_read (at + 1) r h.rings_good.0 in
+      record {
+        clean = (first.clean, others_all (ring_text scale) (ring_at scale) IsRingClean IsGoodRing (λ i x good. (ring_read i x good).clean) rs place h.rings_good.1);
+        some_ring = refl;
+        read = ap₂ (λ y ys. y ∷ ys) first.read (others_read (ring_text scale) (ring_at scale) (points scale) IsGoodRing (λ i x good. (ring_read i x good).read) rs place h.rings_good.1);
+      }
 
-record IsElementRead (e : Element) (polys : List (List (List Coord))) : Type 0 where
-  clean : AllByRecursion IsRingClean (rings_of e)
-  no_dimension : element_dimension e ≡ None
-  read : member e ≡ polys
+  -- ---- members
 
-abbrev AreRingsClean : List Ring → Type 0
-AreRingsClean rs = AllByRecursion IsRingClean rs
+  record IsElementRead (e : Element) (polys : List (List (List Coord))) : Type 0 where
+    clean : AllByRecursion IsRingClean (rings_of e)
+    no_dimension : element_dimension e ≡ None
+    read : member scale e ≡ polys
 
-abbrev HasRing : List Ring → Type 0
-HasRing rs = has_ring rs ≡ true
+  abbrev AreRingsClean : List Ring → Type 0
+  AreRingsClean rs = AllByRecursion IsRingClean rs
 
-abbrev rings_read : List Ring → List (List Coord)
-rings_read rs = map points rs
+  abbrev HasRing : List Ring → Type 0
+  HasRing rs = has_ring rs ≡ true
 
-one_read : (at : ℕ) (polygon : List (List Coord)) → IsGoodPolygon polygon → (b : List (List Ring)) → b ≡ polygon_at at polygon ∷ [] → map rings_read (filter has_ring b) ≡ polygon ∷ []
-one_read at polygon h b e =
-    let read = polygon_read at polygon h in
-    ap (λ (c : List (List Ring)). map rings_read (filter has_ring c)) e
-    ∙ ap (map rings_read) (all_kept has_ring (polygon_at at polygon ∷ []) (read.some_ring, tt))
-    ∙ ap (λ (x : List (List Coord)). x ∷ []) read.read
+  abbrev rings_read : List Ring → List (List Coord)
+  rings_read rs = map (points scale) rs
 
-element_read : (at : ℕ) (polys : List (List (List Coord))) → IsGoodMember polys → IsElementRead (element_at at polys) polys
-element_read at [] h = record { clean = tt; no_dimension = refl; read = refl }
-element_read at (p ∷ []) h = record {
-  clean = all_append IsRingClean (polygon_at (at + 8) p) [] (polygon_read (at + 8) p h.0).clean tt;
-  no_dimension = refl;
-  read = one_read (at + 8) p h.0 (polygon_at (at + 8) p ∷ []) refl;
-}
-element_read at (p ∷ q ∷ ps) h =
-    let place = at + 13 + 1 + length (polygon_text p) in
-    let first = polygon_read (at + 13 + 1) p h.0 in
-    let many = polygon_at (at + 13 + 1) p ∷ others polygon_text polygon_at place (q ∷ ps) in
-    let kept : filter has_ring many ≡ many = all_kept has_ring many (first.some_ring, others_all polygon_text polygon_at HasRing IsGoodPolygon (λ i x good. (polygon_read i x good).some_ring) (q ∷ ps) place h.1) in
-    record {
-      clean = flat_all AreRingsClean IsRingClean (λ rs. rs) (λ rs clean. clean) many (first.clean, others_all polygon_text polygon_at AreRingsClean IsGoodPolygon (λ i x good. (polygon_read i x good).clean) (q ∷ ps) place h.1);
-      no_dimension = refl;
-      read = ap (map rings_read) kept ∙ ap₂ (λ y ys. y ∷ ys) first.read (others_read polygon_text polygon_at rings_read IsGoodPolygon (λ i x good. (polygon_read i x good).read) (q ∷ ps) place h.1);
-    }
+  one_read : (at : ℕ) (polygon : List (List Coord)) → IsGoodPolygon polygon → (b : List (List Ring)) → b ≡ polygon_at scale at polygon ∷ [] → map rings_read (filter has_ring b) ≡ polygon ∷ []
+  one_read at polygon h b e =
+      let read = polygon_read at polygon h in
+      ap (λ (c : List (List Ring)). map rings_read (filter has_ring c)) e
+      ∙ ap (map rings_read) (all_kept has_ring (polygon_at scale at polygon ∷ []) (read.some_ring, tt))
+      ∙ ap (λ (x : List (List Coord)). x ∷ []) read.read
 
-no_extras : (e : Element) (polys : List (List (List Coord))) → IsElementRead e polys → element_extras e ≡ []
-no_extras e polys h = ap₂ (λ ds rs. ds ++ rs) (ap dimension_places h.no_dimension) (flat_nothing ring_extras (rings_of e) (all_weaker IsRingClean (λ r. ring_extras r ≡ []) (λ r clean. clean.planar) (rings_of e) h.clean))
+  element_read : (at : ℕ) (polys : List (List (List Coord))) → IsGoodMember polys → IsElementRead (element_at scale at polys) polys
+  element_read at [] h = record { clean = tt; no_dimension = refl; read = refl }
+  element_read at (p ∷ []) h = record {
+    clean = all_append IsRingClean (polygon_at scale (at + 8) p) [] (polygon_read (at + 8) p h.0).clean tt;
+    no_dimension = refl;
+    read = one_read (at + 8) p h.0 (polygon_at scale (at + 8) p ∷ []) refl;
+  }
+  element_read at (p ∷ q ∷ ps) h =
+      let place = at + 13 + 1 + length (polygon_text scale p) in
+      let first = polygon_read (at + 13 + 1) p h.0 in
+      let many = polygon_at scale (at + 13 + 1) p ∷ others (polygon_text scale) (polygon_at scale) place (q ∷ ps) in
+      let kept : filter has_ring many ≡ many = all_kept has_ring many (first.some_ring, others_all (polygon_text scale) (polygon_at scale) HasRing IsGoodPolygon (λ i x good. (polygon_read i x good).some_ring) (q ∷ ps) place h.1) in
+      record {
+        clean = flat_all AreRingsClean IsRingClean (λ rs. rs) (λ rs clean. clean) many (first.clean, others_all (polygon_text scale) (polygon_at scale) AreRingsClean IsGoodPolygon (λ i x good. (polygon_read i x good).clean) (q ∷ ps) place h.1);
+        no_dimension = refl;
+        read = ap (map rings_read) kept ∙ ap₂ (λ y ys. y ∷ ys) first.read (others_read (polygon_text scale) (polygon_at scale) rings_read IsGoodPolygon (λ i x good. (polygon_read i x good).read) (q ∷ ps) place h.1);
+      }
 
--- ---- coverages
+  no_extras : (e : Element) (polys : List (List (List Coord))) → IsElementRead e polys → element_extras e ≡ []
+  no_extras e polys h = ap₂ (λ ds rs. ds ++ rs) (ap dimension_places h.no_dimension) (flat_nothing ring_extras (rings_of e) (all_weaker IsRingClean (λ r. ring_extras r ≡ []) (λ r clean. clean.planar) (rings_of e) h.clean))
 
-pub record IsCoverageRead (gs : List Geometry) (members : List (List (List (List Coord)))) : Type 0 where
-  pub planar : extra_places gs ≡ []
-  pub clean : AllByRecursion IsRingClean (rings gs)
-  pub read : coverage gs ≡ members
+  -- ---- coverages
 
-pub coverage_read : (members : List (List (List (List Coord)))) (at : ℕ) → AllByRecursion IsGoodMember members → IsCoverageRead (coverage_at at members) members
-coverage_read [] at h = record { planar = refl; clean = tt; read = refl }
-coverage_read (m ∷ ms) at h =
-    let e = element_at at m in
-    let gs = coverage_at (at + length (member_line m)) ms in
-    let first = element_read at m h.0 in
-    let behind = coverage_read ms (at + length (member_line m)) h.1 in
-    record {
-      planar = ap₂ (λ is js. is ++ js) (no_extras e m first) behind.planar;
-      clean = all_append IsRingClean (rings_of e) (rings gs) first.clean behind.clean;
-      read = ap₂ (λ y ys. y ∷ ys) first.read behind.read;
-    }
+  pub record IsCoverageRead (gs : List Geometry) (members : List (List (List (List Coord)))) : Type 0 where
+    pub planar : extra_places gs ≡ []
+    pub clean : AllByRecursion IsRingClean (rings gs)
+    pub read : coverage scale gs ≡ members
 
-pub all_numeric : (gs : List Geometry) → AllByRecursion IsRingClean (rings gs) → AllByRecursion IsNumberFine (numbers gs)
-all_numeric gs h = flat_all IsRingClean IsNumberFine ring_numbers (λ r clean. clean.numeric) (rings gs) h
+  pub coverage_read : (members : List (List (List (List Coord)))) (at : ℕ) → AllByRecursion IsGoodMember members → IsCoverageRead (coverage_at scale at members) members
+  coverage_read [] at h = record { planar = refl; clean = tt; read = refl }
+  coverage_read (m ∷ ms) at h =
+      let e = element_at scale at m in
+      let gs = coverage_at scale (at + length (member_line scale m)) ms in
+      let first = element_read at m h.0 in
+      let behind = coverage_read ms (at + length (member_line scale m)) h.1 in
+      record {
+        planar = ap₂ (λ is js. is ++ js) (no_extras e m first) behind.planar;
+        clean = all_append IsRingClean (rings_of e) (rings gs) first.clean behind.clean;
+        read = ap₂ (λ y ys. y ∷ ys) first.read behind.read;
+      }
 
-pub all_fine : (gs : List Geometry) → AllByRecursion IsRingClean (rings gs) → AllByRecursion IsRingFine (rings gs)
-all_fine gs h = all_weaker IsRingClean IsRingFine (λ r clean. clean.fine) (rings gs) h
+  pub all_numeric : (gs : List Geometry) → AllByRecursion IsRingClean (rings gs) → AllByRecursion (IsNumberFine scale) (numbers gs)
+  all_numeric gs h = flat_all IsRingClean (IsNumberFine scale) ring_numbers (λ r clean. clean.numeric) (rings gs) h
+
+  pub all_fine : (gs : List Geometry) → AllByRecursion IsRingClean (rings gs) → AllByRecursion (IsRingFine scale) (rings gs)
+  all_fine gs h = all_weaker IsRingClean (IsRingFine scale) (λ r clean. clean.fine) (rings gs) h

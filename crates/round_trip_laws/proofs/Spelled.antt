@@ -6,20 +6,15 @@ use Rattle.std.proofs.lemmas.Int.{ints}
 use Rattle.cov_types.specs.Range.{IsInRange}
 use Rattle.cov_types.specs.declared.coord.Coord.{Coord}
 use Rattle.cov_types.specs.declared.coord.TheConstants.{LIMIT}
-use Rattle.geo_text.specs.Token.{Token, Word, Number, Close, Polygon, MultiPolygon, Empty, IsNumeral, is_alike, Spells, value}
+use Rattle.geo_text.specs.Token.{Token, Word, Number, Close, Polygon, MultiPolygon, Empty, IsNumeral, is_alike, Spells}
 use Rattle.geo_text.specs.Grammar.{position, ring, polygon_body, multi_body, element, file}
 use Rattle.cov_write.specs.Written.{number_text, position_text, ring_text, polygon_text, member_line, coverage_text, separated, in_parentheses}
-use Rattle.cov_write.proofs.Decimal.{decimal_is_IsDecimal}
 use Rattle.round_trip_laws.proofs.Lists.{all_append}
 use Rattle.round_trip_laws.proofs.Spelling.{Writes, Written, IsFree, joined, white_written, token_written, others, bracketed_written}
-use Rattle.round_trip_laws.proofs.Tree.{number_at, position_at, ring_at, polygon_at, element_at, coverage_at}
+use Rattle.round_trip_laws.proofs.Numbers.{IsSmall, number_at, number_is_numeral}
+use Rattle.round_trip_laws.proofs.Tree.{position_at, ring_at, polygon_at, element_at, coverage_at}
 
 -- ---- what is asked of the parts of a coverage
-
--- the number lies from -LIMIT to LIMIT
-pub record IsSmall (z : ℤ) : Type 0 where
-  pub low : (neg_ℤ LIMIT) ≤ℤ z
-  pub high : z ≤ℤ LIMIT
 
 -- three points or more, in range
 pub record IsGoodRing (points : List Coord) : Type 0 where
@@ -34,54 +29,7 @@ pub record IsGoodPolygon (rings : List (List Coord)) : Type 0 where
 abbrev pub IsGoodMember : List (List (List Coord)) → Type 0
 IsGoodMember polys = AllByRecursion IsGoodPolygon polys
 
--- ---- numbers
-
-small_pos : (n : ℕ) → IsSmall (pos n) → n < 2 ^ 64
-small_pos n h = omega (arith, ints, h.high)
-
-small_negsuc : (n : ℕ) → IsSmall (negsuc n) → suc n < 2 ^ 64
-small_negsuc n h = omega (arith, ints, h.low)
-
-pub value_read : (at : ℕ) (z : ℤ) → IsSmall z → value (number_at at z) ≡ z
-value_read at (pos n) h = ap pos (decimal_is_IsDecimal n (small_pos n h)).value
-value_read at (negsuc n) h = ap (λ (m : ℕ). neg_ℤ (pos m)) (decimal_is_IsDecimal (suc n) (small_negsuc n h)).value
-
-number_is_numeral : (at : ℕ) (z : ℤ) → IsSmall z → IsNumeral (number_text z) (number_at at z)
-number_is_numeral at (pos n) h =
-    let digits = decimal_is_IsDecimal n (small_pos n h) in
-    let some : 0 < length (decimal n) = digits.some_digit in
-    record {
-      sign = [];
-      point = [];
-      is_sign = inr refl;
-      is_point = inl (refl, refl);
-      whole = digits.each_digit;
-      fraction = tt;
-      some_digit = omega arith;
-      spelling = sym (append-nil (decimal n));
-    }
-number_is_numeral at (negsuc n) h =
-    let digits = decimal_is_IsDecimal (suc n) (small_negsuc n h) in
-    let some : 0 < length (decimal (suc n)) = digits.some_digit in
-    record {
-      sign = codes "-";
-      point = [];
-      is_sign = refl;
-      is_point = inl (refl, refl);
-      whole = digits.each_digit;
-      fraction = tt;
-      some_digit = omega arith;
-      spelling = ap (λ (bs : List ℕ). 45 ∷ bs) (sym (append-nil (decimal (suc n))));
-    }
-
-stands_at : (at : ℕ) (z : ℤ) → (number_at at z).at ≡ at
-stands_at at (pos n) = refl
-stands_at at (negsuc n) = refl
-
-number_written : (at : ℕ) (p : Option Token) (z : ℤ) → IsFree p → IsSmall z → Writes at p (Number (number_at at z) ∷ []) (number_text z) (Some (Number (number_at at z)))
-number_written at p z free h = token_written at p (Number (number_at at z)) (number_text z) (free (Number (number_at at z))) (stands_at at z, number_is_numeral at z h)
-
--- ---- positions, rings and polygons
+-- ---- the numbers of a point
 
 pub x_small : (c : Coord) → IsInRange c → IsSmall c.x
 x_small c h = record { low = h.left; high = h.right }
@@ -89,48 +37,56 @@ x_small c h = record { low = h.left; high = h.right }
 pub y_small : (c : Coord) → IsInRange c → IsSmall c.y
 y_small c h = record { low = h.bottom; high = h.top }
 
-position_written : (at : ℕ) (p : Option Token) (c : Coord) → IsFree p → IsInRange c → Written at p (position (position_at at c)) (position_text c)
-position_written at p c free h =
-    let n = length (number_text c.x) in
-    let x = number_at at c.x in
-    let y = number_at (at + n + 1) c.y in
-    let spaced = joined at (at + n) p (Some (Number x)) None (Number x ∷ []) [] (number_text c.x) (codes " ") refl (number_written at p c.x free (x_small c h)) (white_written (at + n) (Some (Number x)) (codes " ") (refl, tt) (omega arith)) in
-    let second = number_written (at + n + 1) None c.y (λ token. refl) (y_small c h) in
-    record { last = Some (Number y); writes = joined at (at + n + 1) p None (Some (Number y)) (Number x ∷ []) (Number y ∷ []) (number_text c.x ++ codes " ") (number_text c.y) (omega (arith, length-append (number_text c.x) (codes " "))) spaced second }
+module _ (scale : Option ℕ) where
+  -- ---- numbers
 
-ring_written : (at : ℕ) (p : Option Token) (points : List Coord) → IsFree p → IsGoodRing points → Written at p (ring (ring_at at points)) (ring_text points)
-ring_written at p [] free h = absurd (omega (arith, h.long))
-ring_written at p (c ∷ cs) free h =
-    record { last = Some Close; writes = bracketed_written position_text position_at position IsInRange position_written c (cs ++ c ∷ []) at p h.in_range.0 (all_append IsInRange cs (c ∷ []) h.in_range.1 (h.in_range.0, tt)) }
+  number_written : (at : ℕ) (p : Option Token) (z : ℤ) → IsFree p → IsSmall z → Writes at p (Number (number_at scale at z) ∷ []) (number_text scale z) (Some (Number (number_at scale at z)))
+  number_written at p z free h = token_written at p (Number (number_at scale at z)) (number_text scale z) (free (Number (number_at scale at z))) (refl, number_is_numeral scale at z h)
 
-polygon_written : (at : ℕ) (p : Option Token) (rings : List (List Coord)) → IsFree p → IsGoodPolygon rings → Written at p (polygon_body (polygon_at at rings)) (polygon_text rings)
-polygon_written at p [] free h = absurd (omega (arith, h.some_ring))
-polygon_written at p (r ∷ rs) free h =
-    record { last = Some Close; writes = bracketed_written ring_text ring_at ring IsGoodRing ring_written r rs at p h.rings_good.0 h.rings_good.1 }
+  -- ---- positions, rings and polygons
 
--- ---- lines
+  position_written : (at : ℕ) (p : Option Token) (c : Coord) → IsFree p → IsInRange c → Written at p (position (position_at scale at c)) (position_text scale c)
+  position_written at p c free h =
+      let n = length (number_text scale c.x) in
+      let x = number_at scale at c.x in
+      let y = number_at scale (at + n + 1) c.y in
+      let spaced = joined at (at + n) p (Some (Number x)) None (Number x ∷ []) [] (number_text scale c.x) (codes " ") refl (number_written at p c.x free (x_small c h)) (white_written (at + n) (Some (Number x)) (codes " ") (refl, tt) (omega arith)) in
+      let second = number_written (at + n + 1) None c.y (λ token. refl) (y_small c h) in
+      record { last = Some (Number y); writes = joined at (at + n + 1) p None (Some (Number y)) (Number x ∷ []) (Number y ∷ []) (number_text scale c.x ++ codes " ") (number_text scale c.y) (omega (arith, length-append (number_text scale c.x) (codes " "))) spaced second }
 
--- a word at the start of a line
-headed : (at next : ℕ) (token : Token) (word text : List ℕ) (tokens : List Token) → is_alike None token ≡ false → Writes at None (token ∷ []) word (Some token) → next ≡ at + suc (length word) → ((p : Option Token) → IsFree p → Written next p tokens text) → Writes at None (token ∷ tokens) ((word ++ codes " ") ++ (text ++ codes "\n")) None
-headed at next token word text tokens apart w place each =
-    let body = each None (λ t. refl) in
-    let line_end = white_written (next + length text) body.last (codes "\n") (refl, tt) (omega arith) in
-    let ended = joined next (next + length text) None body.last None tokens [] text (codes "\n") refl body.writes line_end in
-    let ended_too : Writes next None tokens (text ++ codes "\n") None = subst (λ (ts : List Token). Writes next None ts (text ++ codes "\n") None) (append-nil tokens) ended in
-    let space = joined at (at + length word) None (Some token) None (token ∷ []) [] word (codes " ") refl w (white_written (at + length word) (Some token) (codes " ") (refl, tt) (omega arith)) in
-    joined at next None None None (token ∷ []) tokens (word ++ codes " ") (text ++ codes "\n") (omega (arith, place, length-append word (codes " "))) space ended_too
+  ring_written : (at : ℕ) (p : Option Token) (points : List Coord) → IsFree p → IsGoodRing points → Written at p (ring (ring_at scale at points)) (ring_text scale points)
+  ring_written at p [] free h = absurd (omega (arith, h.long))
+  ring_written at p (c ∷ cs) free h =
+      record { last = Some Close; writes = bracketed_written (position_text scale) (position_at scale) position IsInRange position_written c (cs ++ c ∷ []) at p h.in_range.0 (all_append IsInRange cs (c ∷ []) h.in_range.1 (h.in_range.0, tt)) }
 
-empty_written : (at : ℕ) (p : Option Token) → IsFree p → Written at p (polygon_body []) (codes "EMPTY")
-empty_written at p free = record { last = Some (Word Empty); writes = token_written at p (Word Empty) (codes "EMPTY") (free (Word Empty)) refl }
+  polygon_written : (at : ℕ) (p : Option Token) (rings : List (List Coord)) → IsFree p → IsGoodPolygon rings → Written at p (polygon_body (polygon_at scale at rings)) (polygon_text scale rings)
+  polygon_written at p [] free h = absurd (omega (arith, h.some_ring))
+  polygon_written at p (r ∷ rs) free h =
+      record { last = Some Close; writes = bracketed_written (ring_text scale) (ring_at scale) ring IsGoodRing ring_written r rs at p h.rings_good.0 h.rings_good.1 }
 
-line_written : (at : ℕ) (polys : List (List (List Coord))) → IsGoodMember polys → Writes at None (element (element_at at polys)) (member_line polys) None
-line_written at [] h = headed at (at + 8) (Word Polygon) (codes "POLYGON") (codes "EMPTY") (polygon_body []) refl (token_written at None (Word Polygon) (codes "POLYGON") refl refl) (omega arith) (empty_written (at + 8))
-line_written at (p ∷ []) h = headed at (at + 8) (Word Polygon) (codes "POLYGON") (polygon_text p) (polygon_body (polygon_at (at + 8) p)) refl (token_written at None (Word Polygon) (codes "POLYGON") refl refl) (omega arith) (λ q free. polygon_written (at + 8) q p free h.0)
-line_written at (p ∷ q ∷ ps) h =
-    headed at (at + 13) (Word MultiPolygon) (codes "MULTIPOLYGON") (in_parentheses (separated polygon_text (p ∷ q ∷ ps))) (multi_body (polygon_at (at + 13 + 1) p ∷ others polygon_text polygon_at (at + 13 + 1 + length (polygon_text p)) (q ∷ ps))) refl
-    (token_written at None (Word MultiPolygon) (codes "MULTIPOLYGON") refl refl) (omega arith)
-    (λ previous free. record { last = Some Close; writes = bracketed_written polygon_text polygon_at polygon_body IsGoodPolygon polygon_written p (q ∷ ps) (at + 13) previous h.0 h.1 })
+  -- ---- lines
 
-pub coverage_spelled : (members : List (List (List (List Coord)))) (at : ℕ) → AllByRecursion IsGoodMember members → Spells at None (file (coverage_at at members)) (coverage_text members)
-coverage_spelled [] at h = tt
-coverage_spelled (m ∷ ms) at h = (line_written at m h.0).follows (file (coverage_at (at + length (member_line m)) ms)) (coverage_text ms) (coverage_spelled ms (at + length (member_line m)) h.1)
+  -- a word at the start of a line
+  headed : (at next : ℕ) (token : Token) (word text : List ℕ) (tokens : List Token) → is_alike None token ≡ false → Writes at None (token ∷ []) word (Some token) → next ≡ at + suc (length word) → ((p : Option Token) → IsFree p → Written next p tokens text) → Writes at None (token ∷ tokens) ((word ++ codes " ") ++ (text ++ codes "\n")) None
+  headed at next token word text tokens apart w place each =
+      let body = each None (λ t. refl) in
+      let line_end = white_written (next + length text) body.last (codes "\n") (refl, tt) (omega arith) in
+      let ended = joined next (next + length text) None body.last None tokens [] text (codes "\n") refl body.writes line_end in
+      let ended_too : Writes next None tokens (text ++ codes "\n") None = subst (λ (ts : List Token). Writes next None ts (text ++ codes "\n") None) (append-nil tokens) ended in
+      let space = joined at (at + length word) None (Some token) None (token ∷ []) [] word (codes " ") refl w (white_written (at + length word) (Some token) (codes " ") (refl, tt) (omega arith)) in
+      joined at next None None None (token ∷ []) tokens (word ++ codes " ") (text ++ codes "\n") (omega (arith, place, length-append word (codes " "))) space ended_too
+
+  empty_written : (at : ℕ) (p : Option Token) → IsFree p → Written at p (polygon_body []) (codes "EMPTY")
+  empty_written at p free = record { last = Some (Word Empty); writes = token_written at p (Word Empty) (codes "EMPTY") (free (Word Empty)) refl }
+
+  line_written : (at : ℕ) (polys : List (List (List Coord))) → IsGoodMember polys → Writes at None (element (element_at scale at polys)) (member_line scale polys) None
+  line_written at [] h = headed at (at + 8) (Word Polygon) (codes "POLYGON") (codes "EMPTY") (polygon_body []) refl (token_written at None (Word Polygon) (codes "POLYGON") refl refl) (omega arith) (empty_written (at + 8))
+  line_written at (p ∷ []) h = headed at (at + 8) (Word Polygon) (codes "POLYGON") (polygon_text scale p) (polygon_body (polygon_at scale (at + 8) p)) refl (token_written at None (Word Polygon) (codes "POLYGON") refl refl) (omega arith) (λ q free. polygon_written (at + 8) q p free h.0)
+  line_written at (p ∷ q ∷ ps) h =
+      headed at (at + 13) (Word MultiPolygon) (codes "MULTIPOLYGON") (in_parentheses (separated (polygon_text scale) (p ∷ q ∷ ps))) (multi_body (polygon_at scale (at + 13 + 1) p ∷ others (polygon_text scale) (polygon_at scale) (at + 13 + 1 + length (polygon_text scale p)) (q ∷ ps))) refl
+      (token_written at None (Word MultiPolygon) (codes "MULTIPOLYGON") refl refl) (omega arith)
+      (λ previous free. record { last = Some Close; writes = bracketed_written (polygon_text scale) (polygon_at scale) polygon_body IsGoodPolygon polygon_written p (q ∷ ps) (at + 13) previous h.0 h.1 })
+
+  pub coverage_spelled : (members : List (List (List (List Coord)))) (at : ℕ) → AllByRecursion IsGoodMember members → Spells at None (file (coverage_at scale at members)) (coverage_text scale members)
+  coverage_spelled [] at h = tt
+  coverage_spelled (m ∷ ms) at h = (line_written at m h.0).follows (file (coverage_at scale (at + length (member_line scale m)) ms)) (coverage_text scale ms) (coverage_spelled ms (at + length (member_line scale m)) h.1)

@@ -12,13 +12,28 @@ fn ring(alloc: Global, places: &[(i32, i32)]) -> Result<Ring, AllocError> {
     Ok(Ring { points })
 }
 
-/// Whether the text of the coverage is read as an equal coverage.
+/// Whether the text of the coverage is read as an equal coverage, without a scale and at each one.
 fn comes_back(alloc: Global, coverage: &Coverage) -> Result<bool, Fail> {
-    let text = text_of(alloc, coverage)?;
+    if !comes_back_at(alloc, coverage, None)? {
+        return Ok(false);
+    }
+    for scale in 0..8u8 {
+        if !comes_back_at(alloc, coverage, Some(scale))? {
+            return Ok(false);
+        }
+    }
+    Ok(true)
+}
+
+fn comes_back_at(alloc: Global, coverage: &Coverage, scale: Option<u8>) -> Result<bool, Fail> {
+    if scale.unwrap_or(0) > 7 {
+        return Ok(false);
+    }
+    let text = text_of(alloc, coverage, scale)?;
     if text.len() > LONGEST_INPUT {
         return Ok(false);
     }
-    let read = read_text(alloc, &text)?;
+    let read = read_text(alloc, &text, scale)?;
     Ok(same_coverage(coverage, &read))
 }
 

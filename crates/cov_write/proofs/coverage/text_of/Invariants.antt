@@ -4,4 +4,4 @@ use Rattle.cov_write.specs.Written.{coverage_text}
 use Rattle.cov_write.proofs.coverage.text_of.Given as goal
 
 abbrev pub invariant-loop-member : goal.invariant-loop-member
-invariant-loop-member l = l.out.items ≡ coverage_text (take l.member-index l.member-items)
+invariant-loop-member l = l.out.items ≡ coverage_text l.scale (take l.member-index l.member-items)

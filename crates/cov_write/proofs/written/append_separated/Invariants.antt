@@ -6,4 +6,4 @@ use Rattle.cov_write.proofs.written.append_separated.Given as goal
 
 abbrev pub invariant-loop-item : goal.invariant-loop-item
 invariant-loop-item g l =
-    l.out.items ≡ l.initial.out.items ++ flat_map (λ y. codes ", " ++ g.T.Written.text y) (take l.item-index l.rest)
+    l.out.items ≡ l.initial.out.items ++ flat_map (λ y. codes ", " ++ g.T.Written.text l.scale y) (take l.item-index l.rest)

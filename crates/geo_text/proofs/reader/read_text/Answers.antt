@@ -5,10 +5,10 @@ use Rattle.geo_text.proofs.reader.read_text.Goals as goal
 pub returns : goal.returns
 returns c =
     let bytes = c.args.bytes.now in
-    let said = says bytes c.read_all.result c.read_all.ensures in
+    let said = says c.args.scale bytes c.read_all.result c.read_all.ensures in
     record {
       read = said.read;
       faultless = said.faultless;
-      formed = result_formed bytes c.read_all.result c.requires c.read_all.ensures;
+      formed = result_formed c.args.scale bytes c.read_all.result c.requires.length c.read_all.ensures;
       fault = said.fault;
     }

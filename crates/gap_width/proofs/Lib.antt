@@ -1,5 +1,5 @@
 mod Steps
-mod Squares
+mod Blocks
 mod OwnSides
 mod Most
 mod Round

@@ -6,9 +6,10 @@ ghost use Rattle.region_owners.specs.Gap.{IsClearance, IsNarrow};
 ghost use Rattle.gap_width.specs.Own.{AreSides};
 ghost use Rattle.gap_width.specs.Search.{IsMost};
 
+use crate::block::block_inside;
+use crate::near::measure;
 use crate::own::own_edges;
 use crate::search::most_room;
-use crate::square::square_round;
 use counting_sort::Grouped;
 use cov_types::{NoMemory, Seg};
 use face_walk::Regions;
@@ -81,7 +82,13 @@ impl<'a> GapSearch<'a> {
         ensures most { IfOk result (IsMost self.now region enough best) }
     {
         let own = own_edges(self.alloc, self.edges, self.sides.group(region))?;
-        most_room(self.alloc, &own, &own, square_round(&own), best, enough)
+        match block_inside(&own) {
+            None => Ok(best),
+            Some(block) => {
+                let whole = measure(&own, block);
+                most_room(self.alloc, &own, &own, whole, best, enough)
+            }
+        }
     }
 }
 

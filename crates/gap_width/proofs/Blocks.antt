@@ -87,6 +87,13 @@ module _ (c : Coord) (room limit : ℕ) (near fewer : List OwnEdge) (is : IsRoom
   pub some_kept : AreFewer near c limit fewer → 0 < length fewer
   some_kept are = (let (k, below, _) = nearest_kept are in omega (arith, below, length-map fewer (λ o. o.edge)))
 
+-- the edges that are chosen, of those that were kept and all
+pub fewer_are : (c : Coord) (limit : ℕ) (near items some fewer : List OwnEdge) → some ≡ items → (items ≡ []) ⊎ (items ≡ filter (is_within c limit) near) → ((0 < length some) × (fewer ≡ some)) ⊎ (fewer ≡ near)
+    → AreFewer near c limit fewer
+fewer_are c limit near items some fewer value kept (inr all) = inl all
+fewer_are c limit near items some fewer value (inl none) (inl chosen) = absurd (let long = subst (λ xs. 0 < length xs) (value ∙ none) chosen.0 in omega (arith, long))
+fewer_are c limit near items some fewer value (inr filtered) (inl chosen) = inr (chosen.1 ∙ value ∙ filtered)
+
 -- they are small where all were
 pub small_kept : (c : Coord) (limit : ℕ) (near fewer : List OwnEdge) → AreFewer near c limit fewer → All IsSmallEdge near → All IsSmallEdge fewer
 small_kept c limit near fewer (inl same) all = subst (λ xs. All IsSmallEdge xs) (sym same) all
@@ -223,3 +230,7 @@ two_is edges r enough s a b cover best first second of_a of_b =
 pub if_ok : {X E : Type 0} (P Q : X → Type 0) (r : Result X E) → IfOk r P → ((x : X) → P x → Q x) → IfOk r Q
 if_ok P Q (Ok x) h more = more x h
 if_ok P Q (Err e) h more = tt
+
+pub if_ok_both : {X E : Type 0} (P Q R : X → Type 0) (r : Result X E) → IfOk r P → IfOk r Q → ((x : X) → P x → Q x → R x) → IfOk r R
+if_ok_both P Q R (Ok x) h k more = more x h k
+if_ok_both P Q R (Err e) h k more = tt

@@ -3,3 +3,4 @@ mod Blocks
 mod OwnSides
 mod Most
 mod Round
+mod Halves

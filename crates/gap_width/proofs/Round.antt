@@ -101,17 +101,34 @@ in_hull edges r own b are all q is =
     at : (c : Coord) → IsCornerOf edges r c → (b.lo.x ≤ℤ c.x) × (c.x ≤ℤ b.hi.x) × (b.lo.y ≤ℤ c.y) × (c.y ≤ℤ b.hi.y)
     at c corner = corner_in b c corner.edge (of_edge corner.edge ((are.each corner.edge).0 corner.of)) corner.is
 
--- a grid point strictly inside the box is from one past its least corner to one before its greatest
-strictly : (l h q : ℤ) → l <ℤ q → q <ℤ h → ((pos 2 *ℤ (l +ℤ pos 1)) ≤ℤ (pos 2 *ℤ q)) × ((pos 2 *ℤ q) ≤ℤ (pos 2 *ℤ (h -ℤ pos 1)))
-strictly l h q past before =
+-- a number strictly between two is from the next of the lesser to the last before the greater
+strictly : (l h q a b : ℤ) → a ≡ l +ℤ pos 1 → b ≡ h -ℤ pos 1 → l <ℤ q → q <ℤ h → ((pos 2 *ℤ a) ≤ℤ (pos 2 *ℤ q)) × ((pos 2 *ℤ q) ≤ℤ (pos 2 *ℤ b))
+strictly l h q a b is_a is_b past before =
     let two_q = twice q in
-    let two_l = twice (l +ℤ pos 1) in
-    let two_h = twice (h -ℤ pos 1) in
+    let two_a = twice a in
+    let two_b = twice b in
     (omega (arith, lin), omega (arith, lin))
 
-pub in_inner : (b : Rect) (q : Coord) → ((b.lo.x <ℤ q.x) × (q.x <ℤ b.hi.x)) × ((b.lo.y <ℤ q.y) × (q.y <ℤ b.hi.y))
-    → IsInBlock (record { x = b.lo.x +ℤ pos 1; y = b.lo.y +ℤ pos 1 }) (record { x = b.hi.x -ℤ pos 1; y = b.hi.y -ℤ pos 1 }) (doubled q)
-in_inner b q is =
-    let x = strictly b.lo.x b.hi.x q.x is.0.0 is.0.1 in
-    let y = strictly b.lo.y b.hi.y q.y is.1.0 is.1.1 in
+pub in_inner : (b : Rect) (q lo hi : Coord) → (lo.x ≡ b.lo.x +ℤ pos 1) × (hi.x ≡ b.hi.x -ℤ pos 1) → (lo.y ≡ b.lo.y +ℤ pos 1) × (hi.y ≡ b.hi.y -ℤ pos 1)
+    → ((b.lo.x <ℤ q.x) × (q.x <ℤ b.hi.x)) × ((b.lo.y <ℤ q.y) × (q.y <ℤ b.hi.y)) → IsInBlock lo hi (doubled q)
+in_inner b q lo hi across upwards is =
+    let x = strictly b.lo.x b.hi.x q.x lo.x hi.x across.0 across.1 is.0.0 is.0.1 in
+    let y = strictly b.lo.y b.hi.y q.y lo.y hi.y upwards.0 upwards.1 is.1.0 is.1.1 in
     record { left = x.0; right = x.1; bottom = y.0; top = y.1 }
+
+-- ---- numbers of the code
+
+pub inner_read : (l h : ℤ) → (neg_ℤ LIMIT) ≤ℤ l → l ≤ℤ h → h ≤ℤ LIMIT → (to_z w32 (of_z w32 (to_z w32 (of_z w32 l) +ℤ pos 1)) ≡ l +ℤ pos 1) × (to_z w32 (of_z w32 (to_z w32 (of_z w32 h) -ℤ pos 1)) ≡ h -ℤ pos 1)
+inner_read l h left order right = (omega (arith, ints, lin), omega (arith, ints, lin))
+
+-- where two numbers are two or more apart, the next of the lesser is no more than the last before the greater
+pub inner_order : (l h a b : ℤ) (n : ℕ) → (neg_ℤ LIMIT) ≤ℤ l → l ≤ℤ h → h ≤ℤ LIMIT → pos n ≡ to_z w32 (of_z w32 h) -ℤ to_z w32 (of_z w32 l) → 2 ≤ n → (a ≡ l +ℤ pos 1) × (b ≡ h -ℤ pos 1)
+    → (((neg_ℤ LIMIT) ≤ℤ a) × (a ≤ℤ b)) × (b ≤ℤ LIMIT)
+inner_order l h a b n left order right is more are =
+    let is_a = are.0 in
+    let is_b = are.1 in
+    ((omega (arith, lin), omega (arith, ints, lin)), omega (arith, lin))
+
+-- and otherwise nothing is between
+pub none_between : (l h q : ℤ) (n : ℕ) → (neg_ℤ LIMIT) ≤ℤ l → l ≤ℤ h → h ≤ℤ LIMIT → pos n ≡ to_z w32 (of_z w32 h) -ℤ to_z w32 (of_z w32 l) → n < 2 → l <ℤ q → q <ℤ h → ⊥
+none_between l h q n left order right is less past before = omega (arith, ints, lin)

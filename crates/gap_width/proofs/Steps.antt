@@ -88,6 +88,10 @@ room_is near c least is =
 
 -- ---- blocks
 
+-- a sum of two numbers in range, as the code computes it
+pub sum_read : (l h : ℤ) → (neg_ℤ LIMIT) ≤ℤ l → l ≤ℤ h → h ≤ℤ LIMIT → to_z w32 (of_z w32 (to_z w32 (of_z w32 l) +ℤ to_z w32 (of_z w32 h))) ≡ l +ℤ h
+sum_read l h left order right = omega (arith, ints, lin)
+
 -- a diagonal
 pub diagonal_reaches : (n r : ℕ) → r ≡ root n → n ≤ (r + 1) * (r + 1)
 diagonal_reaches n r is = (let next = subst (λ k. n < (k + 1) * (k + 1)) (sym is) (root_is n).next_more in omega (arith, next))

@@ -1,4 +1,4 @@
-ghost use Rattle.std.specs.Prelude.{◌≡◌, ◌*◌, ◌^◌, ◌≤◌, ◌<◌, ◌+ℤ◌, ◌-ℤ◌, ◌*ℤ◌, ◌≤ℤ◌, pos, ℕ, List, false, length, All, IfSome};
+ghost use Rattle.std.specs.Prelude.{◌≡◌, ◌+◌, ◌*◌, ◌^◌, ◌≤◌, ◌<◌, ◌+ℤ◌, ◌-ℤ◌, ◌*ℤ◌, ◌≤ℤ◌, ◌<ℤ◌, pos, ℕ, List, false, length, All, IfSome};
 ghost use Rattle.integer_laws.specs.Bound.{IsWithin};
 ghost use Rattle.cov_types.specs.Range.{IsInRange};
 ghost use Rattle.cov_types.specs.declared.coord.Coord.{Coord};
@@ -69,37 +69,62 @@ impl Block {
         let across = length_between(self.lo.x, self.hi.x);
         let upwards = length_between(self.lo.y, self.hi.y);
         if upwards <= across {
-            let middle = self.lo.x + (across / 2) as i32;
-            (self.up_to(middle, self.hi.y), self.from(middle + 1, self.lo.y))
+            self.parted_across(middle(self.lo.x, self.hi.x))
         } else {
-            let middle = self.lo.y + (upwards / 2) as i32;
-            (self.up_to(self.hi.x, middle), self.from(self.lo.x, middle + 1))
+            self.parted_upwards(middle(self.lo.y, self.hi.y))
         }
     }
 
-    // What of the block is up to this corner.
-    fn up_to(self, x: i32, y: i32) -> Block
-        ensures lo { result.lo ≡ self.lo }
-        ensures hi { result.hi ≡ record { x = x; y = y } }
-        ensures inside { result.inside ≡ self.inside }
+    // Its columns up to one of them, and the others.
+    fn parted_across(self, middle: i32) -> (Block, Block)
+        requires block { IsBlock self }
+        requires from { self.lo.x ≤ℤ middle }
+        requires before { middle <ℤ self.hi.x }
+        ensures first { IsBlock result.0 }
+        ensures second { IsBlock result.1 }
+        ensures halves { AreHalves self result.0 result.1 }
     {
-        Block {
-            hi: Coord { x, y },
-            ..self
-        }
+        let hi = Coord {
+            x: middle,
+            y: self.hi.y,
+        };
+        let lo = Coord {
+            x: middle + 1,
+            y: self.lo.y,
+        };
+        (Block { hi, ..self }, Block { lo, ..self })
     }
 
-    // What of the block is from this corner on.
-    fn from(self, x: i32, y: i32) -> Block
-        ensures lo { result.lo ≡ record { x = x; y = y } }
-        ensures hi { result.hi ≡ self.hi }
-        ensures inside { result.inside ≡ self.inside }
+    // Its rows up to one of them, and the others.
+    fn parted_upwards(self, middle: i32) -> (Block, Block)
+        requires block { IsBlock self }
+        requires from { self.lo.y ≤ℤ middle }
+        requires before { middle <ℤ self.hi.y }
+        ensures first { IsBlock result.0 }
+        ensures second { IsBlock result.1 }
+        ensures halves { AreHalves self result.0 result.1 }
     {
-        Block {
-            lo: Coord { x, y },
-            ..self
-        }
+        let hi = Coord {
+            x: self.hi.x,
+            y: middle,
+        };
+        let lo = Coord {
+            x: self.lo.x,
+            y: middle + 1,
+        };
+        (Block { hi, ..self }, Block { lo, ..self })
     }
+}
+
+// A number from one to before another.
+fn middle(from: i32, to: i32) -> i32
+    requires from { IsWithin (2 ^ 28) from }
+    requires to { IsWithin (2 ^ 28) to }
+    requires order { from <ℤ to }
+    ensures from { from ≤ℤ result }
+    ensures before { result <ℤ to }
+{
+    from + (length_between(from, to) / 2) as i32
 }
 
 // At least half the diagonal of two lengths, in half units, and exactly that where one of them is 0.

@@ -1,4 +1,4 @@
-ghost use Rattle.std.specs.Prelude.{◌≡◌, ℕ, ◌+◌, ◌*◌, ◌^◌, ◌≤◌, ◌<◌, ◌⊎◌, [], length, filter, nat_lt, All, IfOk};
+ghost use Rattle.std.specs.Prelude.{◌≡◌, ℕ, ◌*◌, ◌^◌, ◌≤◌, ◌<◌, ◌⊎◌, [], length, filter, nat_lt, All, IfOk};
 ghost use Rattle.distance_laws.specs.Room.{reach};
 ghost use Rattle.grid_pred.specs.Half.{IsHalfInRange};
 ghost use Rattle.gap_width.specs.Own.{IsSmallEdge};

@@ -1,5 +1,5 @@
 pub mod Near
-pub mod Quarters
+pub mod Blocks
 pub mod Along
 pub mod Inside
 pub mod Outside

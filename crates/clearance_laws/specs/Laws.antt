@@ -1,5 +1,5 @@
--- The laws on which a search for the clearance of a gap by squares stands.
-use Rattle.std.specs.Prelude.{ℕ, ◌+◌, ◌*◌, ◌≤◌, ◌<◌, ◌≡◌, ◌↔◌, Bool, List, pos, ◌-ℤ◌, ◌*ℤ◌, ◌≤ℤ◌}
+-- The laws on which a search for the clearance of a gap by blocks of grid points stands.
+use Rattle.std.specs.Prelude.{ℕ, ◌+◌, ◌*◌, ◌≤◌, ◌<◌, ◌≡◌, ◌↔◌, ◌⊎◌, Bool, List, ℤ, pos, ◌+ℤ◌, ◌-ℤ◌, ◌*ℤ◌, ◌≤ℤ◌}
 use Rattle.cov_types.specs.declared.coord.Coord.{Coord}
 use Rattle.cov_types.specs.declared.seg.Seg.{Seg}
 use Rattle.plane.specs.Point.{Point, at_coord}
@@ -10,7 +10,7 @@ use Rattle.region_laws.specs.Weights.{weigh_sides}
 use Rattle.region_owners.specs.Box.{IsEdgeOf}
 use Rattle.clearance_laws.specs.Inside.{half_point, edges_beside, TellsSides, IsOffOwn}
 use Rattle.clearance_laws.specs.Near.{IsNear}
-use Rattle.clearance_laws.specs.Quarter.{IsInSquare, centre, quarter}
+use Rattle.clearance_laws.specs.Block.{IsInBlock, centre}
 use Rattle.distance_laws.specs.Room.{doubled, HasHalfRoom}
 
 -- where c has room r + s, each point within s of it has room r
@@ -49,14 +49,18 @@ InsideLaw = (edges : List Seg) → IsPlanar edges → AreDistinct edges → (r :
 abbrev pub BesideSumLaw : Type 0
 BesideSumLaw = (passes : HalfEdge → Bool) (edges : List Seg) (p : Point) → crossing_sum (weigh_sides passes (edges_beside passes edges)) p ≡ crossing_sum (weigh_sides passes edges) p
 
--- the four quarters of a square with 2·k grid points on a side cover it: each grid point of it is in one
-abbrev pub QuartersLaw : Type 0
-QuartersLaw = (a : Coord) (k : ℕ) (q : Coord) → IsInSquare a (k + k) (doubled q) → (east : Bool) × (north : Bool) × IsInSquare (quarter a k east north) k (doubled q)
+-- a block is covered by what is up to m in it and what is past m: each grid point of it is in one of the two
+abbrev pub AcrossLaw : Type 0
+AcrossLaw = (lo hi q : Coord) (m : ℤ) → IsInBlock lo hi (doubled q) → IsInBlock lo (record { x = m; y = hi.y }) (doubled q) ⊎ IsInBlock (record { x = m +ℤ pos 1; y = lo.y }) hi (doubled q)
 
--- and each point of the half grid that is in a quarter is in the square
+-- and so upwards
+abbrev pub UpwardsLaw : Type 0
+UpwardsLaw = (lo hi q : Coord) (m : ℤ) → IsInBlock lo hi (doubled q) → IsInBlock lo (record { x = hi.x; y = m }) (doubled q) ⊎ IsInBlock (record { x = lo.x; y = m +ℤ pos 1 }) hi (doubled q)
+
+-- each point of the half grid that is in a part of a block is in the block
 abbrev pub InWholeLaw : Type 0
-InWholeLaw = (a : Coord) (k : ℕ) (east north : Bool) (c : Coord) → IsInSquare (quarter a k east north) k c → IsInSquare a (k + k) c
+InWholeLaw = (lo hi a b c : Coord) → lo.x ≤ℤ a.x → lo.y ≤ℤ a.y → b.x ≤ℤ hi.x → b.y ≤ℤ hi.y → IsInBlock a b c → IsInBlock lo hi c
 
--- each point of a square of k by k grid points is within s of its centre, where s is half a diagonal or more
+-- each point of a block is within s of its centre, where s is half a diagonal or more
 abbrev pub NearCentreLaw : Type 0
-NearCentreLaw = (a : Coord) (k s : ℕ) (c : Coord) → (pos 2 *ℤ ((pos k -ℤ pos 1) *ℤ (pos k -ℤ pos 1))) ≤ℤ pos (s * s) → IsInSquare a k c → IsNear (centre a k) c s
+NearCentreLaw = (lo hi : Coord) (s : ℕ) (c : Coord) → (((hi.x -ℤ lo.x) *ℤ (hi.x -ℤ lo.x)) +ℤ ((hi.y -ℤ lo.y) *ℤ (hi.y -ℤ lo.y))) ≤ℤ pos (s * s) → IsInBlock lo hi c → IsNear (centre lo hi) c s

@@ -1,4 +1,4 @@
 pub mod Near
-pub mod Quarter
+pub mod Block
 pub mod Inside
 pub mod Laws

@@ -1,4 +1,4 @@
-ghost use Rattle.clearance_laws.specs.Laws.{LipschitzLaw, RoomBoundLaw, HandingDownLaw, HalfPointLaw, OutsideRoomLaw, StaysInsideLaw, InsideLaw, BesideSumLaw, QuartersLaw, InWholeLaw, NearCentreLaw};
+ghost use Rattle.clearance_laws.specs.Laws.{LipschitzLaw, RoomBoundLaw, HandingDownLaw, HalfPointLaw, OutsideRoomLaw, StaysInsideLaw, InsideLaw, BesideSumLaw, AcrossLaw, UpwardsLaw, InWholeLaw, NearCentreLaw};
 
 /// From a point to one within s of it, room changes by s at most. A call does nothing.
 pub fn lipschitz_law()
@@ -24,9 +24,10 @@ pub fn inside_law()
     ensures edges { BesideSumLaw }
 {}
 
-/// The quarters of a square cover it, and its points are near its centre. A call does nothing.
-pub fn quarters_law()
-    ensures cover { QuartersLaw }
+/// The two parts of a block of grid points cover it, and its points are near its centre. A call does nothing.
+pub fn blocks_law()
+    ensures across { AcrossLaw }
+    ensures upwards { UpwardsLaw }
     ensures whole { InWholeLaw }
     ensures near { NearCentreLaw }
 {}

@@ -1,10 +1,10 @@
-//! The laws on which a search for the clearance of a gap by squares stands.
+//! The laws on which a search for the clearance of a gap by blocks of grid points stands.
 //!
 //! It has definitions and laws, and no code. Its promise: each step of such a search is a law of points and edges, and none knows an
-//! order of the squares, a heap or a root. A point of the search is on the half grid: a `Coord` c in doubled coordinates stands
+//! order of the blocks, a heap or a root. A point of the search is on the half grid: a `Coord` c in doubled coordinates stands
 //! for c/2. The laws are the public functions.
 //!
-//! The files of `specs/`: `Near`, points within s of one another; `Quarter`, squares of grid points, their centres and quarters;
+//! The files of `specs/`: `Near`, points within s of one another; `Block`, blocks of grid points and their centres;
 //! `Inside`, the test on the sides of a region's edges; `Laws`.
 //!
 //! A crate above takes a lemma by `use Rattle.clearance_laws.proofs.FILE.{NAME}` in its `proofs/`. The files:
@@ -14,9 +14,10 @@
 //!   point off them tells whether it is in the region (`inside_is`), and the other edges weigh nothing (`beside_sum`).
 //! - `Outside`: a way that meets none of the region's own edges stays in it, which bounds the room on both ends of one that leaves
 //!   it (`room_to_outside`, `stays_inside`).
-//! - `Quarters`: quarters cover a square (`covered`, `in_whole`), and its points are near its centre (`near_centre`).
+//! - `Blocks`: two parts cover a block (`across_covered`, `upwards_covered`, `in_whole`), and its points are near its centre
+//!   (`near_centre`).
 #![tactic(auto)]
 
 mod laws;
 
-pub use laws::{handing_down_law, inside_law, lipschitz_law, outside_room_law, quarters_law};
+pub use laws::{blocks_law, handing_down_law, inside_law, lipschitz_law, outside_room_law};

@@ -1,6 +1,8 @@
 use crate::BEFORE;
 use crate::tests::expect_answers;
+use cov_types::NoMemory;
 use cover_cli::Outcome;
+use std::alloc::Global;
 use std::test;
 
 // A frame round a hole of two units.
@@ -117,4 +119,58 @@ fn validate_marks_the_sides_of_narrow_gaps(rt: HostRuntime) -> Result<(), test::
         expect_answers(&rt, rt.alloc(), line, &[case])?;
     }
     Ok(())
+}
+
+// A square with sides of 4 and this least corner.
+fn four_by_four(alloc: Global, x: i32, y: i32) -> Result<String, NoMemory> {
+    let (east, north) = (x + 4, y + 4);
+    Ok(format!(in alloc; "POLYGON (({x} {y}, {east} {y}, {east} {north}, {x} {north}, {x} {y}))\n")?)
+}
+
+// A hundred squares round the square from (0, 0) to (100, 100), 25 at each side: the first lies below its least corner.
+fn squares_round(alloc: Global, first: &str) -> Result<String, NoMemory> {
+    let mut text = String::from_str(alloc, first)?;
+    for at in 1i32..25 {
+        text.push_str(&four_by_four(alloc, 4 * at, -4)?)?;
+    }
+    for at in 0i32..25 {
+        text.push_str(&four_by_four(alloc, 100, 4 * at)?)?;
+    }
+    for at in 0i32..25 {
+        text.push_str(&four_by_four(alloc, 4 * at, 100)?)?;
+    }
+    for at in 0i32..25 {
+        text.push_str(&four_by_four(alloc, -4, 4 * at)?)?;
+    }
+    Ok(text)
+}
+
+// The first of them with the square: below it, up its eastern side, back over its northern one and down its western one.
+fn first_with_square(alloc: Global) -> Result<String, NoMemory> {
+    let mut text = String::from_str(alloc, "POLYGON ((0 -4, 4 -4, ")?;
+    for at in 1i32..25 {
+        text.push_str(&format!(in alloc; "{} 0, ", 4 * at)?)?;
+    }
+    for at in 0i32..25 {
+        text.push_str(&format!(in alloc; "100 {}, ", 4 * at)?)?;
+    }
+    for at in 0i32..25 {
+        text.push_str(&format!(in alloc; "{} 100, ", 100 - 4 * at)?)?;
+    }
+    for at in 0i32..26 {
+        text.push_str(&format!(in alloc; "0 {}, ", 100 - 4 * at)?)?;
+    }
+    text.push_str("0 -4))\n")?;
+    Ok(text)
+}
+
+#[test]
+fn a_gap_with_a_hundred_neighbours_goes_to_the_least_of_them(rt: HostRuntime) -> Result<(), test::Fail> {
+    let alloc = rt.alloc();
+    let apart = squares_round(alloc, &four_by_four(alloc, 0, -4)?)?;
+    let filled = squares_round(alloc, &first_with_square(alloc)?)?;
+    let gap = [("a hundred borders of 4", apart.as_str(), Outcome::Done, filled.as_str())];
+    expect_answers(&rt, alloc, "clean in out --rule least-index --gap 101", &gap)?;
+    let wide = [("as wide as the gap width", apart.as_str(), Outcome::Done, apart.as_str())];
+    expect_answers(&rt, alloc, "clean in out --rule least-index --gap 100", &wide)
 }

@@ -1,5 +1,6 @@
 mod Steps
-mod Squares
+mod Blocks
 mod OwnSides
 mod Most
 mod Round
+mod Halves

@@ -20,23 +20,31 @@ use Rattle.distance_laws.proofs.Reach.{doubled_room}
 use Rattle.region_owners.specs.Box.{IsEdgeOf, IsInBoxOf}
 use Rattle.region_owners.specs.Gap.{IsClearance, IsNarrow}
 use Rattle.region_owners.proofs.RegionBox.{in_box}
-use Rattle.clearance_laws.specs.Quarter.{IsInSquare}
+use Rattle.clearance_laws.specs.Block.{IsInBlock}
 use Rattle.clearance_laws.proofs.Near.{less_room}
 use Rattle.gap_width.specs.declared.own.OwnEdge.{OwnEdge}
-use Rattle.gap_width.specs.declared.square.Square.{Square}
+use Rattle.gap_width.specs.declared.block.Block.{Block}
 use Rattle.gap_width.specs.Own.{edges_in}
 use Rattle.gap_width.specs.Search.{IsBest, IsMost}
 
 -- ---- the points of a region
 
 module _ (edges : List Seg) (planar : IsPlanar edges) (distinct : AreDistinct edges) (r : ℕ) (inner : ¬ IsOuterRegion edges r) where
-  -- what the search finds in a square that has all grid points inside the box of the region is the most room
-  pub most_is : (enough best found : ℕ) (s : Square) → ((q : Coord) → IsInBoxOf edges r (at_coord q) → IsInSquare s.corner s.side (doubled q))
+  -- what the search finds in the block of all grid points inside the box of the region is the most room
+  pub most_is : (enough best found : ℕ) (s : Block) → ((q : Coord) → IsInBoxOf edges r (at_coord q) → IsInBlock s.lo s.hi (doubled q))
       → IsBest edges r enough s best found → IsMost edges r enough best found
   most_is enough best found s wide is = record {
     no_less = is.no_less;
     reached = is.reached;
     greatest = λ less w has. is.greatest less has.at w (wide has.at (in_box edges planar distinct r inner (at_coord has.at) has.within)) has.within (λ e of. has.room e of.among);
+  }
+
+  -- where no grid point is inside the box, there is no room
+  pub none_is : (enough best : ℕ) → ((q : Coord) → IsInBoxOf edges r (at_coord q) → ⊥) → IsMost edges r enough best best
+  none_is enough best none = record {
+    no_less = omega arith;
+    reached = λ more. absurd (omega (arith, more));
+    greatest = λ less w has. absurd (none has.at (in_box edges planar distinct r inner (at_coord has.at) has.within));
   }
 
 -- ---- clearances and widths

@@ -1,4 +1,4 @@
--- The square round the edges of a region.
+-- The block inside the box of the edges of a region.
 use mir.Syntax.{w32}
 use Rattle.std.proofs.Common.{◌≡◌, sym, subst, ℕ, ◌+◌, ◌/◌, ◌^◌, ◌<◌, ◌≤◌, ◌⊎◌, List, length, take, get_or, All, Contains, inl, inr, ℤ, pos, neg_ℤ, ◌+ℤ◌, ◌-ℤ◌, ◌*ℤ◌, ◌<ℤ◌, ◌≤ℤ◌, to_z, of_z, max, arith}
 use Rattle.std.specs.Int.{int_min, int_max}
@@ -19,7 +19,8 @@ use Rattle.box_tree.specs.declared.rect.Rect.{Rect}
 use Rattle.box_tree.specs.Rect.{IsInside, box_of_segment}
 use Rattle.box_tree.proofs.Within.{inside_trans}
 use Rattle.region_owners.specs.Box.{IsCornerOf, IsInBoxOf}
-use Rattle.clearance_laws.specs.Quarter.{IsInSquare}
+use Rattle.clearance_laws.specs.Block.{IsInBlock}
+use Rattle.clearance_laws.proofs.Blocks.{twice}
 use Rattle.gap_width.specs.declared.own.OwnEdge.{OwnEdge}
 use Rattle.gap_width.specs.Own.{edges_in, AreOwn}
 
@@ -63,31 +64,6 @@ inside_more own i old new o below is grown inside all =
 pub inside_all : (own : List OwnEdge) (i : ℕ) (b : Rect) → length own ≤ i → AreInside (take i own) b → AreInside own b
 inside_all own i b le all = subst (λ xs. AreInside xs b) (take_all i own le) all
 
--- ---- the side, and where the square begins
-
-pub power_small : (n r k : ℕ) → r ≡ 2 ^ k → r / 2 < max 1 n → n ≤ 2 ^ 29 → r ≤ 2 ^ 29
-power_small n r k is upper small = elim (cases_lt k 30) [
-  | inl less ↦ (let at_most : 2 ^ k ≤ 2 ^ 29 = pow_mono {i = k} {j = 29} (omega (arith, less)) in omega (arith, is, at_most))
-  | inr more ↦ (let at_least : 2 ^ 30 ≤ 2 ^ k = pow_mono {i = 30} {j = k} more in absurd (omega (arith, is, at_least, upper, small)))
-]
-
--- numbers of the code: how far it is across the box, and where the square begins
-pub length_is : (lo hi : ℤ) (n k : ℕ) → (neg_ℤ LIMIT) ≤ℤ lo → lo ≤ℤ LIMIT → (neg_ℤ LIMIT) ≤ℤ hi → hi ≤ℤ LIMIT → pos n ≡ to_z w32 (of_z w32 hi) -ℤ to_z w32 (of_z w32 lo) → n ≤ k
-    → ((hi -ℤ lo) ≤ℤ pos k) × (n ≤ 2 ^ 29)
-length_is lo hi n k a b c d is le = (omega (arith, ints, lin), omega (arith, ints, lin))
-
-pub start_is : (lo f : ℤ) (k : ℕ) → (neg_ℤ LIMIT) ≤ℤ lo → lo ≤ℤ LIMIT → k ≤ 2 ^ 29 → f ≡ int_min (to_z w32 (of_z w32 lo)) (LIMIT -ℤ pos k) → to_z w32 (of_z w32 f) ≡ int_min lo (LIMIT -ℤ pos k)
-start_is lo f k a b small is = omega (arith, ints, clamps, lin)
-
--- a square of that side begins and ends in range
-pub begins : (lo a : ℤ) (k : ℕ) → k ≤ 2 ^ 29 → (neg_ℤ LIMIT) ≤ℤ lo → a ≡ int_min lo (LIMIT -ℤ pos k) → ((neg_ℤ LIMIT) ≤ℤ a) × ((a +ℤ pos k) ≤ℤ (LIMIT +ℤ pos 1))
-begins lo a k small from is = (omega (arith, ints, clamps, lin), omega (arith, ints, clamps, lin))
-
--- and has what is strictly between
-pub between : (lo hi q a : ℤ) (k : ℕ) → lo <ℤ q → q <ℤ hi → hi ≤ℤ LIMIT → (hi -ℤ lo) ≤ℤ pos k → a ≡ int_min lo (LIMIT -ℤ pos k)
-    → ((pos 2 *ℤ a) ≤ℤ (pos 2 *ℤ q)) × (((pos 2 *ℤ q) +ℤ pos 2) ≤ℤ (pos 2 *ℤ (a +ℤ pos k)))
-between lo hi q a k more less top long is = (omega (arith, ints, clamps, lin), omega (arith, ints, clamps, lin))
-
 -- ---- the points inside the box of the region
 
 corner_in : (b : Rect) (c : Coord) (e : Seg) → IsInside (box_of_segment e) b → (c ≡ e.lo) ⊎ (c ≡ e.hi) → (b.lo.x ≤ℤ c.x) × (c.x ≤ℤ b.hi.x) × (b.lo.y ≤ℤ c.y) × (c.y ≤ℤ b.hi.y)
@@ -125,11 +101,34 @@ in_hull edges r own b are all q is =
     at : (c : Coord) → IsCornerOf edges r c → (b.lo.x ≤ℤ c.x) × (c.x ≤ℤ b.hi.x) × (b.lo.y ≤ℤ c.y) × (c.y ≤ℤ b.hi.y)
     at c corner = corner_in b c corner.edge (of_edge corner.edge ((are.each corner.edge).0 corner.of)) corner.is
 
-pub in_square : (edges : List Seg) (r : ℕ) (own : List OwnEdge) (b : Rect) (a : Coord) (k : ℕ) → AreOwn edges r own → AreInside own b → IsInRange b.hi
-    → (b.hi.x -ℤ b.lo.x) ≤ℤ pos k → (b.hi.y -ℤ b.lo.y) ≤ℤ pos k → a.x ≡ int_min b.lo.x (LIMIT -ℤ pos k) → a.y ≡ int_min b.lo.y (LIMIT -ℤ pos k)
-    → (q : Coord) → IsInBoxOf edges r (at_coord q) → IsInSquare a k (doubled q)
-in_square edges r own b a k are all range wide high ax ay q is =
-    let (x, y) = in_hull edges r own b are all q is in
-    let (left, right) = between b.lo.x b.hi.x q.x a.x k x.0 x.1 range.right wide ax in
-    let (bottom, top) = between b.lo.y b.hi.y q.y a.y k y.0 y.1 range.top high ay in
-    record { left = left; right = right; bottom = bottom; top = top }
+-- a number strictly between two is from the next of the lesser to the last before the greater
+strictly : (l h q a b : ℤ) → a ≡ l +ℤ pos 1 → b ≡ h -ℤ pos 1 → l <ℤ q → q <ℤ h → ((pos 2 *ℤ a) ≤ℤ (pos 2 *ℤ q)) × ((pos 2 *ℤ q) ≤ℤ (pos 2 *ℤ b))
+strictly l h q a b is_a is_b past before =
+    let two_q = twice q in
+    let two_a = twice a in
+    let two_b = twice b in
+    (omega (arith, lin), omega (arith, lin))
+
+pub in_inner : (b : Rect) (q lo hi : Coord) → (lo.x ≡ b.lo.x +ℤ pos 1) × (hi.x ≡ b.hi.x -ℤ pos 1) → (lo.y ≡ b.lo.y +ℤ pos 1) × (hi.y ≡ b.hi.y -ℤ pos 1)
+    → ((b.lo.x <ℤ q.x) × (q.x <ℤ b.hi.x)) × ((b.lo.y <ℤ q.y) × (q.y <ℤ b.hi.y)) → IsInBlock lo hi (doubled q)
+in_inner b q lo hi across upwards is =
+    let x = strictly b.lo.x b.hi.x q.x lo.x hi.x across.0 across.1 is.0.0 is.0.1 in
+    let y = strictly b.lo.y b.hi.y q.y lo.y hi.y upwards.0 upwards.1 is.1.0 is.1.1 in
+    record { left = x.0; right = x.1; bottom = y.0; top = y.1 }
+
+-- ---- numbers of the code
+
+pub inner_read : (l h : ℤ) → (neg_ℤ LIMIT) ≤ℤ l → l ≤ℤ h → h ≤ℤ LIMIT → (to_z w32 (of_z w32 (to_z w32 (of_z w32 l) +ℤ pos 1)) ≡ l +ℤ pos 1) × (to_z w32 (of_z w32 (to_z w32 (of_z w32 h) -ℤ pos 1)) ≡ h -ℤ pos 1)
+inner_read l h left order right = (omega (arith, ints, lin), omega (arith, ints, lin))
+
+-- where two numbers are two or more apart, the next of the lesser is no more than the last before the greater
+pub inner_order : (l h a b : ℤ) (n : ℕ) → (neg_ℤ LIMIT) ≤ℤ l → l ≤ℤ h → h ≤ℤ LIMIT → pos n ≡ to_z w32 (of_z w32 h) -ℤ to_z w32 (of_z w32 l) → 2 ≤ n → (a ≡ l +ℤ pos 1) × (b ≡ h -ℤ pos 1)
+    → (((neg_ℤ LIMIT) ≤ℤ a) × (a ≤ℤ b)) × (b ≤ℤ LIMIT)
+inner_order l h a b n left order right is more are =
+    let is_a = are.0 in
+    let is_b = are.1 in
+    ((omega (arith, lin), omega (arith, ints, lin)), omega (arith, lin))
+
+-- and otherwise nothing is between
+pub none_between : (l h q : ℤ) (n : ℕ) → (neg_ℤ LIMIT) ≤ℤ l → l ≤ℤ h → h ≤ℤ LIMIT → pos n ≡ to_z w32 (of_z w32 h) -ℤ to_z w32 (of_z w32 l) → n < 2 → l <ℤ q → q <ℤ h → ⊥
+none_between l h q n left order right is less past before = omega (arith, ints, lin)

@@ -86,41 +86,21 @@ room_is near c least is =
       no_more = λ more. (let past = (reach_is c (root least + 1) o.edge).0 more in let next = r.next_more in let same = is.some.1.1 in absurd (omega (arith, past, next, same)));
     }
 
--- ---- squares
+-- ---- blocks
 
-pub some_points : (level : ℕ) → 1 ≤ 2 ^ level
-some_points zero = omega arith
-some_points (suc l) = let rest = some_points l in omega (arith, rest)
+-- a sum of two numbers in range, as the code computes it
+pub sum_read : (l h : ℤ) → (neg_ℤ LIMIT) ≤ℤ l → l ≤ℤ h → h ≤ℤ LIMIT → to_z w32 (of_z w32 (to_z w32 (of_z w32 l) +ℤ to_z w32 (of_z w32 h))) ≡ l +ℤ h
+sum_read l h left order right = omega (arith, ints, lin)
 
--- the centre, as the code computes it
-pub centre_read : (x : ℤ) (k : ℕ) → 1 ≤ k → k ≤ 2 ^ 29 → (neg_ℤ LIMIT) ≤ℤ x → (x +ℤ pos k) ≤ℤ (LIMIT +ℤ pos 1)
-    → to_z w32 (of_z w32 (to_z w32 (of_z w32 (pos 2 *ℤ to_z w32 (of_z w32 x))) +ℤ to_z w32 (of_z w32 (to_z w32 k -ℤ pos 1)))) ≡ ((pos 2 *ℤ x) +ℤ pos k) -ℤ pos 1
-centre_read x k some small from to = omega (arith, ints, lin)
+-- a diagonal
+pub diagonal_reaches : (n r : ℕ) → r ≡ root n → n ≤ (r + 1) * (r + 1)
+diagonal_reaches n r is = (let next = subst (λ k. n < (k + 1) * (k + 1)) (sym is) (root_is n).next_more in omega (arith, next))
 
--- half of a power of two
-pub half_power : (k level : ℕ) → k ≡ 2 ^ level → 1 < k → (l : ℕ) × (k / 2 ≡ 2 ^ l) × (k ≡ k / 2 + k / 2)
-half_power k zero is several = absurd (omega (arith, is, several))
-half_power k (suc l) is several = (l, omega (arith, is), omega (arith, is))
-
--- half a diagonal
-pub diagonal_reaches : (k r : ℕ) → 1 ≤ k → r ≡ root (2 * (k - 1) * (k - 1)) → (pos 2 *ℤ ((pos k -ℤ pos 1) *ℤ (pos k -ℤ pos 1))) ≤ℤ pos ((r + 1) * (r + 1))
-diagonal_reaches k r some is =
-    let j = k - 1 in
-    let gap : pos k -ℤ pos 1 ≡ pos j = omega (arith, lin, some) in
-    let square : pos (2 * j * j) ≡ pos 2 *ℤ (pos j *ℤ pos j) = pos_mul (2 * j) j ∙ ap (λ z. z *ℤ pos j) (pos_mul 2 j) ∙ by_ring (pos j ∷ []) ((Lit (pos 2) ⊗ Var 0) ⊗ Var 0) (Lit (pos 2) ⊗ (Var 0 ⊗ Var 0)) refl in
-    let next = subst (λ n. 2 * j * j < (n + 1) * (n + 1)) (sym is) (root_is (2 * j * j)).next_more in
-    let le = (pos_le (2 * j * j) ((r + 1) * (r + 1))).1 (omega (arith, next)) in
-    subst (λ z. (pos 2 *ℤ (z *ℤ z)) ≤ℤ pos ((r + 1) * (r + 1))) (sym gap) (subst (λ z. z ≤ℤ pos ((r + 1) * (r + 1))) square le)
-
-pub diagonal_small : (k : ℕ) → k ≤ 2 ^ 29 → root (2 * (k - 1) * (k - 1)) ≤ 2 ^ 30 - 1
-diagonal_small k small = root_at_most (2 * (k - 1) * (k - 1)) (2 ^ 30 - 1) (
-    let less : k - 1 ≤ 2 ^ 29 = omega (arith, small) in
-    let squares : (k - 1) * (k - 1) ≤ (2 ^ 29) * (2 ^ 29) = mul-le-mul less less in
-    let same = twice_square (k - 1) in
-    omega (arith, squares, same))
-  where
-    twice_square : (j : ℕ) → 2 * j * j ≡ 2 * (j * j)
-    twice_square j = omega (arith, mul_assoc 2 j j)
+pub diagonal_small : (a b : ℕ) → a ≤ 2 ^ 29 → b ≤ 2 ^ 29 → root (a * a + b * b) ≤ 2 ^ 30 - 1
+diagonal_small a b small_a small_b = root_at_most (a * a + b * b) (2 ^ 30 - 1) (
+    let square_a : a * a ≤ (2 ^ 29) * (2 ^ 29) = mul-le-mul small_a small_a in
+    let square_b : b * b ≤ (2 ^ 29) * (2 ^ 29) = mul-le-mul small_b small_b in
+    omega (arith, square_a, square_b))
 
 -- ---- the least reach of one more edge
 
@@ -136,11 +116,3 @@ least_next near c i o least here after below is exact less less_here each k x wi
           omega (arith, reached, less_here)
           )
     ]
-
--- ---- a quarter stays in range
-
-pub further_in : (x f : ℤ) (k h : ℕ) (b : Bool) → k ≡ h + h → k ≤ 2 ^ 29 → (neg_ℤ LIMIT) ≤ℤ x → (x +ℤ pos k) ≤ℤ (LIMIT +ℤ pos 1)
-    → f ≡ cond b (to_z w32 (of_z w32 x) +ℤ pos h) (to_z w32 (of_z w32 x))
-    → ((neg_ℤ LIMIT) ≤ℤ to_z w32 (of_z w32 f)) × ((to_z w32 (of_z w32 f) +ℤ pos h) ≤ℤ (LIMIT +ℤ pos 1))
-further_in x f k h true half small from to is = (omega (arith, ints, lin), omega (arith, ints, lin))
-further_in x f k h false half small from to is = (omega (arith, ints, lin), omega (arith, ints, lin))

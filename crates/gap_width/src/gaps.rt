@@ -6,9 +6,10 @@ ghost use Rattle.region_owners.specs.Gap.{IsClearance, IsNarrow};
 ghost use Rattle.gap_width.specs.Own.{AreSides};
 ghost use Rattle.gap_width.specs.Search.{IsMost};
 
+use crate::block::block_inside;
+use crate::near::measure;
 use crate::own::own_edges;
 use crate::search::most_room;
-use crate::square::square_round;
 use counting_sort::Grouped;
 use cov_types::{NoMemory, Seg};
 use face_walk::Regions;
@@ -50,6 +51,8 @@ impl<'a> GapSearch<'a> {
 
     /// Whether the region is narrower than w, in half grid units: from no grid point of it is twice the distance to all edges w or more.
     /// At the width 0 none is.
+    /// For n edges of the region in a box of d units it takes about n log d time, and looks besides at a block for each w units of border;
+    /// where the region is just narrower than w all along, at each grid point of it.
     pub fn narrow(&self, region: usize, w: u32) -> Result<bool, NoMemory>
         requires region { IsRegion self.now region }
         requires not_outer { ¬ IsOuterRegion self.now region }
@@ -64,6 +67,8 @@ impl<'a> GapSearch<'a> {
 
     /// The clearance of the region, in half grid units: twice the distance from all edges of the grid point of it that is furthest
     /// from them, rounded down, and 0 where there is none.
+    /// For n edges of the region in a box of d units it takes about n log d time where one part is much wider than the others; of a corridor
+    /// of even width it looks at each grid point.
     pub fn clearance(&self, region: usize) -> Result<u32, NoMemory>
         requires region { IsRegion self.now region }
         requires not_outer { ¬ IsOuterRegion self.now region }
@@ -81,7 +86,13 @@ impl<'a> GapSearch<'a> {
         ensures most { IfOk result (IsMost self.now region enough best) }
     {
         let own = own_edges(self.alloc, self.edges, self.sides.group(region))?;
-        most_room(self.alloc, &own, &own, square_round(&own), best, enough)
+        match block_inside(&own) {
+            None => Ok(best),
+            Some(block) => {
+                let whole = measure(&own, block);
+                most_room(self.alloc, &own, &own, whole, best, enough)
+            }
+        }
     }
 }
 

@@ -103,3 +103,81 @@ fn a_wide_square_has_half_its_side_all_round(rt: HostRuntime) -> Result<(), Fail
     ];
     expect_clearances(rt.alloc(), &rt, &square, &[(1, 33554000)])
 }
+
+#[test]
+fn a_gap_as_wide_as_w_is_not_narrow_and_one_unit_narrower_is(rt: HostRuntime) -> Result<(), Fail> {
+    let squares = [
+        (0, 0, 0, 8),
+        (0, 0, 8, 0),
+        (0, 8, 8, 8),
+        (8, 0, 8, 8),
+        (20, 0, 20, 7),
+        (20, 0, 27, 0),
+        (20, 7, 27, 7),
+        (27, 0, 27, 7),
+    ];
+    let alloc = rt.alloc();
+    let edges = edges_between(alloc, &rt, &squares)?;
+    assert!(&rt; are_arranged(alloc, &edges)?);
+    let arena = Arena::build(alloc, edges)?;
+    let regions = Regions::build(alloc, &arena)?;
+    let search = GapSearch::build(alloc, &arena, &regions)?;
+    let wide = inner_region(&rt, &arena, &regions, 1);
+    let less = inner_region(&rt, &arena, &regions, 9);
+    assert!(&rt; !search.narrow(wide, 8)?);
+    assert!(&rt; search.narrow(less, 8)?);
+    assert!(&rt; !search.narrow(less, 0)?);
+    Ok(())
+}
+
+// The square of a hundred edges of 4 units round the middle (50, 50), in order.
+fn square_of_a_hundred(alloc: Global) -> Result<Vec<(i32, i32, i32, i32)>, NoMemory> {
+    let mut numbers = Vec::new(alloc);
+    for at in 0i32..25 {
+        numbers.push((0, 4 * at, 0, 4 * at + 4))?;
+        if at == 0 {
+            numbers.push((0, 0, 4, 0))?;
+        }
+    }
+    numbers.push((0, 100, 4, 100))?;
+    for at in 1i32..25 {
+        numbers.push((4 * at, 0, 4 * at + 4, 0))?;
+        numbers.push((4 * at, 100, 4 * at + 4, 100))?;
+    }
+    for at in 0i32..25 {
+        numbers.push((100, 4 * at, 100, 4 * at + 4))?;
+    }
+    Ok(numbers)
+}
+
+#[test]
+fn a_square_of_a_hundred_edges_is_as_wide_as_it_is_long(rt: HostRuntime) -> Result<(), Fail> {
+    let numbers = square_of_a_hundred(rt.alloc())?;
+    expect_clearances(rt.alloc(), &rt, &numbers, &[(1, 100)])
+}
+
+// A sliver of slope 2 between two chains of so many edges, 8 units apart straight up, in order.
+fn sliver(alloc: Global, count: i32) -> Result<Vec<(i32, i32, i32, i32)>, NoMemory> {
+    let mut numbers = Vec::new(alloc);
+    numbers.push((0, 0, 0, 8))?;
+    for at in 0i32..count {
+        numbers.push((at, 2 * at, at + 1, 2 * at + 2))?;
+        numbers.push((at, 2 * at + 8, at + 1, 2 * at + 10))?;
+    }
+    numbers.push((count, 2 * count, count, 2 * count + 8))?;
+    Ok(numbers)
+}
+
+// The points on its middle line are 4/root(5) from both chains, and twice that is 3.58.
+#[test]
+fn a_long_sloping_sliver_is_as_wide_as_its_middle_line_tells(rt: HostRuntime) -> Result<(), Fail> {
+    let alloc = rt.alloc();
+    let edges = edges_between(alloc, &rt, &sliver(alloc, 5000)?)?;
+    assert!(&rt; are_arranged(alloc, &edges)?);
+    let arena = Arena::build(alloc, edges)?;
+    let regions = Regions::build(alloc, &arena)?;
+    let search = GapSearch::build(alloc, &arena, &regions)?;
+    let region = inner_region(&rt, &arena, &regions, 1);
+    assert_eq!(&rt; search.clearance(region)?, 3);
+    Ok(())
+}

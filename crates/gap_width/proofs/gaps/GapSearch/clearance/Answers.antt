@@ -1,7 +1,7 @@
 use Rattle.std.proofs.Common.{◌≤◌, ◌^◌, arith}
 use Rattle.region_owners.specs.Gap.{IsClearance}
 use Rattle.gap_width.specs.Search.{IsMost}
-use Rattle.gap_width.proofs.Squares.{if_ok_both}
+use Rattle.gap_width.proofs.Blocks.{if_ok_both}
 use Rattle.gap_width.proofs.Most.{clearance_from}
 use Rattle.gap_width.proofs.gaps.GapSearch.clearance.Goals as goal
 

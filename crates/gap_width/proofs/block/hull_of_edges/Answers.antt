@@ -2,7 +2,7 @@ use Rattle.std.proofs.Common.{sym, subst, get_or, arith}
 use Rattle.cov_types.specs.Range.{IsSegInRange}
 use Rattle.box_tree.specs.Rect.{IsInside}
 use Rattle.gap_width.proofs.Round.{whole, edge_in_whole, lower_in, upper_in, inside_more, inside_all}
-use Rattle.gap_width.proofs.square.hull_of_edges.Goals as goal
+use Rattle.gap_width.proofs.block.hull_of_edges.Goals as goal
 
 pub loop-o-init : goal.loop-o-init
 loop-o-init c =

@@ -1,0 +1,5 @@
+pub mod Sums
+pub mod Exchanged
+pub mod Thinned
+pub mod Nodes
+pub mod KeptLines

@@ -1,0 +1,2 @@
+//! The lines of a coverage while it is simplified.
+#![tactic(auto)]

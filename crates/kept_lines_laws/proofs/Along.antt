@@ -1,9 +1,7 @@
 -- All segments of a line have the same members beside them, so a line seen from its other end has left and right exchanged.
-use mathlib.Core.List.{[], ◌∷◌}
-use Rattle.std.proofs.Common.{◌≡◌, ◌≢◌, ◌⊎◌, inl, inr, refl, sym, ◌∙◌, ap, subst, zero, suc, ℕ, ◌+◌, ◌-◌, ◌<◌, ◌≤◌, ◌||◌, Bool, true, false, not, cond, List, arith}
-use Rattle.std.specs.Prelude.{Contains, reverse, Some, Option, slice_get, option_map, option_and_then}
+use Rattle.std.proofs.Common.{◌≡◌, ◌≢◌, ◌⊎◌, inl, inr, refl, sym, ◌∙◌, ap, subst, zero, suc, ℕ, ◌-◌, ◌<◌, ◌||◌, Bool, true, false, not, cond, List, arith}
+use Rattle.std.specs.Prelude.{Contains, slice_get, option_and_then}
 use Rattle.std.proofs.lemmas.Bool.{false≢true, or_left, or_right}
-use Rattle.std.proofs.lemmas.List.{reverse-reverse}
 use Rattle.cov_types.specs.declared.coord.Coord.{Coord}
 use Rattle.cov_types.specs.declared.edge_use.EdgeUse.{EdgeUse}
 use Rattle.cov_types.specs.declared.seg.Seg.{Seg}
@@ -12,20 +10,17 @@ use Rattle.cov_types.specs.Seg.{IsSegBetween}
 use Rattle.cov_types.specs.Uses.{HasEvenEnds}
 use Rattle.cov_types.proofs.Equal.{Decides-same_coords}
 use Rattle.plane.specs.Joined.{Joined}
-use Rattle.plane.specs.Label.{label_at}
-use Rattle.plane.specs.Point.{Point}
 use Rattle.plane.specs.Segment.{upper, lower}
-use Rattle.plane.specs.Snapping.{chain_edges}
 use Rattle.crossing_laws.specs.Crossing.{IsSwept}
 use Rattle.crossing_laws.proofs.Sums.{label-joined}
 use Rattle.crossing_laws.proofs.Ways.{joined-trans}
-use Rattle.sector_laws.specs.Sector.{HalfEdge, origin, target, left, twin, Leaves, IsNext, IsPlanar, is_in_sector}
+use Rattle.sector_laws.specs.Sector.{HalfEdge, origin, target, left, twin, Leaves, IsPlanar, is_in_sector}
 use Rattle.sector_laws.proofs.Exists.{some_next}
 use Rattle.sector_laws.proofs.Sectors.{next_joined}
 use Rattle.sector_laws.proofs.Shapes.{full_sector}
-use Rattle.greedy_run.specs.Lines.{degree, IsNode}
-use Rattle.greedy_run.specs.Sides.{holder, left_from, right_from, beside_first, left_member, right_member}
-use Rattle.greedy_run.proofs.Listed.{from_place, after, turned}
+use Rattle.greedy_run.specs.Lines.{degree}
+use Rattle.greedy_run.specs.Sides.{holder, left_from, right_from, left_member, right_member}
+use Rattle.greedy_run.proofs.Listed.{from_place, after}
 use Rattle.greedy_run.proofs.Threads.{IsThread, turned_thread, two_edges, three_counted, ends_at, seg_turned, one_seg}
 use Rattle.greedy_run.proofs.Trails.{seg_or}
 use Rattle.removal_laws.proofs.Exchange.{coord_cases, ends_differ}
@@ -50,11 +45,11 @@ left_is a g from = by g.forwards refl
 -- the half-edge from one end leads to the other
 ends_of_half : (a b : Coord) (e : Seg) → IsSegBetween a b e → (origin (half_from a e) ≡ a) × (target (half_from a e) ≡ b)
 ends_of_half a b e (inl s) =
-    (let yes = (Decides-same_coords a e.lo).1 (sym s.0) in
-    (ap (λ (t : Bool). cond t e.lo e.hi) yes ∙ s.0, ap (λ (t : Bool). cond t e.hi e.lo) yes ∙ s.1))
+    (let at_lo = (Decides-same_coords a e.lo).1 (sym s.0) in
+    (ap (λ (t : Bool). cond t e.lo e.hi) at_lo ∙ s.0, ap (λ (t : Bool). cond t e.hi e.lo) at_lo ∙ s.1))
 ends_of_half a b e (inr s) =
-    (let no : is_same_coord a e.lo ≡ false = differ (λ is. ends_differ a b e (inr s) (is ∙ s.0)) in
-    (ap (λ (t : Bool). cond t e.lo e.hi) no ∙ s.1, ap (λ (t : Bool). cond t e.hi e.lo) no ∙ s.0))
+    (let at_hi : is_same_coord a e.lo ≡ false = differ (λ is. ends_differ a b e (inr s) (is ∙ s.0)) in
+    (ap (λ (t : Bool). cond t e.lo e.hi) at_hi ∙ s.1, ap (λ (t : Bool). cond t e.hi e.lo) at_hi ∙ s.0))
   where
     differ : ¬ (a ≡ e.lo) → is_same_coord a e.lo ≡ false
     differ apart = elim (coord_cases a e.lo) [ inl same ↦ absurd (apart ((Decides-same_coords a e.lo).0 same)) | inr other ↦ other ]
@@ -114,14 +109,14 @@ module _ (edges : List Seg) (planar : IsPlanar edges) where
           not_x lo same = ends_differ x y e is_e ((Decides-same_coords x e.lo).0 same ∙ lo)
 
           other_end : IsSegBetween x y e → e.hi ≡ y → is_same_coord x e.lo ≡ false → ⊥
-          other_end (inl s) hi no = false≢true (sym no ∙ (Decides-same_coords x e.lo).1 (sym s.0))
-          other_end (inr s) hi no = ends_differ x y e is_e (sym s.1 ∙ hi)
+          other_end (inl s) hi differs = false≢true (sym differs ∙ (Decides-same_coords x e.lo).1 (sym s.0))
+          other_end (inr s) hi differs = ends_differ x y e is_e (sym s.1 ∙ hi)
 
           by : (t u : Bool) → g.forwards ≡ t → is_same_coord x e.lo ≡ u → t ≡ not u
           by true true is same = absurd (not_x (at true is) same)
-          by true false is no = refl
+          by true false is differs = refl
           by false true is same = refl
-          by false false is no = absurd (other_end is_e (at false is) no)
+          by false false is differs = absurd (other_end is_e (at false is) differs)
 
   -- ---- along a thread
 
@@ -153,11 +148,14 @@ module _ (uses : List EdgeUse) (count : ℕ) (even : HasEvenEnds uses) (edges : 
       let last = h.step m (omega arith) in
       let back = turned_thread edges (suc m) f h in
       let here : m ≡ suc m - 1 = omega arith in
-      let turned_last : IsSegBetween (f (suc m - 0)) (f (suc m - 1)) last.0 = subst (λ i. IsSegBetween (f (suc m)) (f i) last.0) here (seg_turned (f m) (f (suc m)) last.0 last.1.1) in
+      let end : suc m ≡ suc m - 0 = omega arith in
+      let turned_last : IsSegBetween (f (suc m - 0)) (f (suc m - 1)) last.0 =
+      subst (λ i. IsSegBetween (f i) (f (suc m - 1)) last.0) end (subst (λ i. IsSegBetween (f (suc m)) (f i) last.0) here (seg_turned (f m) (f (suc m)) last.0 last.1.1)) in
       ap (option_and_then (holder uses count)) (first_side left_from (f 0) (f 1) (after f 1 m) first.0 first.1.1)
       ∙ alike first.0 last.0 first.1.0 last.1.0 first.1.1 last.1.1
       ∙ ap (holder uses count) (left_turned (f m) (f (suc m)) last.0 last.1.1)
-      ∙ sym (ap (option_and_then (holder uses count)) (first_side right_from (f (suc m)) (f (suc m - 1)) (after (λ k. f (suc m - k)) 1 m) last.0 turned_last))
+      ∙ ap (λ i. holder uses count (right_from (f i) last.0)) end
+      ∙ sym (ap (option_and_then (holder uses count)) (first_side right_from (f (suc m - 0)) (f (suc m - 1)) (after (λ k. f (suc m - k)) 1 m) last.0 turned_last))
     where
       alike : (e g : Seg) → Contains edges e → Contains edges g → IsSegBetween (f 0) (f 1) e → IsSegBetween (f m) (f (suc m)) g → holder uses count (left_from (f 0) e) ≡ holder uses count (left_from (f m) g)
       alike e g has_e has_g is_e is_g = elim (along_left edges planar (suc m) f h m (omega arith) e g has_e has_g is_e is_g) [

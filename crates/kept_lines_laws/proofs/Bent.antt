@@ -1,6 +1,6 @@
 -- The side points of the three sides of a triangle to the left: in it on the inner side, and joined across ab and bc.
 use mathlib.Core.List.{[], ◌∷◌}
-use Rattle.std.proofs.Common.{◌≡◌, ◌⊎◌, inl, inr, refl, sym, ◌∙◌, ap, subst, ◌^◌, Bool, true, false, cond, List, ℤ, pos, neg_ℤ, ◌+ℤ◌, ◌-ℤ◌, ◌*ℤ◌, ◌≤ℤ◌, ◌<ℤ◌, ⊎_elim, arith}
+use Rattle.std.proofs.Common.{◌≡◌, ◌⊎◌, inl, inr, refl, sym, ◌∙◌, ap, subst, ◌^◌, Bool, true, false, cond, List, ℤ, pos, neg_ℤ, ◌+ℤ◌, ◌-ℤ◌, ◌*ℤ◌, ◌≤ℤ◌, ◌<ℤ◌, arith}
 use Rattle.std.specs.Prelude.{Contains}
 use Rattle.std.proofs.lemmas.Bool.{false≢true}
 use Rattle.integer_laws.proofs.Compare.{le_of_lt, lt_excludes_le, lt_excludes_eq}
@@ -13,13 +13,12 @@ use Rattle.cov_types.specs.Seg.{IsSegBetween}
 use Rattle.cov_types.proofs.Equal.{Decides-same_coords}
 use Rattle.plane.specs.Joined.{IsClear, Joined}
 use Rattle.plane.specs.Point.{Point, at_coord, IsBetween}
-use Rattle.plane.specs.Ray.{sweep}
 use Rattle.plane.specs.Segment.{IsOn, upper, lower}
 use Rattle.plane.proofs.Forms.{form, form_positive-between, form_zero-between}
 use Rattle.plane.proofs.Points.{between-sym}
 use Rattle.plane.proofs.Sides.{side-form}
 use Rattle.plane.proofs.Sweeps.{rises-in_range}
-use Rattle.crossing_laws.proofs.Beside.{HaveOnlyEnds, rise, side-upper, side-lower, side_points_clear}
+use Rattle.crossing_laws.proofs.Beside.{HaveOnlyEnds, side-upper, side-lower, side_points_clear}
 use Rattle.crossing_laws.proofs.Ways.{joined_by_clear, joined-trans}
 use Rattle.greedy_run.specs.Run.{Triangle}
 use Rattle.greedy_run.specs.Sides.{left_from, right_from}
@@ -29,7 +28,7 @@ use Rattle.removal_laws.proofs.Ear.{between_ends}
 use Rattle.removal_laws.proofs.Exchange.{ends_differ, coord_cases}
 use Rattle.removal_laws.proofs.Inner.{inner}
 use Rattle.removal_laws.proofs.Inside.{left_of, left-first, left-second, left-exchanged, area, to_a, to_b, to_c, depth-a, depth-b, depth-c, within-inside, inside-within}
-use Rattle.removal_laws.proofs.Pasch.{IsUpwards, upwards_of}
+use Rattle.removal_laws.proofs.Pasch.{upwards_of}
 
 -- ---- the depths of side points
 
@@ -179,82 +178,82 @@ pub record IsPastSide (t : Triangle) (edges : List Seg) (p x : Point) : Type 0 w
 module _ (t : Triangle) (ab bc ac : Seg) (sides : AreThreeSides t ab bc ac) (apart : MeetsInEndsAlone ab bc)
     (edges : List Seg) (others : (e : Seg) → Contains edges e → IsOther t ab bc ac e) (range : (e : Seg) → Contains edges e → IsSegInRange e) (positive : pos 0 <ℤ area t)
   where
-  ra : IsInRange t.a
-  ra = range_of_ends t.a t.b ab sides.two.first sides.two.first_in_range
+    ra : IsInRange t.a
+    ra = range_of_ends t.a t.b ab sides.two.first sides.two.first_in_range
 
-  rb : IsInRange t.b
-  rb = range_of_last t.a t.b ab sides.two.first sides.two.first_in_range
+    rb : IsInRange t.b
+    rb = range_of_last t.a t.b ab sides.two.first sides.two.first_in_range
 
-  rc : IsInRange t.c
-  rc = range_of_last t.b t.c bc sides.two.second sides.two.second_in_range
+    rc : IsInRange t.c
+    rc = range_of_last t.b t.c bc sides.two.second sides.two.second_in_range
 
-  within_by_depths : (p : Point) → pos 0 <ℤ depth (to_a t) p → pos 0 <ℤ depth (to_b t) p → pos 0 <ℤ depth (to_c t) p → IsWithin t p
-  within_by_depths p a b c = inside-within t p positive (record { first = le_of_lt a; second = le_of_lt b; third = le_of_lt c })
+    within_by_depths : (p : Point) → pos 0 <ℤ depth (to_a t) p → pos 0 <ℤ depth (to_b t) p → pos 0 <ℤ depth (to_c t) p → IsWithin t p
+    within_by_depths p a b c = inside-within t p positive (record { first = le_of_lt a; second = le_of_lt b; third = le_of_lt c })
 
-  -- a point strictly on b's side is off ac
-  off_third : (p : Point) → pos 0 <ℤ depth (to_b t) p → ¬ IsOn ac p
-  off_third p deep_b on =
-      let l = to_b t in
-      lt_excludes_eq deep_b (sym (form_zero-between l.a l.b l.c p (at_coord t.a) (at_coord t.c) (between_ends t.a t.c ac p sides.third on) (left-second t.c t.a) (left-first t.c t.a)))
+    -- a point strictly on b's side is off ac
+    off_third : (p : Point) → pos 0 <ℤ depth (to_b t) p → ¬ IsOn ac p
+    off_third p deep_b on =
+        let l = to_b t in
+        lt_excludes_eq deep_b (sym (form_zero-between l.a l.b l.c p (at_coord t.a) (at_coord t.c) (between_ends t.a t.c ac p sides.third on) (left-second t.c t.a) (left-first t.c t.a)))
 
-  -- the inner side point of ac
-  third_to_a : AreDeep (to_a t) t.a ac
-  third_to_a = deep t.b t.c t.a t.c ac rb rc sides.third (let x = depth-a t in let y = left-second t.b t.c in omega (arith, lin))
+    -- the inner side point of ac
+    third_to_a : AreDeep (to_a t) t.a ac
+    third_to_a = deep t.b t.c t.a t.c ac rb rc sides.third (let x = depth-a t in let y = left-second t.b t.c in omega (arith, lin))
 
-  third_to_c : AreDeep (to_c t) t.a ac
-  third_to_c = deep t.a t.b t.a t.c ac ra rb sides.third (let x = depth-c t in let y = left-first t.a t.b in omega (arith, lin))
+    third_to_c : AreDeep (to_c t) t.a ac
+    third_to_c = deep t.a t.b t.a t.c ac ra rb sides.third (let x = depth-c t in let y = left-first t.a t.b in omega (arith, lin))
 
-  third_to_b : pos 0 <ℤ depth (to_b t) (right_from t.a ac)
-  third_to_b =
-      let h = (aside t.a t.c ac sides.third sides.third_in_range).right in
-      let turned = left-exchanged t.a t.c (right_from t.a ac) in
-      omega (arith, lin)
+    third_to_b : pos 0 <ℤ depth (to_b t) (right_from t.a ac)
+    third_to_b =
+        let h = (aside t.a t.c ac sides.third sides.third_in_range).right in
+        let turned = left-exchanged t.a t.c (right_from t.a ac) in
+        omega (arith, lin)
 
-  third_within : IsWithin t (right_from t.a ac)
-  third_within = within_by_depths (right_from t.a ac) third_to_a.right third_to_b third_to_c.right
+    third_within : IsWithin t (right_from t.a ac)
+    third_within = within_by_depths (right_from t.a ac) third_to_a.right third_to_b third_to_c.right
 
-  -- from the inner side point of ac past another side, from u to v
-  past : (u v : Coord) (f : Seg) → IsSegBetween u v f → IsSegInRange f → IsWithin t (left_from u f) → AreDeep (to_b t) u f → ((x : Point) → IsWithin t x → pos 0 ≤ℤ depth (left_of u v) x)
-      → ((e : Seg) → IsFreeOf t ab bc e → HaveOnlyEnds f e) → IsPastSide t edges (right_from t.a ac) (right_from u f)
-  past u v f is hf within away bound ends = record {
-    joined = joined-trans edges (right_from t.a ac) (left_from u f) (right_from u f)
-        (joined_by_clear edges (right_from t.a ac) (left_from u f) (inner t ab bc ac sides apart edges others (right_from t.a ac) (left_from u f) third_within (off_third (right_from t.a ac) third_to_b) within (off_third (left_from u f) away.left)))
-        (joined_by_clear edges (left_from u f) (right_from u f) across);
-    outside = λ inside. lt_excludes_le (aside u v f is hf).right (bound (right_from u f) inside);
-  }
-    where
-      between_sides : (r : Point) → IsBetween r (left_from u f) (right_from u f) → IsBetween r (lower f) (upper f)
-      between_sides r between = elim (beside_or u f) [
-        | inl at ↦ between-sym r (upper f) (lower f) (subst (λ p. IsBetween r p (lower f)) at.left (subst (λ q. IsBetween r (left_from u f) q) at.right between))
-        | inr at ↦ subst (λ p. IsBetween r p (upper f)) at.left (subst (λ q. IsBetween r (left_from u f) q) at.right between)
-      ]
+    -- from the inner side point of ac past another side, from u to v
+    past : (u v : Coord) (f : Seg) → IsSegBetween u v f → IsSegInRange f → IsWithin t (left_from u f) → AreDeep (to_b t) u f → ((x : Point) → IsWithin t x → pos 0 ≤ℤ depth (left_of u v) x)
+        → ((e : Seg) → IsFreeOf t ab bc e → HaveOnlyEnds f e) → IsPastSide t edges (right_from t.a ac) (right_from u f)
+    past u v f is hf within away bound ends = record {
+      joined = joined-trans edges (right_from t.a ac) (left_from u f) (right_from u f)
+          (joined_by_clear edges (right_from t.a ac) (left_from u f) (inner t ab bc ac sides apart edges others (right_from t.a ac) (left_from u f) third_within (off_third (right_from t.a ac) third_to_b) within (off_third (left_from u f) away.left)))
+          (joined_by_clear edges (left_from u f) (right_from u f) across);
+      outside = λ inside. lt_excludes_le (aside u v f is hf).right (bound (right_from u f) inside);
+    }
+      where
+        between_sides : (r : Point) → IsBetween r (left_from u f) (right_from u f) → IsBetween r (lower f) (upper f)
+        between_sides r between = elim (beside_or u f) [
+          | inl at ↦ between-sym r (upper f) (lower f) (subst (λ p. IsBetween r p (lower f)) at.left (subst (λ q. IsBetween r (left_from u f) q) at.right between))
+          | inr at ↦ subst (λ p. IsBetween r p (upper f)) at.left (subst (λ q. IsBetween r (left_from u f) q) at.right between)
+        ]
 
-      across : IsClear edges (left_from u f) (right_from u f)
-      across = λ e has r between on.
-          elim (others e has) [
-            | inl is ↦ (
-                let l = to_b t in
-                off_third r (form_positive-between l.a l.b l.c r (left_from u f) (right_from u f) between away.left away.right) (subst (λ s. IsOn s r) is on)
-                )
-            | inr free ↦ (side_points_clear f e hf (range e has) (ends e free)).none r (between_sides r between) on
-          ]
+        across : IsClear edges (left_from u f) (right_from u f)
+        across = λ e has r between on.
+            elim (others e has) [
+              | inl is ↦ (
+                  let l = to_b t in
+                  off_third r (form_positive-between l.a l.b l.c r (left_from u f) (right_from u f) between away.left away.right) (subst (λ s. IsOn s r) is on)
+                  )
+              | inr free ↦ (side_points_clear f e hf (range e has) (ends e free)).none r (between_sides r between) on
+            ]
 
-  -- past ab
-  pub past_first : IsPastSide t edges (right_from t.a ac) (right_from t.a ab)
-  past_first =
-      let a_deep = deep t.b t.c t.a t.b ab rb rc sides.two.first (let x = depth-a t in let y = left-first t.b t.c in omega (arith, lin)) in
-      let b_deep = deep t.c t.a t.a t.b ab rc ra sides.two.first (let x = depth-b t in let y = left-second t.c t.a in omega (arith, lin)) in
-      past t.a t.b ab sides.two.first sides.two.first_in_range
-      (within_by_depths (left_from t.a ab) a_deep.left b_deep.left (aside t.a t.b ab sides.two.first sides.two.first_in_range).left)
-      b_deep (λ x inside. (within-inside t x (le_of_lt positive) inside).third)
-      (λ e free r common. (let ends = free.first r (common.1, common.0) in (ends.1, ends.0)))
+    -- past ab
+    pub past_first : IsPastSide t edges (right_from t.a ac) (right_from t.a ab)
+    past_first =
+        let a_deep = deep t.b t.c t.a t.b ab rb rc sides.two.first (let x = depth-a t in let y = left-first t.b t.c in omega (arith, lin)) in
+        let b_deep = deep t.c t.a t.a t.b ab rc ra sides.two.first (let x = depth-b t in let y = left-second t.c t.a in omega (arith, lin)) in
+        past t.a t.b ab sides.two.first sides.two.first_in_range
+        (within_by_depths (left_from t.a ab) a_deep.left b_deep.left (aside t.a t.b ab sides.two.first sides.two.first_in_range).left)
+        b_deep (λ x inside. (within-inside t x (le_of_lt positive) inside).third)
+        (λ e free r common. (let ends = free.first r (common.1, common.0) in (ends.1, ends.0)))
 
-  -- past bc
-  pub past_second : IsPastSide t edges (right_from t.a ac) (right_from t.b bc)
-  past_second =
-      let c_deep = deep t.a t.b t.b t.c bc ra rb sides.two.second (let x = depth-c t in let y = left-second t.a t.b in omega (arith, lin)) in
-      let b_deep = deep t.c t.a t.b t.c bc rc ra sides.two.second (let x = depth-b t in let y = left-first t.c t.a in omega (arith, lin)) in
-      past t.b t.c bc sides.two.second sides.two.second_in_range
-      (within_by_depths (left_from t.b bc) (aside t.b t.c bc sides.two.second sides.two.second_in_range).left b_deep.left c_deep.left)
-      b_deep (λ x inside. (within-inside t x (le_of_lt positive) inside).first)
-      (λ e free r common. (let ends = free.second r (common.1, common.0) in (ends.1, ends.0)))
+    -- past bc
+    pub past_second : IsPastSide t edges (right_from t.a ac) (right_from t.b bc)
+    past_second =
+        let c_deep = deep t.a t.b t.b t.c bc ra rb sides.two.second (let x = depth-c t in let y = left-second t.a t.b in omega (arith, lin)) in
+        let b_deep = deep t.c t.a t.b t.c bc rc ra sides.two.second (let x = depth-b t in let y = left-first t.c t.a in omega (arith, lin)) in
+        past t.b t.c bc sides.two.second sides.two.second_in_range
+        (within_by_depths (left_from t.b bc) (aside t.b t.c bc sides.two.second sides.two.second_in_range).left b_deep.left c_deep.left)
+        b_deep (λ x inside. (within-inside t x (le_of_lt positive) inside).first)
+        (λ e free r common. (let ends = free.second r (common.1, common.0) in (ends.1, ends.0)))

@@ -1,45 +1,42 @@
 -- A removal keeps the members beside: those of ab are those of ac, and any other segment keeps its own.
-use mathlib.Core.List.{[], ◌∷◌}
-use Rattle.std.proofs.Common.{◌≡◌, ◌≢◌, ◌⊎◌, inl, inr, refl, sym, ◌∙◌, ap, subst, ℕ, ◌^◌, ◌%◌, ◌==◌, ◌&&◌, ◌↔◌, Bool, true, false, cond, List, map, ℤ, pos, neg_ℤ, ◌<ℤ◌, ◌≤ℤ◌, arith}
-use Rattle.std.specs.Prelude.{Contains, sum_by}
+use Rattle.std.proofs.Common.{◌≡◌, ◌⊎◌, inl, inr, refl, sym, ◌∙◌, ap, subst, ℕ, ◌%◌, ◌==◌, ◌&&◌, ◌↔◌, Bool, true, false, cond, List, map, pos, ◌<ℤ◌, ◌≤ℤ◌, arith}
+use Rattle.std.specs.Prelude.{Contains}
 use Rattle.std.proofs.lemmas.Bool.{false≢true}
-use Rattle.integer_laws.proofs.Compare.{trichotomy, le_of_lt, lt_excludes_eq}
-use Rattle.integer_laws.proofs.Ring.{lin, mul_one, one_mul}
+use Rattle.integer_laws.proofs.Compare.{trichotomy, lt_excludes_eq}
+use Rattle.integer_laws.proofs.Ring.{lin, mul_one}
 use Rattle.cov_types.specs.declared.coord.Coord.{Coord}
 use Rattle.cov_types.specs.declared.edge_use.EdgeUse.{EdgeUse}
 use Rattle.cov_types.specs.declared.seg.Seg.{Seg}
 use Rattle.cov_types.specs.Range.{IsSegInRange}
 use Rattle.cov_types.specs.Seg.{IsSegBetween}
 use Rattle.cov_types.proofs.Equal.{Decides-same_segs}
-use Rattle.plane.specs.Contact.{IsCommon}
 use Rattle.plane.specs.Noded.{MeetInEnds}
 use Rattle.plane.specs.Joined.{Joined}
 use Rattle.plane.specs.Parity.{member_holds}
-use Rattle.plane.specs.Point.{Point, at_coord, IsBetween}
+use Rattle.plane.specs.Point.{Point, at_coord}
 use Rattle.plane.specs.Ray.{sweep}
-use Rattle.plane.specs.Segment.{IsOn, IsEnd, midpoint, upper, lower}
+use Rattle.plane.specs.Segment.{IsOn, upper, lower}
 use Rattle.plane.specs.Validity.{IsValid}
-use Rattle.plane.proofs.Points.{between-sym, first_between, second_between}
+use Rattle.plane.proofs.Points.{first_between, second_between}
 use Rattle.plane.proofs.Sides.{side_zero-on}
 use Rattle.plane.proofs.Sweeps.{rises-in_range, on-is}
 use Rattle.crossing_laws.specs.Across.{AllMeetInEnds, is_same_seg, member_times}
-use Rattle.crossing_laws.proofs.Beside.{HaveOnlyEnds, side_points_clear}
 use Rattle.crossing_laws.proofs.Changes.{member_holds-across}
 use Rattle.crossing_laws.proofs.Lists.{contains-map}
 use Rattle.crossing_laws.proofs.Sums.{member_holds-joined}
 use Rattle.arrangement.proofs.Labels.{mapped}
 use Rattle.greedy_run.specs.Run.{Triangle}
 use Rattle.greedy_run.specs.Sides.{left_from, right_from}
-use Rattle.removal_laws.specs.Ear.{IsWithin, AreThreeSides, MeetsInEndsAlone, IsFreeOf, IsOther}
-use Rattle.removal_laws.specs.Exchange.{IsEar, IsExchange, value_after}
+use Rattle.removal_laws.specs.Ear.{IsWithin, MeetsInEndsAlone, IsOther}
+use Rattle.removal_laws.specs.Exchange.{IsEar, value_after}
 use Rattle.removal_laws.specs.Laws.{IsRemoval}
 use Rattle.removal_laws.proofs.Counts.{counts_use}
 use Rattle.removal_laws.proofs.Ear.{within_first, between_ends, ear}
-use Rattle.removal_laws.proofs.Exchange.{IsFirst, IsSecond, IsThird, kind, first_adds, second_adds, third_adds, third_not_ac, first_not_second, apart, new_other, new_ends, holders_kept, not_seg, none_counts, seg_is}
+use Rattle.removal_laws.proofs.Exchange.{kind, first_adds, second_adds, third_adds, third_not_ac, apart, new_other, holders_kept, not_seg, none_counts}
 use Rattle.removal_laws.proofs.Inner.{three-mirror, free_of-mirror, flat_third}
 use Rattle.removal_laws.proofs.Inside.{area}
 use Rattle.removal_laws.proofs.Pasch.{mirror, area-mirror, within-mirror}
-use Rattle.kept_lines_laws.proofs.Bent.{left_turned, AreBeside, beside_lo, beside_hi, beside_or, past_first, past_second, IsPastSide}
+use Rattle.kept_lines_laws.proofs.Bent.{left_turned, beside_lo, beside_hi, beside_or, past_first, past_second}
 use Rattle.kept_lines_laws.proofs.Nested.{nested_joined, upper_above}
 use Rattle.kept_lines_laws.proofs.Sums.{sums_same}
 
@@ -114,10 +111,13 @@ module _ (t : Triangle) (ab bc ac : Seg) (old new : List EdgeUse) (removal : IsR
           ]
 
   meets_new : AllMeetInEnds ac edges
-  meets_new e has = (ranged e has, elim (others e has) [
-    | inl is ↦ inl (sym is)
-    | inr free ↦ inr (λ r common. (let ends = ear t ab bc ac is_ear.sides.two is_ear.sides.third e free r (common.1, common.0) in (ends.1, ends.0)))
-  ])
+  meets_new e has = (
+    ranged e has,
+    elim (others e has) [
+      | inl is ↦ inl (sym is)
+      | inr free ↦ inr (λ r common. (let ends = ear t ab bc ac is_ear.sides.two is_ear.sides.third e free r (common.1, common.0) in (ends.1, ends.0)))
+    ],
+  )
 
   meets_old : AllMeetInEnds ab (map (λ (u : EdgeUse). u.seg) old)
   meets_old = mapped (λ (u : EdgeUse). u.seg) (λ e. IsSegInRange e × MeetInEnds ab e) old (λ u has. (removal.in_range u has, valid.ends (record { member = is_ear.one; seg = ab }) u is_ear.has_first has))
@@ -195,9 +195,9 @@ module _ (t : Triangle) (ab bc ac : Seg) (old new : List EdgeUse) (removal : IsR
         (λ g has. elim (others g has) [
           | inl is ↦ inl is
           | inr free ↦ inr (
-              (λ r common. (let ends = ear t ab bc ac is_ear.sides.two is_ear.sides.third g free r (common.1, common.0) in (ends.1, ends.0))),
-              (λ r common. (let ends = free.first r (common.1, common.0) in (ends.1, ends.0))),
-            )
+            (λ r common. (let ends = ear t ab bc ac is_ear.sides.two is_ear.sides.third g free r (common.1, common.0) in (ends.1, ends.0))),
+            (λ r common. (let ends = free.first r (common.1, common.0) in (ends.1, ends.0))),
+          )
         ]) in
         sym (held_alike (upper ab) (upper ac) nested i)
         ∙ kept_outside (upper ab)

@@ -1,6 +1,6 @@
 -- The current segments before and after a removable point: its two segments give way to one.
 use mathlib.Core.List.{[], ◌∷◌}
-use Rattle.std.proofs.Common.{◌≡◌, ◌≢◌, ◌⊎◌, inl, inr, refl, sym, ◌∙◌, ap, subst, ℕ, ◌+◌, ◌<◌, Bool, true, false, not, ◌||◌, cond, List, ◌++◌, zip, length, get_or, IsTrue, Ordering, arith}
+use Rattle.std.proofs.Common.{◌≡◌, ◌≢◌, inl, inr, refl, sym, ◌∙◌, ap, subst, ℕ, ◌+◌, ◌<◌, Bool, false, not, ◌||◌, cond, List, ◌++◌, zip, get_or, IsTrue, Ordering, arith}
 use Rattle.std.specs.Prelude.{Contains, sum_by, option_to_list, Some, slice_get, option_and_then}
 use Rattle.std.specs.declared.cmp.Ordering.TheVariants.{Less, Equal, Greater}
 use Rattle.std.specs.Ordering.{is_lt, ordering_reverse}
@@ -12,15 +12,14 @@ use Rattle.std.proofs.lemmas.List.Sums.{sum_by-append, sum_by-cons}
 use Rattle.std.proofs.lemmas.Option.{slice_get_within, slice_get-get_or, get_or_from_slice_get}
 use Rattle.cov_types.specs.declared.coord.Coord.{Coord}
 use Rattle.cov_types.specs.declared.seg.Seg.{Seg}
-use Rattle.cov_types.specs.Coord.{is_same_coord, points_cmp}
+use Rattle.cov_types.specs.Coord.{points_cmp}
 use Rattle.cov_types.specs.Seg.{IsSegBetween}
 use Rattle.cov_types.specs.Uses.{seg_between}
 use Rattle.cov_types.proofs.Equal.{Decides-same_coords}
 use Rattle.plane.specs.Snapping.{chain_edges}
 use Rattle.arrangement.proofs.LiveOverlays.{kept_is}
 use Rattle.arrangement.proofs.PointOrders.{points_total}
-use Rattle.greedy_run.specs.Laws.{IsOnePlace}
-use Rattle.greedy_run.specs.Lines.{IsLine, PathsAscend}
+use Rattle.greedy_run.specs.Lines.{PathsAscend}
 use Rattle.greedy_run.specs.Run.{Simplification, Spot, IsRemovable, is_removed, current, current_edges}
 use Rattle.greedy_run.proofs.NoNodes.{no_node}
 use Rattle.greedy_run.proofs.OneLine.{chain_first, one_place}

@@ -9,3 +9,4 @@ pub mod Beside
 pub mod Others
 pub mod LineSides
 pub mod Along
+pub mod Kept

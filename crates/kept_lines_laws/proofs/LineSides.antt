@@ -1,7 +1,7 @@
 -- The members beside the first segment of a line are the same in each state of the run.
 use mathlib.Core.List.{[], ◌∷◌}
-use Rattle.std.proofs.Common.{◌≡◌, ◌≢◌, ◌⊎◌, inl, inr, refl, sym, ◌∙◌, ap, subst, zero, suc, ℕ, ◌||◌, Bool, true, false, not, cond, List, ◌++◌, length, arith}
-use Rattle.std.specs.Prelude.{Contains, All, Option, Some, slice_get, option_map, option_and_then, filter}
+use Rattle.std.proofs.Common.{◌≡◌, ◌≢◌, inl, inr, refl, sym, ◌∙◌, ap, subst, ℕ, ◌||◌, Bool, false, not, cond, List, ◌++◌, arith}
+use Rattle.std.specs.Prelude.{Contains, Some, slice_get, option_map, option_and_then, filter}
 use Rattle.std.proofs.lemmas.Bool.{false≢true}
 use Rattle.std.proofs.lemmas.List.Elements.{All-head, All-contains}
 use Rattle.cov_types.specs.declared.coord.Coord.{Coord}
@@ -22,14 +22,13 @@ use Rattle.plane.specs.Segment.{upper, lower}
 use Rattle.plane.specs.Snapping.{chain_edges}
 use Rattle.plane.specs.Validity.{IsValid}
 use Rattle.crossing_laws.proofs.Lists.{contains_here, contains_there}
-use Rattle.greedy_run.specs.Lines.{steps, IsAlongEdge, IsPathAlong, IsNode, IsLine}
-use Rattle.greedy_run.specs.Run.{Simplification, Spot, IsRemovable, is_removed, current, current_edges, IsRunState, coverage_without, IsSimplificationOf}
+use Rattle.greedy_run.specs.Lines.{steps, IsAlongEdge, IsNode, IsLine}
+use Rattle.greedy_run.specs.Run.{Simplification, Spot, IsRemovable, current, current_edges, IsRunState, coverage_without, IsSimplificationOf}
 use Rattle.greedy_run.specs.Sides.{holder, left_from, right_from, beside_first, left_member, right_member}
 use Rattle.greedy_run.proofs.NoNodes.{no_node}
 use Rattle.greedy_run.proofs.OneLine.{chain_first}
 use Rattle.greedy_run.proofs.Threads.{one_seg}
-use Rattle.removal_laws.specs.Ear.{IsFreeOf, MeetsInEndsAlone}
-use Rattle.removal_laws.specs.Exchange.{IsEar, IsExchange}
+use Rattle.removal_laws.specs.Ear.{IsFreeOf}
 use Rattle.removal_laws.specs.Laws.{IsSoundState, HasEar, IsRemoval}
 use Rattle.removal_laws.proofs.Bridge.{to_flat_map}
 use Rattle.removal_laws.proofs.Chains.{StandsOnce}
@@ -38,7 +37,7 @@ use Rattle.removal_laws.proofs.Members.{coverage_exchange}
 use Rattle.removal_laws.proofs.Removable.{ear_of, use_of}
 use Rattle.removal_laws.proofs.RunStates.{state_range, run_sound}
 use Rattle.removal_laws.proofs.Steps.{coverage_without_more, current_more}
-use Rattle.kept_lines_laws.proofs.Beside.{AreHeldAlike, sides_kept}
+use Rattle.kept_lines_laws.proofs.Beside.{sides_kept}
 use Rattle.kept_lines_laws.proofs.Bent.{beside_or}
 use Rattle.kept_lines_laws.proofs.Exchanged.{points, one_line, once, without_b}
 use Rattle.kept_lines_laws.proofs.Others.{upper_out, lower_out}
@@ -139,103 +138,103 @@ pub record IsFirstHeld (s : Simplification) (members : Members) (removed l : Lis
 module _ (s : Simplification) (members : Members) (removed : List Coord) (sound : IsSoundState s members removed) (spot : Spot) (h : IsRemovable s removed spot)
     (l : List Coord) (in_lines : Contains s.lines l) (left right : ℕ → Bool) (held : IsFirstHeld s members removed l left right)
   where
-  abbrev e_ear : HasEar h.t (uses_of (coverage_without removed members))
-  e_ear = ear_of s members removed sound spot h
+    abbrev e_ear : HasEar h.t (uses_of (coverage_without removed members))
+    e_ear = ear_of s members removed sound spot h
 
-  state_same : coverage_without (h.t.b ∷ removed) members ≡ coverage_without (h.t.b ∷ []) (coverage_without removed members)
-  state_same = same s members removed sound spot h
+    state_same : coverage_without (h.t.b ∷ removed) members ≡ coverage_without (h.t.b ∷ []) (coverage_without removed members)
+    state_same = same s members removed sound spot h
 
-  a_off : held.a ≢ h.t.b
-  a_off is = no_node s removed spot h (subst (IsNode s.edges) is held.node)
+    a_off : held.a ≢ h.t.b
+    a_off is = no_node s removed spot h (subst (IsNode s.edges) is held.node)
 
-  off_test : (p : Coord) → p ≢ h.t.b → is_same_coord p h.t.b ≡ false
-  off_test p apart = elim (coord_cases p h.t.b) [ inl is_b ↦ absurd (apart ((Decides-same_coords p h.t.b).0 is_b)) | inr other ↦ other ]
+    off_test : (p : Coord) → p ≢ h.t.b → is_same_coord p h.t.b ≡ false
+    off_test p apart = elim (coord_cases p h.t.b) [ inl is_b ↦ absurd (apart ((Decides-same_coords p h.t.b).0 is_b)) | inr other ↦ other ]
 
-  kept_cons : (p : Coord) (ps : List Coord) → p ≢ h.t.b → current (h.t.b ∷ []) (p ∷ ps) ≡ p ∷ current (h.t.b ∷ []) ps
-  kept_cons p ps apart = ap (λ (t : Bool). cond (not (t || false)) (p ∷ current (h.t.b ∷ []) ps) (current (h.t.b ∷ []) ps)) (off_test p apart)
+    kept_cons : (p : Coord) (ps : List Coord) → p ≢ h.t.b → current (h.t.b ∷ []) (p ∷ ps) ≡ p ∷ current (h.t.b ∷ []) ps
+    kept_cons p ps apart = ap (λ (t : Bool). cond (not (t || false)) (p ∷ current (h.t.b ∷ []) ps) (current (h.t.b ∷ []) ps)) (off_test p apart)
 
-  -- the second point stays
-  stays : held.y ≢ h.t.b → IsFirstHeld s members (h.t.b ∷ removed) l left right
-  stays y_off =
-      let in_chain : Contains (chain_edges (current removed l)) held.e =
-      subst (λ m. Contains (chain_edges m) held.e) (sym held.is) (subst (λ es. Contains es held.e) (sym (chain_first held.a held.y held.rest held.e held.along)) (contains_here held.e (chain_edges (held.y ∷ held.rest)))) in
-      let now = to_flat_map (λ m. chain_edges (current removed m)) s.lines l held.e in_lines in_chain in
-      let kept = others_kept s members removed sound spot h held.e now held.a held.y held.along a_off y_off in
-      record {
-        a = held.a;
-        y = held.y;
-        rest = current (h.t.b ∷ []) held.rest;
-        e = held.e;
-        is = current_more h.t.b removed l ∙ ap (current (h.t.b ∷ [])) held.is ∙ kept_cons held.a (held.y ∷ held.rest) a_off ∙ ap (λ m. held.a ∷ m) (kept_cons held.y held.rest y_off);
-        along = held.along;
-        node = held.node;
-        on_left = λ i. ap (λ (c : Members). member_holds (uses_of c) i (left_from held.a held.e)) state_same ∙ (kept i).0 ∙ held.on_left i;
-        on_right = λ i. ap (λ (c : Members). member_holds (uses_of c) i (right_from held.a held.e)) state_same ∙ (kept i).1 ∙ held.on_right i;
-      }
+    -- the second point stays
+    stays : held.y ≢ h.t.b → IsFirstHeld s members (h.t.b ∷ removed) l left right
+    stays y_off =
+        let in_chain : Contains (chain_edges (current removed l)) held.e =
+        subst (λ m. Contains (chain_edges m) held.e) (sym held.is) (subst (λ es. Contains es held.e) (sym (chain_first held.a held.y held.rest held.e held.along)) (contains_here held.e (chain_edges (held.y ∷ held.rest)))) in
+        let now = to_flat_map (λ m. chain_edges (current removed m)) s.lines l held.e in_lines in_chain in
+        let kept = others_kept s members removed sound spot h held.e now held.a held.y held.along a_off y_off in
+        record {
+          a = held.a;
+          y = held.y;
+          rest = current (h.t.b ∷ []) held.rest;
+          e = held.e;
+          is = current_more h.t.b removed l ∙ ap (current (h.t.b ∷ [])) held.is ∙ kept_cons held.a (held.y ∷ held.rest) a_off ∙ ap (λ m. held.a ∷ m) (kept_cons held.y held.rest y_off);
+          along = held.along;
+          node = held.node;
+          on_left = λ i. ap (λ (c : Members). member_holds (uses_of c) i (left_from held.a held.e)) state_same ∙ (kept i).0 ∙ held.on_left i;
+          on_right = λ i. ap (λ (c : Members). member_holds (uses_of c) i (right_from held.a held.e)) state_same ∙ (kept i).1 ∙ held.on_right i;
+        }
 
-  -- the second point is b: the segment gives way to ac
-  record IsHead (ys : List Coord) : Type 0 where
-    a_is : held.a ≡ h.t.a
-    goes : current (h.t.b ∷ []) (current removed l) ≡ h.t.a ∷ h.t.c ∷ ys
+    -- the second point is b: the segment gives way to ac
+    record IsHead (ys : List Coord) : Type 0 where
+      a_is : held.a ≡ h.t.a
+      goes : current (h.t.b ∷ []) (current removed l) ≡ h.t.a ∷ h.t.c ∷ ys
 
-  second_of : (x y : Coord) (rest : List Coord) (z w : Coord) (more : List Coord) → x ∷ y ∷ rest ≡ z ∷ w ∷ more → (x ≡ z) × (y ≡ w)
-  second_of x y rest z w more e = (cc, cc)
+    second_of : (x y : Coord) (rest : List Coord) (z w : Coord) (more : List Coord) → x ∷ y ∷ rest ≡ z ∷ w ∷ more → (x ≡ z) × (y ≡ w)
+    second_of x y rest z w more e = (cc, cc)
 
-  head : held.y ≡ h.t.b → (ys : List Coord) × IsHead ys
-  head y_is = by it.xs refl
-    where
-      has_b : Contains (current removed l) h.t.b
-      has_b = subst (λ m. Contains m h.t.b) (sym held.is) (subst (Contains (held.a ∷ held.y ∷ held.rest)) y_is (contains_there held.a held.y (held.y ∷ held.rest) (contains_here held.y held.rest)))
+    head : held.y ≡ h.t.b → (ys : List Coord) × IsHead ys
+    head y_is = by it.xs refl
+      where
+        has_b : Contains (current removed l) h.t.b
+        has_b = subst (λ m. Contains m h.t.b) (sym held.is) (subst (Contains (held.a ∷ held.y ∷ held.rest)) y_is (contains_there held.a held.y (held.y ∷ held.rest) (contains_here held.y held.rest)))
 
-      is_points : l ≡ points s removed spot h
-      is_points = one_line s removed spot h l in_lines has_b
+        is_points : l ≡ points s removed spot h
+        is_points = one_line s removed spot h l in_lines has_b
 
-      it : StandsOnce h.t.b (current removed (points s removed spot h)) h.t.a h.t.c
-      it = once s removed spot h
+        it : StandsOnce h.t.b (current removed (points s removed spot h)) h.t.a h.t.c
+        it = once s removed spot h
 
-      begins : held.a ∷ held.y ∷ held.rest ≡ (it.xs ++ h.t.a ∷ []) ++ h.t.b ∷ h.t.c ∷ it.ys
-      begins = sym held.is ∙ ap (current removed) is_points ∙ it.is
+        begins : held.a ∷ held.y ∷ held.rest ≡ (it.xs ++ h.t.a ∷ []) ++ h.t.b ∷ h.t.c ∷ it.ys
+        begins = sym held.is ∙ ap (current removed) is_points ∙ it.is
 
-      ends : current (h.t.b ∷ []) (current removed l) ≡ (it.xs ++ h.t.a ∷ []) ++ h.t.c ∷ it.ys
-      ends = ap (λ m. current (h.t.b ∷ []) (current removed m)) is_points ∙ without_b h.t.b (current removed (points s removed spot h)) h.t.a h.t.c it
+        ends : current (h.t.b ∷ []) (current removed l) ≡ (it.xs ++ h.t.a ∷ []) ++ h.t.c ∷ it.ys
+        ends = ap (λ m. current (h.t.b ∷ []) (current removed m)) is_points ∙ without_b h.t.b (current removed (points s removed spot h)) h.t.a h.t.c it
 
-      by : (xs : List Coord) → it.xs ≡ xs → (ys : List Coord) × IsHead ys
-      by [] is =
-          let both = second_of held.a held.y held.rest h.t.a h.t.b (h.t.c ∷ it.ys) (begins ∙ ap (λ m. (m ++ h.t.a ∷ []) ++ h.t.b ∷ h.t.c ∷ it.ys) is) in
-          (it.ys, record { a_is = both.0; goes = ends ∙ ap (λ m. (m ++ h.t.a ∷ []) ++ h.t.c ∷ it.ys) is })
-      by (x ∷ []) is =
-          let both = second_of held.a held.y held.rest x h.t.a (h.t.b ∷ h.t.c ∷ it.ys) (begins ∙ ap (λ m. (m ++ h.t.a ∷ []) ++ h.t.b ∷ h.t.c ∷ it.ys) is) in
-          absurd (it.not_before (subst (λ m. Contains (m ++ h.t.a ∷ []) h.t.b) (sym is) (subst (Contains (x ∷ h.t.a ∷ [])) (sym both.1 ∙ y_is) (contains_there x h.t.a (h.t.a ∷ []) (contains_here h.t.a [])))))
-      by (x ∷ z ∷ zs) is =
-          let both = second_of held.a held.y held.rest x z ((zs ++ h.t.a ∷ []) ++ h.t.b ∷ h.t.c ∷ it.ys) (begins ∙ ap (λ m. (m ++ h.t.a ∷ []) ++ h.t.b ∷ h.t.c ∷ it.ys) is) in
-          absurd (it.not_before (subst (λ m. Contains (m ++ h.t.a ∷ []) h.t.b) (sym is) (subst (Contains (x ∷ z ∷ zs ++ h.t.a ∷ [])) (sym both.1 ∙ y_is) (contains_there x z (z ∷ zs ++ h.t.a ∷ []) (contains_here z (zs ++ h.t.a ∷ []))))))
+        by : (xs : List Coord) → it.xs ≡ xs → (ys : List Coord) × IsHead ys
+        by [] is =
+            let both = second_of held.a held.y held.rest h.t.a h.t.b (h.t.c ∷ it.ys) (begins ∙ ap (λ m. (m ++ h.t.a ∷ []) ++ h.t.b ∷ h.t.c ∷ it.ys) is) in
+            (it.ys, record { a_is = both.0; goes = ends ∙ ap (λ m. (m ++ h.t.a ∷ []) ++ h.t.c ∷ it.ys) is })
+        by (x ∷ []) is =
+            let both = second_of held.a held.y held.rest x h.t.a (h.t.b ∷ h.t.c ∷ it.ys) (begins ∙ ap (λ m. (m ++ h.t.a ∷ []) ++ h.t.b ∷ h.t.c ∷ it.ys) is) in
+            absurd (it.not_before (subst (λ m. Contains (m ++ h.t.a ∷ []) h.t.b) (sym is) (subst (Contains (x ∷ h.t.a ∷ [])) (sym both.1 ∙ y_is) (contains_there x h.t.a (h.t.a ∷ []) (contains_here h.t.a [])))))
+        by (x ∷ z ∷ zs) is =
+            let both = second_of held.a held.y held.rest x z ((zs ++ h.t.a ∷ []) ++ h.t.b ∷ h.t.c ∷ it.ys) (begins ∙ ap (λ m. (m ++ h.t.a ∷ []) ++ h.t.b ∷ h.t.c ∷ it.ys) is) in
+            absurd (it.not_before (subst (λ m. Contains (m ++ h.t.a ∷ []) h.t.b) (sym is) (subst (Contains (x ∷ z ∷ zs ++ h.t.a ∷ [])) (sym both.1 ∙ y_is) (contains_there x z (z ∷ zs ++ h.t.a ∷ []) (contains_here z (zs ++ h.t.a ∷ []))))))
 
-  goes : held.y ≡ h.t.b → IsFirstHeld s members (h.t.b ∷ removed) l left right
-  goes y_is =
-      let (ys, at) = head y_is in
-      let kept = sides_kept h.t e_ear.ab e_ear.bc e_ear.ac (old s members removed sound spot h) (new s members removed sound spot h) (removal s members removed sound spot h) sound.valid (new_range s members removed sound spot h) in
-      let e_is : held.e ≡ e_ear.ab = one_seg h.t.a h.t.b held.e e_ear.ab (subst (λ p. IsSegBetween p h.t.b held.e) at.a_is (subst (λ q. IsSegBetween held.a q held.e) y_is held.along)) e_ear.is_ear.sides.two.first in
-      record {
-        a = h.t.a;
-        y = h.t.c;
-        rest = ys;
-        e = e_ear.ac;
-        is = current_more h.t.b removed l ∙ at.goes;
-        along = e_ear.is_ear.sides.third;
-        node = subst (IsNode s.edges) at.a_is held.node;
-        on_left = λ i.
-            ap (λ (c : Members). member_holds (uses_of c) i (left_from h.t.a e_ear.ac)) state_same ∙ (kept i).left
-            ∙ (λ j. member_holds (uses_of (coverage_without removed members)) i (left_from (sym at.a_is j) (sym e_is j))) ∙ held.on_left i;
-        on_right = λ i.
-            ap (λ (c : Members). member_holds (uses_of c) i (right_from h.t.a e_ear.ac)) state_same ∙ (kept i).right
-            ∙ (λ j. member_holds (uses_of (coverage_without removed members)) i (right_from (sym at.a_is j) (sym e_is j))) ∙ held.on_right i;
-      }
+    goes : held.y ≡ h.t.b → IsFirstHeld s members (h.t.b ∷ removed) l left right
+    goes y_is =
+        let (ys, at) = head y_is in
+        let kept = sides_kept h.t e_ear.ab e_ear.bc e_ear.ac (old s members removed sound spot h) (new s members removed sound spot h) (removal s members removed sound spot h) sound.valid (new_range s members removed sound spot h) in
+        let e_is : held.e ≡ e_ear.ab = one_seg h.t.a h.t.b held.e e_ear.ab (subst (λ p. IsSegBetween p h.t.b held.e) at.a_is (subst (λ q. IsSegBetween held.a q held.e) y_is held.along)) e_ear.is_ear.sides.two.first in
+        record {
+          a = h.t.a;
+          y = h.t.c;
+          rest = ys;
+          e = e_ear.ac;
+          is = current_more h.t.b removed l ∙ at.goes;
+          along = e_ear.is_ear.sides.third;
+          node = subst (IsNode s.edges) at.a_is held.node;
+          on_left = λ i.
+              ap (λ (c : Members). member_holds (uses_of c) i (left_from h.t.a e_ear.ac)) state_same ∙ (kept i).left
+              ∙ (λ j. member_holds (uses_of (coverage_without removed members)) i (left_from (sym at.a_is j) (sym e_is j))) ∙ held.on_left i;
+          on_right = λ i.
+              ap (λ (c : Members). member_holds (uses_of c) i (right_from h.t.a e_ear.ac)) state_same ∙ (kept i).right
+              ∙ (λ j. member_holds (uses_of (coverage_without removed members)) i (right_from (sym at.a_is j) (sym e_is j))) ∙ held.on_right i;
+        }
 
-  pub next_held : IsFirstHeld s members (h.t.b ∷ removed) l left right
-  next_held = elim (coord_cases held.y h.t.b) [
-    | inl is_b ↦ goes ((Decides-same_coords held.y h.t.b).0 is_b)
-    | inr other ↦ stays (λ is. false≢true (sym other ∙ (Decides-same_coords held.y h.t.b).1 is))
-  ]
+    pub next_held : IsFirstHeld s members (h.t.b ∷ removed) l left right
+    next_held = elim (coord_cases held.y h.t.b) [
+      | inl is_b ↦ goes ((Decides-same_coords held.y h.t.b).0 is_b)
+      | inr other ↦ stays (λ is. false≢true (sym other ∙ (Decides-same_coords held.y h.t.b).1 is))
+    ]
 
 -- ---- each state of the run
 
@@ -245,60 +244,60 @@ some_is p q h = cc
 module _ (members : Members) (tolerance : ℕ) (inner_only : Bool) (s : Simplification) (of : IsSimplificationOf members tolerance inner_only s)
     (range : AllInRange members) (valid : IsValid (uses_of members)) (l : List Coord) (in_lines : Contains s.lines l)
   where
-  -- the line itself, as its first two points and the others
-  record HasFirstTwo (points : List Coord) : Type 0 where
-    a : Coord
-    y : Coord
-    rest : List Coord
-    e : Seg
-    is : points ≡ a ∷ y ∷ rest
-    along : IsSegBetween a y e
-    node : IsNode s.edges a
+    -- the line itself, as its first two points and the others
+    record HasFirstTwo (points : List Coord) : Type 0 where
+      a : Coord
+      y : Coord
+      rest : List Coord
+      e : Seg
+      is : points ≡ a ∷ y ∷ rest
+      along : IsSegBetween a y e
+      node : IsNode s.edges a
 
-  first_two : (points : List Coord) → IsLine s.edges points → HasFirstTwo points
-  first_two [] line = absurd (let long = line.long in omega arith)
-  first_two (a ∷ []) line = absurd (let long = line.long in omega arith)
-  first_two (a ∷ y ∷ rest) line =
-      let (e, along) = All-head (IsAlongEdge s.edges) (a, y) (steps (y ∷ rest)) line.walk in
-      record { a = a; y = y; rest = rest; e = e; is = refl; along = along.1; node = line.from a refl }
+    first_two : (points : List Coord) → IsLine s.edges points → HasFirstTwo points
+    first_two [] line = absurd (let long = line.long in omega arith)
+    first_two (a ∷ []) line = absurd (let long = line.long in omega arith)
+    first_two (a ∷ y ∷ rest) line =
+        let (e, along) = All-head (IsAlongEdge s.edges) (a, y) (steps (y ∷ rest)) line.walk in
+        record { a = a; y = y; rest = rest; e = e; is = refl; along = along.1; node = line.from a refl }
 
-  two : HasFirstTwo l
-  two = first_two l ((s.are_lines.exact l).0 in_lines)
+    two : HasFirstTwo l
+    two = first_two l ((s.are_lines.exact l).0 in_lines)
 
-  abbrev on_left : ℕ → Bool
-  on_left i = member_holds (uses_of (coverage_without [] members)) i (left_from two.a two.e)
+    abbrev on_left : ℕ → Bool
+    on_left i = member_holds (uses_of (coverage_without [] members)) i (left_from two.a two.e)
 
-  abbrev on_right : ℕ → Bool
-  on_right i = member_holds (uses_of (coverage_without [] members)) i (right_from two.a two.e)
+    abbrev on_right : ℕ → Bool
+    on_right i = member_holds (uses_of (coverage_without [] members)) i (right_from two.a two.e)
 
-  run_held : (removed : List Coord) → IsRunState s removed → IsFirstHeld s members removed l on_left on_right
-  run_held [] run = record { a = two.a; y = two.y; rest = two.rest; e = two.e; is = all_kept l ∙ two.is; along = two.along; node = two.node; on_left = λ i. refl; on_right = λ i. refl }
-  run_held (b ∷ removed) run =
-      let sound = run_sound members tolerance inner_only s of range valid removed run.0 in
-      let held = run_held removed run.0 in
-      let it = run.1 in
-      let same_point = some_is it.removable.t.b b (sym it.removable.triangle.here ∙ it.is) in
-      subst (λ (p : Coord). IsFirstHeld s members (p ∷ removed) l on_left on_right) same_point (next_held s members removed sound it.spot it.removable l in_lines on_left on_right held)
+    run_held : (removed : List Coord) → IsRunState s removed → IsFirstHeld s members removed l on_left on_right
+    run_held [] run = record { a = two.a; y = two.y; rest = two.rest; e = two.e; is = all_kept l ∙ two.is; along = two.along; node = two.node; on_left = λ i. refl; on_right = λ i. refl }
+    run_held (b ∷ removed) run =
+        let sound = run_sound members tolerance inner_only s of range valid removed run.0 in
+        let held = run_held removed run.0 in
+        let it = run.1 in
+        let same_point = some_is it.removable.t.b b (sym it.removable.triangle.here ∙ it.is) in
+        subst (λ (p : Coord). IsFirstHeld s members (p ∷ removed) l on_left on_right) same_point (next_held s members removed sound it.spot it.removable l in_lines on_left on_right held)
 
-  -- the members beside what is left of the line are those beside it in the input
-  pub left_kept : (n : ℕ) (removed : List Coord) → IsRunState s removed → left_member (uses_of (coverage_without removed members)) n (current removed l) ≡ left_member (uses_of (coverage_without [] members)) n l
-  left_kept n removed run =
-      let held = run_held removed run in
-      let uses = uses_of (coverage_without removed members) in
-      let first = uses_of (coverage_without [] members) in
-      ap (λ m. option_and_then (holder uses n) (beside_first left_from m)) held.is
-      ∙ ap (option_and_then (holder uses n)) (first_side left_from held.a held.y held.rest held.e held.along)
-      ∙ holder_alike uses first n (left_from held.a held.e) (left_from two.a two.e) held.on_left
-      ∙ sym (ap (option_and_then (holder first n)) (first_side left_from two.a two.y two.rest two.e two.along))
-      ∙ sym (ap (λ m. option_and_then (holder first n) (beside_first left_from m)) two.is)
+    -- the members beside what is left of the line are those beside it in the input
+    pub left_kept : (n : ℕ) (removed : List Coord) → IsRunState s removed → left_member (uses_of (coverage_without removed members)) n (current removed l) ≡ left_member (uses_of (coverage_without [] members)) n l
+    left_kept n removed run =
+        let held = run_held removed run in
+        let uses = uses_of (coverage_without removed members) in
+        let first = uses_of (coverage_without [] members) in
+        ap (λ m. option_and_then (holder uses n) (beside_first left_from m)) held.is
+        ∙ ap (option_and_then (holder uses n)) (first_side left_from held.a held.y held.rest held.e held.along)
+        ∙ holder_alike uses first n (left_from held.a held.e) (left_from two.a two.e) held.on_left
+        ∙ sym (ap (option_and_then (holder first n)) (first_side left_from two.a two.y two.rest two.e two.along))
+        ∙ sym (ap (λ m. option_and_then (holder first n) (beside_first left_from m)) two.is)
 
-  pub right_kept : (n : ℕ) (removed : List Coord) → IsRunState s removed → right_member (uses_of (coverage_without removed members)) n (current removed l) ≡ right_member (uses_of (coverage_without [] members)) n l
-  right_kept n removed run =
-      let held = run_held removed run in
-      let uses = uses_of (coverage_without removed members) in
-      let first = uses_of (coverage_without [] members) in
-      ap (λ m. option_and_then (holder uses n) (beside_first right_from m)) held.is
-      ∙ ap (option_and_then (holder uses n)) (first_side right_from held.a held.y held.rest held.e held.along)
-      ∙ holder_alike uses first n (right_from held.a held.e) (right_from two.a two.e) held.on_right
-      ∙ sym (ap (option_and_then (holder first n)) (first_side right_from two.a two.y two.rest two.e two.along))
-      ∙ sym (ap (λ m. option_and_then (holder first n) (beside_first right_from m)) two.is)
+    pub right_kept : (n : ℕ) (removed : List Coord) → IsRunState s removed → right_member (uses_of (coverage_without removed members)) n (current removed l) ≡ right_member (uses_of (coverage_without [] members)) n l
+    right_kept n removed run =
+        let held = run_held removed run in
+        let uses = uses_of (coverage_without removed members) in
+        let first = uses_of (coverage_without [] members) in
+        ap (λ m. option_and_then (holder uses n) (beside_first right_from m)) held.is
+        ∙ ap (option_and_then (holder uses n)) (first_side right_from held.a held.y held.rest held.e held.along)
+        ∙ holder_alike uses first n (right_from held.a held.e) (right_from two.a two.e) held.on_right
+        ∙ sym (ap (option_and_then (holder first n)) (first_side right_from two.a two.y two.rest two.e two.along))
+        ∙ sym (ap (λ m. option_and_then (holder first n) (beside_first right_from m)) two.is)

@@ -4,14 +4,13 @@ use Rattle.std.proofs.Common.{◌≡◌, ◌⊎◌, inl, inr, refl, sym, ◌∙�
 use Rattle.std.specs.Prelude.{Contains}
 use Rattle.integer_laws.proofs.Compare.{lt_excludes_eq}
 use Rattle.integer_laws.proofs.Ring.{lin, by_ring, Var, Lit, ◌⊕◌, ◌⊖◌, ◌⊗◌, mul_one, one_mul, mul_comm, mul_zero, pos_times}
-use Rattle.cov_types.specs.declared.coord.Coord.{Coord}
 use Rattle.cov_types.specs.declared.seg.Seg.{Seg}
 use Rattle.cov_types.specs.Range.{IsSegInRange}
 use Rattle.plane.specs.Joined.{IsClear, Joined}
 use Rattle.plane.specs.Point.{Point, at_coord, IsBetween}
-use Rattle.plane.specs.Ray.{sweep, Rises}
+use Rattle.plane.specs.Ray.{sweep}
 use Rattle.plane.specs.Segment.{side, upper, IsOn}
-use Rattle.plane.proofs.Forms.{form, form_positive-between}
+use Rattle.plane.proofs.Forms.{form_positive-between}
 use Rattle.plane.proofs.Sides.{side_a, side_b, side_c, side-form, side-lo, side-hi, side_zero-on}
 use Rattle.plane.proofs.Sweeps.{rises-in_range, on-is}
 use Rattle.crossing_laws.proofs.Beside.{HaveOnlyEnds, rise, side-upper}

@@ -1,7 +1,7 @@
 -- The nodes of each state of the run are those of the input.
 use mathlib.Core.List.{[], ◌∷◌}
-use Rattle.std.proofs.Common.{◌≡◌, ◌≢◌, ◌⊎◌, inl, inr, refl, sym, ◌∙◌, ap, subst, zero, suc, ℕ, ◌≤◌, ◌||◌, ◌↔◌, Bool, true, false, not, cond, List, length, get_or, IsTrue, arith}
-use Rattle.std.specs.Prelude.{Contains, All, AllPairs, Some, slice_get, count_by}
+use Rattle.std.proofs.Common.{◌≡◌, ◌≢◌, ◌⊎◌, inl, inr, refl, sym, ◌∙◌, ap, subst, zero, suc, ℕ, ◌≤◌, ◌||◌, Bool, true, false, not, cond, List, map, get_or, arith}
+use Rattle.std.specs.Prelude.{Contains, All, AllPairs, Some, slice_get}
 use Rattle.std.proofs.lemmas.Bool.{false≢true, true≢false, not-true}
 use Rattle.std.proofs.lemmas.List.Elements.{All-head, All-tail, All-cons, All-nil, All-contains, All-weaker}
 use Rattle.cov_types.specs.declared.coord.Coord.{Coord}
@@ -17,10 +17,10 @@ use Rattle.plane.specs.Snapping.{chain_edges}
 use Rattle.plane.specs.Validity.{IsValid}
 use Rattle.crossing_laws.proofs.Lists.{contains_here, contains_there}
 use Rattle.arrangement.specs.declared.odd_use.OddUse.{OddUse}
-use Rattle.arrangement.specs.Noding.{AreEdges, IsAscending, segments}
+use Rattle.arrangement.specs.Noding.{AreEdges, IsAscending}
 use Rattle.arrangement.proofs.LiveOverlays.{kept_is}
 use Rattle.greedy_run.specs.Lines.{degree, steps, IsAlongEdge, IsPathAlong, IsLeastOfLoop, IsNode, IsLine}
-use Rattle.greedy_run.specs.Run.{Simplification, is_removed, current, current_edges, IsRunState, coverage_without, IsSimplificationOf}
+use Rattle.greedy_run.specs.Run.{Simplification, is_removed, current, current_edges, IsRunState, is_one_point, ring_without, coverage_without, IsSimplificationOf}
 use Rattle.greedy_run.proofs.OneLine.{chain_first}
 use Rattle.greedy_run.proofs.Threads.{seg_turned}
 use Rattle.greedy_run.proofs.Trails.{some_passes}
@@ -52,7 +52,7 @@ ascending_distinct : (edges : List Seg) → IsAscending edges → AllPairs (λ e
 ascending_distinct edges up i j d before within same =
     true≢false (sym (up i j d before within) ∙ ap (λ e. is_seg_before e (get_or edges j d)) same ∙ is_seg_before-irrefl (get_or edges j d))
 
-all_of : {X : Type 0} (P : X → Type 0) (xs : List X) → ((x : X) → Contains xs x → P x) → All P xs
+pub all_of : {X : Type 0} (P : X → Type 0) (xs : List X) → ((x : X) → Contains xs x → P x) → All P xs
 all_of P [] h = All-nil P
 all_of P (x ∷ xs) h = All-cons P x xs (h x (contains_here x xs)) (all_of P xs (λ y has. h y (contains_there x y xs has)))
 
@@ -255,3 +255,20 @@ module _ (members : Members) (tolerance : ℕ) (inner_only : Bool) (s : Simplifi
           vertex = subst (λ n. 1 ≤ n) same node.vertex;
           node = elim node.node [ inl other ↦ inl (λ two. other (same ∙ two)) | inr least ↦ inr (least_was p node.vertex least) ];
         }
+
+-- ---- the first state
+
+ring_kept : (points : List Coord) → ring_without [] points ≡ points
+ring_kept points = by (is_one_point points)
+  where
+    by : (b : Bool) → cond b points (current [] points) ≡ points
+    by true = refl
+    by false = all_kept points
+
+map_kept : {X : Type 0} (f : X → X) → ((x : X) → f x ≡ x) → (xs : List X) → map f xs ≡ xs
+map_kept f h [] = refl
+map_kept f h (x ∷ xs) = λ i. h x i ∷ map_kept f h xs i
+
+-- a coverage without no points is the coverage
+pub none_removed : (members : Members) → coverage_without [] members ≡ members
+none_removed members = map_kept (λ polys. map (λ rings. map (ring_without []) rings) polys) (map_kept (λ rings. map (ring_without []) rings) (map_kept (ring_without []) ring_kept)) members

@@ -1,15 +1,14 @@
 -- The side points of a segment that is free of a triangle are out of it.
 use mathlib.Core.List.{[], ◌∷◌}
-use Rattle.std.proofs.Common.{◌≡◌, ◌⊎◌, inl, inr, refl, sym, ◌∙◌, ap, ◌+◌, ◌^◌, ℤ, pos, ◌+ℤ◌, ◌-ℤ◌, ◌*ℤ◌, ◌<ℤ◌, ⊎_elim, arith}
+use Rattle.std.proofs.Common.{◌≡◌, inl, inr, refl, ◌+◌, ◌^◌, ℤ, pos, ◌+ℤ◌, ◌-ℤ◌, ◌*ℤ◌, ◌<ℤ◌, arith}
 use Rattle.integer_laws.proofs.Compare.{trichotomy, le_of_lt}
 use Rattle.integer_laws.proofs.Ring.{lin, by_ring, Var, Lit, ◌⊕◌, ◌⊖◌, ◌⊗◌, mul_one, mul_comm, pos_times}
-use Rattle.cov_types.specs.declared.coord.Coord.{Coord}
 use Rattle.cov_types.specs.declared.seg.Seg.{Seg}
 use Rattle.cov_types.specs.Range.{IsSegInRange}
-use Rattle.plane.specs.Point.{Point, SamePoint, at_coord, IsBetween}
+use Rattle.plane.specs.Point.{Point, at_coord, IsBetween}
 use Rattle.plane.specs.Ray.{sweep, Rises}
 use Rattle.plane.specs.Segment.{IsOn, IsEnd, midpoint, upper, lower}
-use Rattle.plane.proofs.Points.{between-sym, first_between, second_between}
+use Rattle.plane.proofs.Points.{between-sym, first_between}
 use Rattle.plane.proofs.Sweeps.{rises-in_range, sweep-same}
 use Rattle.crossing_laws.proofs.Beside.{HaveOnlyEnds, side_points_clear}
 use Rattle.greedy_run.specs.Run.{Triangle}
@@ -60,25 +59,25 @@ middle_no_end s up (inr same) = let e : sweep (midpoint s) *ℤ pos 1 ≡ sweep 
 module _ (t : Triangle) (ab bc ac : Seg) (sides : AreThreeSides t ab bc ac) (e : Seg) (he : IsSegInRange e) (free : IsFreeOf t ab bc e)
     (p : Point) (spread : (x : Point) → IsBetween x p (midpoint e) → IsBetween x (lower e) (upper e))
   where
-  first_ends : HaveOnlyEnds e ab
-  first_ends r common = free.first r common
+    first_ends : HaveOnlyEnds e ab
+    first_ends r common = free.first r common
 
-  third_ends : HaveOnlyEnds e ac
-  third_ends r common = ear t ab bc ac sides.two sides.third e free r common
+    third_ends : HaveOnlyEnds e ac
+    third_ends r common = ear t ab bc ac sides.two sides.third e free r common
 
-  out_left : pos 0 <ℤ area t → ¬ IsWithin t p
-  out_left positive within =
-      let (x, exit) = leave (to_a t) (to_b t) (to_c t) p (midpoint e) (within-inside t p (le_of_lt positive) within)
-      (λ inside. middle_no_end e (rises-in_range e he) (pasch t ab bc sides.two e free (midpoint e) (inside-within t (midpoint e) positive inside) (middle_on e)).is_end) in
-      let between = spread x exit.between in
-      elim exit.by [
-        | inl second ↦
-            (side_points_clear e bc he sides.two.second_in_range (λ r common. free.second r common)).none x between (on_between t.b t.c bc x sides.two.second (on_second t x positive exit.inside second.0))
-        | inr more ↦ elim more [
-          | inl third ↦ (side_points_clear e ac he sides.third_in_range third_ends).none x between (on_between t.a t.c ac x sides.third (on_third t x positive exit.inside third.0))
-          | inr first ↦ (side_points_clear e ab he sides.two.first_in_range first_ends).none x between (on_between t.a t.b ab x sides.two.first (on_first t x positive exit.inside first.0))
+    out_left : pos 0 <ℤ area t → ¬ IsWithin t p
+    out_left positive within =
+        let (x, exit) = leave (to_a t) (to_b t) (to_c t) p (midpoint e) (within-inside t p (le_of_lt positive) within)
+        (λ inside. middle_no_end e (rises-in_range e he) (pasch t ab bc sides.two e free (midpoint e) (inside-within t (midpoint e) positive inside) (middle_on e)).is_end) in
+        let between = spread x exit.between in
+        elim exit.by [
+          | inl second ↦
+              (side_points_clear e bc he sides.two.second_in_range (λ r common. free.second r common)).none x between (on_between t.b t.c bc x sides.two.second (on_second t x positive exit.inside second.0))
+          | inr more ↦ elim more [
+            | inl third ↦ (side_points_clear e ac he sides.third_in_range third_ends).none x between (on_between t.a t.c ac x sides.third (on_third t x positive exit.inside third.0))
+            | inr first ↦ (side_points_clear e ab he sides.two.first_in_range first_ends).none x between (on_between t.a t.b ab x sides.two.first (on_first t x positive exit.inside first.0))
+          ]
         ]
-      ]
 
 module _ (t : Triangle) (ab bc ac : Seg) (sides : AreThreeSides t ab bc ac) (apart : MeetsInEndsAlone ab bc) (e : Seg) (he : IsSegInRange e) (free : IsFreeOf t ab bc e) where
   out : (p : Point) → ((x : Point) → IsBetween x p (midpoint e) → IsBetween x (lower e) (upper e)) → ¬ IsWithin t p

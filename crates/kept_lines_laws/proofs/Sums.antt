@@ -1,7 +1,7 @@
 -- Sums and counts over lists of which one element changes.
 use mathlib.Core.List.{[], ◌∷◌}
-use Rattle.std.proofs.Common.{◌≡◌, ◌≢◌, ◌⊎◌, inl, inr, refl, sym, ◌∙◌, ap, subst, zero, suc, ℕ, ◌+◌, ◌≤◌, Bool, true, false, cond, List, ◌++◌, get_or, arith}
-use Rattle.std.specs.Prelude.{Contains, sum_by, count_by, flat_map, length, All, AllPairs, Some, slice_get}
+use Rattle.std.proofs.Common.{◌≡◌, ◌≢◌, refl, sym, ◌∙◌, ap, subst, zero, suc, ℕ, ◌+◌, ◌≤◌, List, ◌++◌, arith}
+use Rattle.std.specs.Prelude.{Contains, sum_by, flat_map, AllPairs, Some, slice_get}
 use Rattle.std.proofs.lemmas.List.Concat.{flat_map-cons}
 use Rattle.std.proofs.lemmas.List.Sums.{sum_by-append, sum_by-cons}
 use Rattle.std.proofs.lemmas.Option.{none-some, same_Some}

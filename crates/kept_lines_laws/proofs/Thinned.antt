@@ -1,8 +1,8 @@
 -- What each state of the run keeps: neighbours in a line differ, no current segment stands twice, and at each point that is left as many meet as before.
 use mathlib.Core.List.{[], ◌∷◌}
-use Rattle.std.proofs.Common.{◌≡◌, ◌≢◌, ◌⊎◌, inl, inr, refl, sym, ◌∙◌, ap, subst, zero, suc, ℕ, ◌+◌, ◌<◌, ◌≤◌, Bool, true, false, not, ◌||◌, cond, List, ◌++◌, length, get_or, arith}
-use Rattle.std.specs.Prelude.{Contains, sum_by, count_by, flat_map, All, AllPairs, Some, slice_get, ⊤}
-use Rattle.std.proofs.lemmas.Bool.{false≢true, cases_lt, or_left, or_right}
+use Rattle.std.proofs.Common.{◌≡◌, ◌≢◌, ◌⊎◌, inl, inr, refl, sym, ◌∙◌, ap, subst, zero, suc, ℕ, ◌+◌, ◌<◌, ◌≤◌, Bool, true, false, ◌||◌, cond, List, ◌++◌, length, get_or, arith}
+use Rattle.std.specs.Prelude.{Contains, sum_by, AllPairs, Some, ⊤}
+use Rattle.std.proofs.lemmas.Bool.{false≢true, cases_lt}
 use Rattle.std.proofs.lemmas.List.Elements.{All-head, All-tail, All-cons, All-nil}
 use Rattle.std.proofs.lemmas.List.Sums.{sum_by-cons}
 use Rattle.std.proofs.lemmas.Option.{slice_get-get_or, get_or_from_slice_get}
@@ -16,18 +16,18 @@ use Rattle.cov_types.proofs.Equal.{Decides-same_coords, Decides-same_segs}
 use Rattle.plane.specs.Snapping.{chain_edges}
 use Rattle.crossing_laws.proofs.Lists.{contains_here, contains_there}
 use Rattle.crossing_laws.specs.Across.{is_same_seg}
-use Rattle.greedy_run.specs.Lines.{degree, steps, IsAlongEdge, IsPathAlong, IsNode, IsLine}
+use Rattle.greedy_run.specs.Lines.{steps, IsAlongEdge, IsPathAlong, IsNode, IsLine}
 use Rattle.greedy_run.specs.Run.{Simplification, Spot, IsRemovable, is_removed, current, current_edges, coverage_without}
 use Rattle.greedy_run.proofs.NoNodes.{no_node}
 use Rattle.greedy_run.proofs.OneLine.{chain_first, common_edge}
-use Rattle.greedy_run.proofs.Threads.{no_loop, one_seg, seg_turned, some_counted}
+use Rattle.greedy_run.proofs.Threads.{no_loop, seg_turned}
 use Rattle.removal_laws.specs.Laws.{IsSoundState, HasEar}
 use Rattle.removal_laws.proofs.Chains.{has_or}
 use Rattle.removal_laws.proofs.Exchange.{coord_cases, ends_differ}
-use Rattle.removal_laws.proofs.Removable.{ear_of, now_ab, now_bc, next_was, IsOffB}
+use Rattle.removal_laws.proofs.Removable.{ear_of, now_ab, now_bc, next_was}
 use Rattle.removal_laws.proofs.Rings.{side_cases}
 use Rattle.kept_lines_laws.proofs.Exchanged.{list_place, points, line_stays, line_goes, one_line, once, exchanged}
-use Rattle.kept_lines_laws.proofs.Sums.{sum_flat, sums_same, one_at_most}
+use Rattle.kept_lines_laws.proofs.Sums.{sum_flat, one_at_most}
 
 -- ---- neighbours differ
 

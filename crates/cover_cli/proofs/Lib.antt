@@ -6,6 +6,7 @@ pub mod Listing
 pub mod Answering
 pub mod OneText
 pub mod Headline
+pub mod Located
 pub mod OneAnswer
 pub mod RegionRows
 pub mod Overlays

@@ -9,4 +9,5 @@ pub mod Headline
 pub mod Located
 pub mod OneAnswer
 pub mod RegionRows
+pub mod PlaceRows
 pub mod Overlays

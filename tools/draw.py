@@ -2,10 +2,11 @@
 """Draws a file of polygons, and over it the segments of a second file, as an SVG picture.
 
 Usage: tools/draw.py POLYGONS.wkt [SEGMENTS.wkt [REGIONS.txt]] >PICTURE.svg
+       tools/draw.py POLYGONS.wkt --places POINTS.txt ROWS.txt >PICTURE.svg
 
 The polygons of each geometry have one colour; segments are drawn red. With the rows of `cover regions` as the third
 file, the segments are those of `cover node`: then each region has its row's number, kind and label beside its least
-side, and no segment is red. It reads plain well-known text with whole numbers and proves nothing.
+side, and no segment is red. With --places the points of a points file are drawn, each with its row of `cover locate`. It reads plain well-known text with whole numbers and proves nothing.
 """
 import math
 import re
@@ -48,14 +49,26 @@ def rows(segments, regions, place):
         yield f'<text transform="{where}" text-anchor="middle" dy="0.35em">{words}</text>'
 
 
+def places(points, located, place):
+    """Yield the dot of each point, and the text of its row beside it."""
+    for p, row in zip(points, open(located)):
+        x, y = map(float, place(p).split(","))
+        yield f'<circle cx="{x:.1f}" cy="{y:.1f}" r="4"/>'
+        yield f'<text x="{x + 9:.1f}" y="{y:.1f}" dy="0.35em">{row.strip()}</text>'
+
+
 def main():
+    located = sys.argv[4] if sys.argv[2:3] == ["--places"] and len(sys.argv) == 5 else None
+    dots = [tuple(map(int, line.split())) for line in open(sys.argv[3]) if line.strip()] if located else []
+    if located:
+        del sys.argv[2:]
     if len(sys.argv) not in (2, 3, 4):
         sys.exit(__doc__)
     members = [rings for _, rings in geometries(open(sys.argv[1]).read())]
     marked = []
     if len(sys.argv) == 3:
         marked = [line for _, lines in geometries(open(sys.argv[2]).read()) for line in lines]
-    points = [p for rings in members for ring in rings for p in ring] + [p for line in marked for p in line]
+    points = [p for rings in members for ring in rings for p in ring] + [p for line in marked for p in line] + dots
     left, bottom = min(x for x, _ in points), min(y for _, y in points)
     width = max(x for x, _ in points) - left or 1
     height = max(y for _, y in points) - bottom or 1
@@ -76,6 +89,11 @@ def main():
     if len(sys.argv) == 4:
         print('  <g font-family="sans-serif" font-size="10">')
         for text in rows(sys.argv[2], sys.argv[3], place):
+            print("    " + text)
+        print("  </g>")
+    if located:
+        print('  <g font-family="sans-serif" font-size="14">')
+        for text in places(dots, located, place):
             print("    " + text)
         print("  </g>")
     print("</svg>")

@@ -5,6 +5,7 @@ pub mod Numbering
 pub mod RingBoxes
 pub mod NextRing
 pub mod LeastHolder
+pub mod OneWhere
 pub mod Positions
 pub mod Words
 pub mod Numbers

@@ -14,7 +14,7 @@
 //! - `Hulls`: the hulls of boxes, so many at a time. `Placing`: what a box beside or above a grid point tells of the segments in it.
 //! - `Passing`: parts of a run (`above_part`, `clear_joined`). `Numbering`, `RingBoxes`: how the index over the rings is made.
 //! - `NextRing`: the next ring that holds a point (`next_joined`, `next_all`). `LeastHolder`: one member after the other (`seen_more`,
-//!   `settled_where`).
+//!   `settled_where`). `OneWhere`: a point lies in one place (`one_where`).
 //! - `Positions`, `Words`: the words of a line (`first_word`). `Numbers`, `Capped`: numbers with a capped size (`point_in`, `number_is`).
 //!   `Lines`: one line after the other (`read_more`).
 #![tactic(auto)]

@@ -31,7 +31,7 @@ impl Model for Locator {
 impl Locator {
     ghost use Rattle.cov_locate.specs.Where.{IsWhere};
 
-    /// For n segments it takes time n log n and memory linear in n.
+    /// Takes n log n time and memory in proportion to n, for n segments.
     pub fn build(alloc: Global, c: &Coverage) -> Result<Locator, NoMemory>
         requires { AllInRange c.now }
         ensures { IfOk result (λ l. l ≡ uses_of c.now) }
@@ -42,8 +42,8 @@ impl Locator {
     }
 
     /// Where the point lies. It looks at the rings whose boxes have the point, and in each at few segments where most boxes of its
-    /// parts do not have it: in time this is the logarithm of the number of segments where few boxes of rings overlap, and at most
-    /// their number for each ring that holds the point. It takes no memory.
+    /// parts do not have it. Takes log n time for n segments where few boxes of rings overlap, and at most n time for each ring that
+    /// holds the point. Takes no memory.
     pub fn at(&self, p: Coord) -> Where
         requires { IsInRange p }
         ensures { IsWhere self.now p result }

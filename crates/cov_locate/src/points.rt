@@ -42,7 +42,7 @@ impl<T: Drop> From<AllocFailed<T>> for PointsError {
 
 /// The points of a points file, in grid units, in the order of its lines: a line has two numbers apart by white space, or white space
 /// alone and no point. The first line that is otherwise, or has a number out of range, is the fault. At most `LONGEST_INPUT` of
-/// `geo_text` bytes; linear in time and memory.
+/// `geo_text` bytes. Takes time and memory in proportion to the bytes.
 pub fn read_points(alloc: Global, bytes: &[u8]) -> Result<Vec<Coord>, PointsError>
     requires { length bytes.now ≤ LONGEST_INPUT }
     ensures exact { MatchResult result (λ points. ArePoints bytes.now points.items) (IsFaultOf bytes.now) }

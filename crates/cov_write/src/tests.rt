@@ -1,4 +1,7 @@
-use crate::{append_inner_row, append_outer_row, lines_of, text_of};
+use crate::{
+    append_edge_row, append_inner_row, append_member_row, append_none_row, append_outer_row,
+    lines_of, text_of,
+};
 use cov_types::{Coord, Coverage, Member, Poly, Ring, Seg};
 use std::alloc::{AllocError, Global};
 use std::test::Fail;
@@ -96,6 +99,17 @@ fn several_segments_share_a_line(rt: HostRuntime) -> Result<(), Fail> {
     let written = lines_of(rt.alloc(), &lists, None)?;
     let wanted = b"MULTILINESTRING ((0 0, 7 -5), (-1 12, 0 0), (0 0, 7 -5))\n";
     assert!(rt; same(&written, wanted));
+    Ok(())
+}
+
+#[test]
+fn rows_of_places(rt: HostRuntime) -> Result<(), Fail> {
+    let mut rows = Vec::new(rt.alloc());
+    append_member_row(&mut rows, 0)?;
+    append_edge_row(&mut rows)?;
+    append_member_row(&mut rows, u32::MAX)?;
+    append_none_row(&mut rows)?;
+    assert!(rt; same(&rows, b"0\nedge\n4294967295\nnone\n"));
     Ok(())
 }
 

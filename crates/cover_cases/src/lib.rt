@@ -17,6 +17,8 @@ mod gaps;
 #[cfg(test)]
 mod hostile;
 #[cfg(test)]
+mod locating;
+#[cfg(test)]
 mod rows;
 #[cfg(test)]
 mod simplifying;

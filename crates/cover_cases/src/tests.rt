@@ -539,7 +539,7 @@ fn each_outcome_has_its_status_and_its_message(rt: HostRuntime) -> Result<(), te
         (
             Outcome::Usage,
             2,
-            "usage: cover validate|clean|simplify|union|node|regions",
+            "usage: cover validate|clean|simplify|union|node|regions|locate",
         ),
         (NO_TEXT, 4, "text: syntax at 0"),
         (Outcome::TooLong, 6, "input is longer than 67108864 bytes"),

@@ -1,5 +1,5 @@
 -- Causes of refusals: each input has one cause at most, and none where a text is made of it.
-use Rattle.std.proofs.Common.{◌≡◌, ◌≢◌, ℕ, zero, suc, List, [], ◌∷◌, Bool, true, false, IsTrue, refl, ap, subst, ◌∙◌, sym, inl, inr}
+use Rattle.std.proofs.Common.{◌≡◌, ◌≢◌, ℕ, zero, suc, List, [], ◌∷◌, Bool, true, false, IsTrue, Some, None, refl, ap, subst, ◌∙◌, sym, inl, inr}
 use Rattle.cover_cli.specs.Answers.{is_validate, is_success, is_refusal, is_marked, touches_output}
 use Rattle.cov_types.specs.Coverage.{Members}
 use Rattle.cov_types.specs.Uses.{uses_of}
@@ -15,14 +15,20 @@ use Rattle.feature_files.specs.declared.error.FileError.{FileError}
 use Rattle.feature_files.specs.declared.error.FileError.TheVariants.{Fault, NoMemory as NoFileMemory}
 use Rattle.feature_files.specs.declared.error.FileFault.TheVariants.{Text, Json}
 use Rattle.geo_json.specs.Reading.{Reading}
+use Rattle.cov_locate.specs.Points.{ArePoints, IsFaultOf}
+use Rattle.cov_locate.specs.declared.points.PointsError.{PointsError}
+use Rattle.cov_locate.specs.declared.points.PointsError.TheVariants as points
+use Rattle.cov_locate.specs.declared.points.PointsFault.{PointsFault}
+use Rattle.cov_types.specs.declared.coord.Coord.{Coord}
 use Rattle.cover_cli.specs.Invalid.{TellsMark, RefusesInvalid}
-use Rattle.cover_cli.specs.Made.{IsOneAnd, Makes, Refuses}
-use Rattle.cover_cli.specs.Refusal.{outcome_of_file, outcome_of_refusal, IsRefusedFor}
+use Rattle.cover_cli.specs.Locate.{TellsPointsFault, RefusesPoints}
+use Rattle.cover_cli.specs.Made.{IsOneAnd, IsTwoAnd, Makes, Refuses}
+use Rattle.cover_cli.specs.Refusal.{outcome_of_file, outcome_of_refusal, outcome_of_points, IsRefusedFor}
 use Rattle.cover_cli.specs.Text.{IsReadAnd, RefusesInput}
 use Rattle.cover_cli.specs.Validate.{marking}
-use Rattle.cover_words.specs.Words.{Operation, Validate, Clean, Simplify, Union, Node, Regions}
+use Rattle.cover_words.specs.Words.{Operation, Validate, Clean, Simplify, Union, Node, Regions, Locate}
 use Rattle.cover_cli.specs.declared.outcome.Outcome.{Outcome}
-use Rattle.cover_cli.specs.declared.outcome.Outcome.TheVariants.{Done, Marked, Usage, ReadFault, WriteFault, TooLong, BadText, BadJson, NotValid, NoMemory}
+use Rattle.cover_cli.specs.declared.outcome.Outcome.TheVariants.{Done, Marked, Usage, ReadFault, WriteFault, TooLong, BadText, BadJson, BadPoints, NotValid, NoMemory}
 
 -- ---- inputs with a fault
 
@@ -46,6 +52,7 @@ one_input_refusal name input (BadText f) WriteFault first second = absurd second
 one_input_refusal name input (BadText f) TooLong first second = absurd second
 one_input_refusal name input (BadText f) NoMemory first second = absurd second
 one_input_refusal name input (BadText f) (NotValid mark) first second = absurd second
+one_input_refusal name input (BadText f) (BadPoints g) first second = absurd second
 one_input_refusal name input (BadJson f) Done first second = absurd second
 one_input_refusal name input (BadJson f) (Marked edges) first second = absurd second
 one_input_refusal name input (BadJson f) Usage first second = absurd second
@@ -54,6 +61,7 @@ one_input_refusal name input (BadJson f) WriteFault first second = absurd second
 one_input_refusal name input (BadJson f) TooLong first second = absurd second
 one_input_refusal name input (BadJson f) NoMemory first second = absurd second
 one_input_refusal name input (BadJson f) (NotValid mark) first second = absurd second
+one_input_refusal name input (BadJson f) (BadPoints g) first second = absurd second
 one_input_refusal name input _ p first second = absurd first
 
 input_refusal : (name input : List ℕ) (o : Outcome) → RefusesInput name input o → IsTrue (is_refusal o)
@@ -90,6 +98,7 @@ one_mark members (NotValid m) WriteFault first second = absurd second
 one_mark members (NotValid m) TooLong first second = absurd second
 one_mark members (NotValid m) (BadText f) first second = absurd second
 one_mark members (NotValid m) (BadJson f) first second = absurd second
+one_mark members (NotValid m) (BadPoints f) first second = absurd second
 one_mark members (NotValid m) NoMemory first second = absurd second
 one_mark members _ p first second = absurd first
 
@@ -120,6 +129,46 @@ not_admitted_and_refused name input P p valid read (inr other) =
     let same : other.reading ≡ read.reading = one_reading name input other.reading read.reading other.reads read.reads in
     told_invalid read.reading.members p (subst (λ (r : Reading). TellsMark r.members p) same other.holds) (valid read.reading read.holds)
 
+-- ---- points files with a fault
+
+-- points that are not read are refused for their cause
+pub points_refused : (e : PointsError) (name input file : List ℕ) (r : Reading) → IsRead name input r → IsFaultOf file e → IsRefusedFor (RefusesPoints name input file) (outcome_of_points e)
+points_refused (points.Fault fault) name input file r reads is = inr (inr (record { reading = r; reads = reads; holds = is }))
+points_refused points.NoMemory name input file r reads is = inl refl
+
+-- what refuses an input, refuses it with points too
+pub input_with_points_refused : (name input file : List ℕ) (o : Outcome) → IsRefusedFor (RefusesInput name input) o → IsRefusedFor (RefusesPoints name input file) o
+input_with_points_refused name input file o (inl none) = inl none
+input_with_points_refused name input file o (inr refuses) = inr (inl refuses)
+
+-- the fault that an outcome tells
+told_fault : (file : List ℕ) (o : Outcome) → TellsPointsFault file o → (fault : PointsFault) × ((o ≡ BadPoints fault) × IsFaultOf file (points.Fault fault))
+told_fault file (BadPoints fault) tells = (fault, (refl, tells))
+told_fault file _ tells = absurd tells
+
+-- a points file is refused with one outcome
+one_points_refusal : (name input file : List ℕ) (o p : Outcome) → RefusesPoints name input file o → RefusesPoints name input file p → o ≡ p
+one_points_refusal name input file o p (inl first) (inl second) = one_input_refusal name input o p first second
+one_points_refusal name input file o p (inl first) (inr read) = absurd (not_read_and_refused name input _ o read first)
+one_points_refusal name input file o p (inr read) (inl second) = absurd (not_read_and_refused name input _ p read second)
+one_points_refusal name input file o p (inr read) (inr other) =
+    let first = told_fault file o read.holds in
+    let second = told_fault file p other.holds in
+    let same : Some first.0 ≡ Some second.0 = sym first.1.1 ∙ second.1.1 in
+    first.1.0 ∙ cc same ∙ sym second.1.0
+
+points_refusal : (name input file : List ℕ) (o : Outcome) → RefusesPoints name input file o → IsTrue (is_refusal o)
+points_refusal name input file o (inl refuses) = input_refusal name input o refuses
+points_refusal name input file o (inr read) = ap is_refusal (told_fault file o read.holds).1.0
+
+-- an input that is read, with points that are listed, is not refused
+pub not_listed_and_refused : (name input file : List ℕ) (P : Reading → Type 0) (list : List Coord) (p : Outcome) → ArePoints file list → IsReadAnd name input P → RefusesPoints name input file p → ⊥
+not_listed_and_refused name input file P list p are read (inl refuses) = not_read_and_refused name input P p read refuses
+not_listed_and_refused name input file P list p are read (inr other) =
+    let fault = told_fault file p other.holds in
+    let none : None ≡ Some fault.0 = sym are.faultless ∙ fault.1.1 in
+    cc
+
 -- ---- operations
 
 -- what follows for one input, follows for the inputs where there is one
@@ -133,6 +182,19 @@ of_both [] P Q C follows first second = absurd first
 of_both (input ∷ []) P Q C follows first second = follows input first second
 of_both (input ∷ more ∷ rest) P Q C follows first second = absurd first
 
+-- and for two inputs
+pub of_two : (inputs : List (List ℕ)) (P : List ℕ → List ℕ → Type 0) (C : Type 0) → ((input file : List ℕ) → P input file → C) → IsTwoAnd inputs P → C
+of_two [] P C follows two = absurd two
+of_two (input ∷ []) P C follows two = absurd two
+of_two (input ∷ file ∷ []) P C follows two = follows input file two
+of_two (input ∷ file ∷ more ∷ rest) P C follows two = absurd two
+
+pub of_both_two : (inputs : List (List ℕ)) (P Q : List ℕ → List ℕ → Type 0) (C : Type 0) → ((input file : List ℕ) → P input file → Q input file → C) → IsTwoAnd inputs P → IsTwoAnd inputs Q → C
+of_both_two [] P Q C follows first second = absurd first
+of_both_two (input ∷ []) P Q C follows first second = absurd first
+of_both_two (input ∷ file ∷ []) P Q C follows first second = follows input file first second
+of_both_two (input ∷ file ∷ more ∷ rest) P Q C follows first second = absurd first
+
 pub one_refusal : (operation : Operation) (inputs : List (List ℕ)) (o p : Outcome) → Refuses operation inputs o → Refuses operation inputs p → o ≡ p
 one_refusal (Validate gap from to) inputs o p = of_both inputs _ _ (o ≡ p) (λ input. one_input_refusal from input o p)
 one_refusal (Clean rule gap from to) inputs o p = of_both inputs _ _ (o ≡ p) (λ input. one_input_refusal from input o p)
@@ -140,6 +202,7 @@ one_refusal (Simplify tolerance inner from to) inputs o p = of_both inputs _ _ (
 one_refusal (Union from to) inputs o p = of_both inputs _ _ (o ≡ p) (λ input. one_invalid_refusal from input o p)
 one_refusal (Node from to) inputs o p = of_both inputs _ _ (o ≡ p) (λ input. one_input_refusal from input o p)
 one_refusal (Regions from to) inputs o p = of_both inputs _ _ (o ≡ p) (λ input. one_input_refusal from input o p)
+one_refusal (Locate from points to) inputs o p = of_both_two inputs _ _ (o ≡ p) (λ input file. one_points_refusal from input file o p)
 
 pub refuses_refusal : (operation : Operation) (inputs : List (List ℕ)) (o : Outcome) → Refuses operation inputs o → IsTrue (is_refusal o)
 refuses_refusal (Validate gap from to) inputs o = of_one inputs _ (IsTrue (is_refusal o)) (λ input. input_refusal from input o)
@@ -148,6 +211,7 @@ refuses_refusal (Simplify tolerance inner from to) inputs o = of_one inputs _ (I
 refuses_refusal (Union from to) inputs o = of_one inputs _ (IsTrue (is_refusal o)) (λ input. invalid_refusal from input o)
 refuses_refusal (Node from to) inputs o = of_one inputs _ (IsTrue (is_refusal o)) (λ input. input_refusal from input o)
 refuses_refusal (Regions from to) inputs o = of_one inputs _ (IsTrue (is_refusal o)) (λ input. input_refusal from input o)
+refuses_refusal (Locate from points to) inputs o = of_two inputs _ (IsTrue (is_refusal o)) (λ input file. points_refusal from input file o)
 
 -- of inputs that are refused no text is made
 pub not_both : (operation : Operation) (inputs : List (List ℕ)) (o p : Outcome) (text : List ℕ) → Makes operation inputs o text → Refuses operation inputs p → ⊥
@@ -157,6 +221,7 @@ not_both (Simplify tolerance inner from to) inputs o p text = of_both inputs _ _
 not_both (Union from to) inputs o p text = of_both inputs _ _ ⊥ (λ input. not_admitted_and_refused from input _ p (λ r uniting. uniting.admitted))
 not_both (Node from to) inputs o p text = of_both inputs _ _ ⊥ (λ input. not_read_and_refused from input _ p)
 not_both (Regions from to) inputs o p text = of_both inputs _ _ ⊥ (λ input. not_read_and_refused from input _ p)
+not_both (Locate from points to) inputs o p text = of_both_two inputs _ _ ⊥ (λ input file made. not_listed_and_refused from input file _ made.holds.points p made.holds.points_are made)
 
 marking_success : (edges : ℕ) → IsTrue (is_success (marking edges))
 marking_success zero = refl
@@ -170,6 +235,7 @@ makes_success (Simplify tolerance inner from to) inputs o text = of_one inputs _
 makes_success (Union from to) inputs o text = of_one inputs _ (IsTrue (is_success o)) (λ input makes. ap is_success makes.holds.done)
 makes_success (Node from to) inputs o text = of_one inputs _ (IsTrue (is_success o)) (λ input makes. ap is_success makes.holds.done)
 makes_success (Regions from to) inputs o text = of_one inputs _ (IsTrue (is_success o)) (λ input makes. ap is_success makes.holds.done)
+makes_success (Locate from points to) inputs o text = of_two inputs _ (IsTrue (is_success o)) (λ input file makes. ap is_success makes.holds.done)
 
 -- only validate answers marks
 pub makes_marked : (operation : Operation) (inputs : List (List ℕ)) (o : Outcome) (text : List ℕ) → Makes operation inputs o text → IsTrue (is_marked o) → IsTrue (is_validate operation)
@@ -179,6 +245,7 @@ makes_marked (Simplify tolerance inner from to) inputs o text makes marks = of_o
 makes_marked (Union from to) inputs o text makes marks = of_one inputs _ (IsTrue false) (λ input uniting. sym (ap is_marked uniting.holds.done) ∙ marks) makes
 makes_marked (Node from to) inputs o text makes marks = of_one inputs _ (IsTrue false) (λ input noding. sym (ap is_marked noding.holds.done) ∙ marks) makes
 makes_marked (Regions from to) inputs o text makes marks = of_one inputs _ (IsTrue false) (λ input listing. sym (ap is_marked listing.holds.done) ∙ marks) makes
+makes_marked (Locate from points to) inputs o text makes marks = of_two inputs _ (IsTrue false) (λ input file locating. sym (ap is_marked locating.holds.done) ∙ marks) makes
 
 marking_some : (edges : ℕ) → marking edges ≢ Marked 0
 marking_some zero h = cc
@@ -192,6 +259,7 @@ makes_some (Simplify tolerance inner from to) inputs o text makes h = of_one inp
 makes_some (Union from to) inputs o text makes h = of_one inputs _ ⊥ (λ input uniting. (let e : Done ≡ Marked 0 = sym uniting.holds.done ∙ h in cc)) makes
 makes_some (Node from to) inputs o text makes h = of_one inputs _ ⊥ (λ input noding. (let e : Done ≡ Marked 0 = sym noding.holds.done ∙ h in cc)) makes
 makes_some (Regions from to) inputs o text makes h = of_one inputs _ ⊥ (λ input listing. (let e : Done ≡ Marked 0 = sym listing.holds.done ∙ h in cc)) makes
+makes_some (Locate from points to) inputs o text makes h = of_two inputs _ ⊥ (λ input file locating. (let e : Done ≡ Marked 0 = sym locating.holds.done ∙ h in cc)) makes
 
 -- ---- the kinds of answers
 
@@ -208,6 +276,7 @@ refusal_no_success _ refusal = refl
 pub refusal_no_touch : (o : Outcome) → IsTrue (is_refusal o) → touches_output o ≡ false
 refusal_no_touch (BadText fault) refusal = refl
 refusal_no_touch (BadJson fault) refusal = refl
+refusal_no_touch (BadPoints fault) refusal = refl
 refusal_no_touch _ refusal = cc
 
 pub success_touches : (o : Outcome) → IsTrue (is_success o) → IsTrue (touches_output o)
@@ -222,6 +291,7 @@ marked_success _ marks = cc
 pub success_no_refusal : (o : Outcome) → IsTrue (is_success o) → is_refusal o ≡ false
 success_no_refusal (BadText fault) success = cc
 success_no_refusal (BadJson fault) success = cc
+success_no_refusal (BadPoints fault) success = cc
 success_no_refusal (NotValid mark) success = cc
 success_no_refusal _ success = refl
 

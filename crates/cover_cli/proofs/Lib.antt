@@ -6,6 +6,8 @@ pub mod Listing
 pub mod Answering
 pub mod OneText
 pub mod Headline
+pub mod Located
 pub mod OneAnswer
 pub mod RegionRows
+pub mod PlaceRows
 pub mod Overlays

@@ -1,6 +1,6 @@
 -- An operation makes one text of its inputs.
 use Rattle.std.proofs.Common.{◌≡◌, ℕ, ◌≤◌, ◌∷◌, List, [], length, Bool, true, false, ◌&&◌, ◌⊎◌, refl, sym, ap, subst, ◌∙◌, inl, inr, Option, Some, None}
-use Rattle.std.specs.Prelude.{All}
+use Rattle.std.specs.Prelude.{All, flat_map}
 use Rattle.std.proofs.lemmas.List.Elements.{All-head}
 use Rattle.std.specs.List.{AllZip, concat}
 use Rattle.arrangement.proofs.OneNoding.{one_noding}
@@ -14,7 +14,11 @@ use Rattle.cov_types.proofs.AllUses.{uses-in_range}
 use Rattle.cov_types.specs.Coverage.{Members, AllInRange}
 use Rattle.cov_types.specs.Uses.{uses_of}
 use Rattle.cov_types.specs.declared.coord.Coord.{Coord}
+use Rattle.cov_types.specs.declared.edge_use.EdgeUse.{EdgeUse}
 use Rattle.cov_types.specs.declared.seg.Seg.{Seg}
+use Rattle.cov_locate.proofs.OneWhere.{one_where}
+use Rattle.cov_locate.specs.Where.{IsWhere}
+use Rattle.cov_locate.specs.declared.place.Where.{Where}
 use Rattle.cov_marks.proofs.GapMarks.{one_marks}
 use Rattle.cov_valid.specs.declared.mark.Mark.{Mark}
 use Rattle.cov_write.specs.Rows.{inner_row}
@@ -27,13 +31,14 @@ use Rattle.feature_files.specs.Form.{IsWrittenAs, HasNoFloat}
 use Rattle.feature_files.specs.Name.{is_json}
 use Rattle.feature_files.specs.Reading.{bare, with_members, IsReadBy, IsRead}
 use Rattle.geo_json.specs.Reading.{Reading}
-use Rattle.cover_cli.proofs.Causes.{one_refusal, not_both}
+use Rattle.cover_cli.proofs.Causes.{of_both_two, one_refusal, not_both}
 use Rattle.cover_cli.proofs.Inputs.{same_inputs}
 use Rattle.cover_cli.specs.Answers.{HoldsNoFloat, HasOneText, MayWrite, HoldsCause}
 use Rattle.cover_cli.specs.Clean.{rule_of, IsCleaning}
 use Rattle.cover_cli.specs.Input.{Holds, AreInputs}
 use Rattle.geo_text.specs.declared.reader.TheConstants.{LONGEST_INPUT}
 use Rattle.cover_cli.specs.Lines.{member_lists, marked_uses}
+use Rattle.cover_cli.specs.Locate.{place_row, ArePlaceRows, IsLocating}
 use Rattle.cover_cli.specs.Made.{IsOneAnd, Makes, Refuses}
 use Rattle.cover_cli.specs.Node.{IsNoding}
 use Rattle.cover_cli.specs.Simplify.{IsSimplifying}
@@ -43,7 +48,7 @@ use Rattle.cover_cli.specs.Text.{IsReadAnd}
 use Rattle.cov_union.proofs.OneUnited.{one_united}
 use Rattle.cover_cli.specs.Union.{IsUniting}
 use Rattle.cover_cli.specs.Validate.{marking, IsValidation}
-use Rattle.cover_words.specs.Words.{Operation, Validate, Clean, Simplify, Union, Node, Regions, inputs_of}
+use Rattle.cover_words.specs.Words.{Operation, Validate, Clean, Simplify, Union, Node, Regions, Locate, inputs_of}
 use Rattle.cover_cli.specs.declared.outcome.Outcome.{Outcome}
 use Rattle.cover_words.specs.declared.rule_name.RuleName.{RuleName}
 use Rattle.merge_rule.specs.RuleState.{no_state}
@@ -118,6 +123,22 @@ one_region_list members o p text other in_range v w =
     let lines : rows.rows ≡ w.rows.rows = one_rows w.overlay (region_numbers w.overlay) rows.rows w.rows.rows rows.each w.rows.each in
     (v.done ∙ sym w.done, rows.lines ∙ ap concat lines ∙ sym w.rows.lines)
 
+one_places : (uses : List EdgeUse) (list : List Coord) (places others : List Where) → AllZip (IsWhere uses) list places → AllZip (IsWhere uses) list others → places ≡ others
+one_places uses [] [] [] first second = refl
+one_places uses [] [] (v ∷ vs) first second = absurd second
+one_places uses [] (w ∷ ws) others first second = absurd first
+one_places uses (p ∷ ps) [] others first second = absurd first
+one_places uses (p ∷ ps) (w ∷ ws) [] first second = absurd second
+one_places uses (p ∷ ps) (w ∷ ws) (v ∷ vs) first second =
+    λ i. one_where uses p w v first.0 second.0 i ∷ one_places uses ps ws vs first.1 second.1 i
+
+one_locating : (members : Members) (file : List ℕ) (o p : Outcome) (text other : List ℕ) → IsLocating members file o text → IsLocating members file p other → (o ≡ p) × (text ≡ other)
+one_locating members file o p text other v w =
+    let same : v.points ≡ w.points = v.points_are.are ∙ sym w.points_are.are in
+    let rows : ArePlaceRows (uses_of members) w.points text = subst (λ (ps : List Coord). ArePlaceRows (uses_of members) ps text) same v.rows in
+    let places : rows.places ≡ w.rows.places = one_places (uses_of members) w.points rows.places w.rows.places rows.each w.rows.each in
+    (v.done ∙ sym w.done, rows.rows ∙ ap (flat_map place_row) places ∙ sym w.rows.rows)
+
 -- ---- properties and ids that are kept
 
 -- what is read of text has no float
@@ -154,6 +175,12 @@ of_inputs s name [] P Q C follows are first second = absurd first
 of_inputs s name (input ∷ []) P Q C follows are first second = of_reading name P Q C input (λ r. follows input r are.0) are.0.within first second
 of_inputs s name (input ∷ more ∷ rest) P Q C follows are first second = absurd first
 
+-- an input and a points file give one text
+one_located : (name input file : List ℕ) (o p : Outcome) (text other : List ℕ) → IsReadAnd name input (λ r. IsLocating r.members file o text) → IsReadAnd name input (λ r. IsLocating r.members file p other) → (o ≡ p) × (text ≡ other)
+one_located name input file o p text other first second =
+    let same : first.reading ≡ second.reading = one_reading name input first.reading second.reading first.reads second.reads in
+    one_locating second.reading.members file o p text other (subst (λ (r : Reading). IsLocating r.members file o text) same first.holds) second.holds
+
 -- one success, and one text where it is determined
 abbrev IsOne : Operation → State → Outcome → Outcome → List ℕ → List ℕ → Type 0
 IsOne operation s o p text other = (o ≡ p) × (HasOneText operation s → text ≡ other)
@@ -178,6 +205,8 @@ one_made (Node from to) s inputs o p text other =
 one_made (Regions from to) s inputs o p text other =
     of_inputs s from inputs (λ r. IsRegionList r.members o text) (λ r. IsRegionList r.members p other) (IsOne (Regions from to) s o p text other)
     (λ input r holds in_range reads v w. (let one = one_region_list r.members o p text other in_range v w in (one.0, λ determined. one.1)))
+one_made (Locate from points to) s inputs o p text other are =
+    of_both_two inputs _ _ (IsOne (Locate from points to) s o p text other) (λ input file v w. (let one = one_located from input file o p text other v w in (one.0, λ determined. one.1)))
 
 -- ---- what the files hold
 

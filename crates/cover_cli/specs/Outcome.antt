@@ -2,7 +2,9 @@
 use Rattle.std.specs.Prelude.{ℕ, List, ◌++◌, codes}
 use Rattle.std.specs.Fmt.{decimal}
 use Rattle.cover_cli.specs.declared.outcome.Outcome.{Outcome}
-use Rattle.cover_cli.specs.declared.outcome.Outcome.TheVariants.{Done, Marked, Usage, ReadFault, WriteFault, TooLong, BadText, BadJson, NotValid, NoMemory}
+use Rattle.cover_cli.specs.declared.outcome.Outcome.TheVariants.{Done, Marked, Usage, ReadFault, WriteFault, TooLong, BadText, BadJson, BadPoints, NotValid, NoMemory}
+use Rattle.cov_locate.specs.declared.points.PointsFault.{PointsFault}
+use Rattle.cov_locate.specs.declared.points.PointsFault.TheVariants as points
 use Rattle.cov_valid.specs.declared.mark.Kind.{Kind}
 use Rattle.cov_valid.specs.declared.mark.Kind.TheVariants.{Meets, Repeated, SameSide, Inside, NarrowGap}
 use Rattle.geo_json.specs.declared.error.JsonFault.{JsonFault}
@@ -22,6 +24,7 @@ status_of TooLong = 6
 status_of ReadFault = 7
 status_of WriteFault = 8
 status_of NoMemory = 9
+status_of (BadPoints fault) = 10
 
 -- the text of a fault of a text
 abbrev pub fault_text : TextFault → List ℕ
@@ -42,6 +45,11 @@ json_fault_text (json.OutOfRange feature) = codes "json: out of range in feature
 json_fault_text (json.RingShort ring) = codes "json: ring " ++ decimal ring ++ codes " is short"
 json_fault_text (json.RingOpen ring) = codes "json: ring " ++ decimal ring ++ codes " is open"
 
+-- the text of a fault of a points file
+abbrev pub points_fault_text : PointsFault → List ℕ
+points_fault_text (points.Syntax line) = codes "points: syntax in line " ++ decimal line
+points_fault_text (points.OutOfRange line) = codes "points: out of range in line " ++ decimal line
+
 -- the text of the first segment at fault of a coverage that is not valid, with its member, its place and its kind
 abbrev pub mark_text : ℕ → ℕ → Kind → List ℕ
 mark_text member place Meets = codes "not valid: member " ++ (decimal member ++ (codes " place " ++ (decimal place ++ codes " meets")))
@@ -54,11 +62,12 @@ mark_text member place NarrowGap = codes "not valid: member " ++ (decimal member
 abbrev pub message_of : Outcome → List ℕ
 message_of Done = codes "done"
 message_of (Marked edges) = codes "marked " ++ decimal edges
-message_of Usage = codes "usage: cover validate|clean|simplify|union|node|regions"
+message_of Usage = codes "usage: cover validate|clean|simplify|union|node|regions|locate"
 message_of ReadFault = codes "cannot read"
 message_of WriteFault = codes "cannot write"
 message_of TooLong = codes "input is longer than 67108864 bytes"
 message_of (BadText fault) = fault_text fault
 message_of (BadJson fault) = json_fault_text fault
+message_of (BadPoints fault) = points_fault_text fault
 message_of (NotValid mark) = mark_text mark.member mark.place mark.kind
 message_of NoMemory = codes "no memory"

@@ -6,9 +6,11 @@ use Rattle.cov_io.specs.declared.input.SlurpError.{SlurpError}
 use Rattle.cov_io.specs.declared.input.SlurpError.TheVariants as slurps
 use Rattle.cov_admit.specs.declared.error.AdmitError.{AdmitError}
 use Rattle.cov_admit.specs.declared.error.AdmitError.TheVariants as admits
+use Rattle.cov_locate.specs.declared.points.PointsError.{PointsError}
+use Rattle.cov_locate.specs.declared.points.PointsError.TheVariants as points
 use Rattle.cover_cli.specs.Input.{HoldsTooMuch}
 use Rattle.cover_cli.specs.declared.outcome.Outcome.{Outcome}
-use Rattle.cover_cli.specs.declared.outcome.Outcome.TheVariants.{ReadFault, TooLong, BadText, BadJson, NotValid, NoMemory}
+use Rattle.cover_cli.specs.declared.outcome.Outcome.TheVariants.{ReadFault, TooLong, BadText, BadJson, BadPoints, NotValid, NoMemory}
 use Rattle.feature_files.specs.declared.error.FileError.{FileError}
 use Rattle.feature_files.specs.declared.error.FileError.TheVariants as files
 use Rattle.feature_files.specs.declared.error.FileFault.TheVariants.{Text, Json}
@@ -29,6 +31,11 @@ outcome_of_file files.NoMemory = NoMemory
 abbrev pub outcome_of_refusal : AdmitError → Outcome
 outcome_of_refusal (admits.NotValid coverage mark) = NotValid mark
 outcome_of_refusal (admits.NoMemory coverage) = NoMemory
+
+-- the outcome where points are not read
+abbrev pub outcome_of_points : PointsError → Outcome
+outcome_of_points (points.Fault fault) = BadPoints fault
+outcome_of_points points.NoMemory = NoMemory
 
 -- memory ran out, or the refusal has this cause
 abbrev pub IsRefusedFor : (Outcome → Type 0) → Outcome → Type 0

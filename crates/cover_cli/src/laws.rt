@@ -1,4 +1,5 @@
 ghost use Rattle.cover_cli.specs.Headline.{HeadlineLaw};
+ghost use Rattle.cover_cli.specs.Located.{LocateLaw};
 ghost use Rattle.cover_cli.specs.Laws.{OneTextLaw, OneRefusalLaw, RefusedLaw, OneAnswerLaw, CompleteLaw, NoFaultLaw};
 
 /// What the files hold gives an operation one success and one text to write, or one refusal, and not both. The text is one but
@@ -13,6 +14,12 @@ pub fn written_law()
 /// member that the definitions say. A call does nothing.
 pub fn headline_law()
     ensures { HeadlineLaw }
+{}
+
+/// For every file in the grammar and range and every points file without a fault `cover locate` tells of each point, in order, whether it
+/// is on a segment, else the least member that holds it, else that none does. A call does nothing.
+pub fn locate_law()
+    ensures { LocateLaw }
 {}
 
 /// What `cover` answers, and the bytes that it writes, are a function of the words and of what the inputs hold, faults

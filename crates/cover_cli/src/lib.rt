@@ -15,6 +15,7 @@ mod command;
 mod input;
 mod laws;
 mod lines;
+mod locate;
 mod making;
 mod node;
 mod outcome;
@@ -29,5 +30,5 @@ mod valid_features;
 mod validate;
 
 pub use command::cover;
-pub use laws::{answer_law, headline_law, written_law};
+pub use laws::{answer_law, headline_law, locate_law, written_law};
 pub use outcome::{Outcome, message, status};

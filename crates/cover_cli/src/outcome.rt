@@ -1,7 +1,8 @@
 ghost use Rattle.std.specs.Prelude.{◌≡◌, IfOk};
 ghost use Rattle.std.specs.String.{string_bytes};
-ghost use Rattle.cover_cli.specs.Outcome.{status_of, message_of, fault_text, json_fault_text, mark_text};
+ghost use Rattle.cover_cli.specs.Outcome.{status_of, message_of, fault_text, json_fault_text, points_fault_text, mark_text};
 
+use cov_locate::PointsFault;
 use cov_types::NoMemory;
 use cov_valid::{Kind, Mark};
 use geo_json::JsonFault;
@@ -27,6 +28,8 @@ pub enum Outcome {
     BadText(TextFault),
     /// The input is no GeoJSON that can be read.
     BadJson(JsonFault),
+    /// The points file lists no points that can be read.
+    BadPoints(PointsFault),
     /// The coverage that the input is read as is not valid: its first segment that is at fault.
     NotValid { mark: Mark },
     /// Memory ran out before the output was created.
@@ -48,6 +51,7 @@ pub fn status(o: &Outcome) -> u8
         Outcome::ReadFault => 7,
         Outcome::WriteFault => 8,
         Outcome::NoMemory => 9,
+        Outcome::BadPoints(_) => 10,
     }
 }
 
@@ -65,8 +69,9 @@ pub fn message(alloc: Global, o: &Outcome) -> Result<String, NoMemory>
         ),
         Outcome::BadText(fault) => return fault_message(alloc, *fault),
         Outcome::BadJson(fault) => return json_fault_message(alloc, *fault),
+        Outcome::BadPoints(fault) => return points_fault_message(alloc, *fault),
         Outcome::Done => "done",
-        Outcome::Usage => "usage: cover validate|clean|simplify|union|node|regions",
+        Outcome::Usage => "usage: cover validate|clean|simplify|union|node|regions|locate",
         Outcome::ReadFault => "cannot read",
         Outcome::WriteFault => "cannot write",
         Outcome::TooLong => "input is longer than 67108864 bytes",
@@ -124,5 +129,17 @@ fn json_fault_message(alloc: Global, fault: JsonFault) -> Result<String, NoMemor
         )?,
         JsonFault::RingShort { ring } => format!(in alloc; "json: ring {ring} is short")?,
         JsonFault::RingOpen { ring } => format!(in alloc; "json: ring {ring} is open")?,
+    })
+}
+
+// The line that is printed for a fault of a points file.
+fn points_fault_message(alloc: Global, fault: PointsFault) -> Result<String, NoMemory>
+    ensures { IfOk result (λ text. string_bytes text ≡ points_fault_text fault) }
+{
+    Ok(match fault {
+        PointsFault::Syntax { line } => format!(in alloc; "points: syntax in line {line}")?,
+        PointsFault::OutOfRange { line } => format!(in alloc;
+            "points: out of range in line {line}"
+        )?,
     })
 }

@@ -1,9 +1,10 @@
 ghost use Rattle.std.specs.Prelude.{◌≡◌};
-ghost use Rattle.cover_cli.specs.Refusal.{outcome_of_slurp, outcome_of_file, outcome_of_refusal};
+ghost use Rattle.cover_cli.specs.Refusal.{outcome_of_slurp, outcome_of_file, outcome_of_refusal, outcome_of_points};
 
 use crate::outcome::Outcome;
 use cov_admit::AdmitError;
 use cov_io::SlurpError;
+use cov_locate::PointsError;
 use cov_types::NoMemory;
 use feature_files::{FileError, FileFault};
 use std::alloc::AllocFailed;
@@ -39,6 +40,17 @@ impl From<AdmitError> for Outcome {
         match e {
             AdmitError::NotValid { coverage: _, mark } => Outcome::NotValid { mark },
             AdmitError::NoMemory { coverage: _ } => Outcome::NoMemory,
+        }
+    }
+}
+
+impl From<PointsError> for Outcome {
+    ghost from_gives = { λ e o. o ≡ outcome_of_points e };
+
+    fn from(e: PointsError) -> Outcome {
+        match e {
+            PointsError::Fault(fault) => Outcome::BadPoints(fault),
+            PointsError::NoMemory => Outcome::NoMemory,
         }
     }
 }

@@ -19,10 +19,10 @@ use Rattle.clap.proofs.CallerReads.{signed_reads}
 use Rattle.clap.proofs.ValueTestLemmas.{accepts-Accepts, Accepts-accepts}
 use Rattle.clap.proofs.WalkLemmas.{both}
 use Rattle.cover_words.specs.Accepted.{AcceptedLaw, has_a_rule, is_accepted_by}
-use Rattle.cover_words.specs.Commands.{lengths, validate_command, clean_command, simplify_command, union_command, node_command, regions_command}
+use Rattle.cover_words.specs.Commands.{lengths, validate_command, clean_command, simplify_command, union_command, node_command, regions_command, locate_command}
 use Rattle.cover_words.specs.Values.{flag_at, number_at, number_of, text_at, truth_of}
 use Rattle.cover_words.specs.declared.rule_name.RuleName.{RuleName}
-use Rattle.cover_words.specs.Words.{Operation, Union, Node, Regions, clean_in, clean_with, files_with, node_in, operation_by, regions_in, simplify_in, simplify_with, taken, union_in, validate_in, validate_with}
+use Rattle.cover_words.specs.Words.{Operation, Union, Node, Regions, clean_in, clean_with, files_with, locate_in, locate_with, node_in, operation_by, regions_in, simplify_in, simplify_with, taken, union_in, validate_in, validate_with}
 use Rattle.cover_words.proofs.SoundRows.{AllOwn, AllSound, Present, defaults_have, defaults_sound, given_has, present, settled_sound, walk_sound}
 
 -- ---- the values of a command that takes the words
@@ -152,6 +152,12 @@ files_some make (Some f) (Some t) x y = refl
 files_some make (Some f) None x y = y
 files_some make None t x y = x
 
+locate_some : (f p t : Option Text) → is_some f ≡ true → is_some p ≡ true → is_some t ≡ true → is_some (locate_with f p t) ≡ true
+locate_some (Some f) (Some p) (Some t) x y z = refl
+locate_some (Some f) (Some p) None x y z = z
+locate_some (Some f) None t x y z = y
+locate_some None p t x y z = x
+
 name_there : (r : Rule) (id : Text) (rows : List Row) → r.id ≡ id → Present r rows → is_some (text_at id rows) ≡ true
 name_there r id rows same p = subst (λ (i : Text). is_some (first_of i rows) ≡ true) same (ap is_some p.first)
 
@@ -186,6 +192,9 @@ own_node = ((refl, refl), ((refl, refl), ((refl, refl), tt)))
 
 pub own_regions : AllOwn (built regions_command).top.rules (built regions_command).top.rules
 own_regions = ((refl, refl), ((refl, refl), ((refl, refl), tt)))
+
+pub own_locate : AllOwn (built locate_command).top.rules (built locate_command).top.rules
+own_locate = ((refl, refl), ((refl, refl), ((refl, refl), ((refl, refl), tt))))
 
 -- the argument of this id is one of the command, and is required or has a default
 abbrev pub is_at : App → Text → Type 0
@@ -230,6 +239,11 @@ module _ (words : List Text) where
   lists_regions by = files_some Regions _ _ (name_in regions_command words own_regions refl by (codes "IN") (refl, refl, refl))
       (name_in regions_command words own_regions refl by (codes "OUT") (refl, refl, refl))
 
+  locates : takes locate_command words ≡ true → is_some (locate_in (matches_of locate_command words)) ≡ true
+  locates by = locate_some _ _ _ (name_in locate_command words own_locate refl by (codes "IN") (refl, refl, refl))
+      (name_in locate_command words own_locate refl by (codes "POINTS") (refl, refl, refl))
+      (name_in locate_command words own_locate refl by (codes "OUT") (refl, refl, refl))
+
 -- ---- the law
 
 taken_where : (a : App) (f : List Row → Option Operation) (words : List Text) (q : Bool) → (takes a words ≡ true → is_some (f (matches_of a words)) ≡ q)
@@ -259,7 +273,8 @@ accepted_by word words =
     (by_word (bytes_eq word (codes "simplify")) _ _ _ _ (taken_some simplify_command simplify_in words (simplifies words))
     (by_word (bytes_eq word (codes "union")) _ _ _ _ (taken_some union_command union_in words (unites words))
     (by_word (bytes_eq word (codes "node")) _ _ _ _ (taken_some node_command node_in words (nodes words))
-    (by_word (bytes_eq word (codes "regions")) _ _ _ _ (taken_some regions_command regions_in words (lists_regions words)) refl)))))
+    (by_word (bytes_eq word (codes "regions")) _ _ _ _ (taken_some regions_command regions_in words (lists_regions words))
+    (by_word (bytes_eq word (codes "locate")) _ _ _ _ (taken_some locate_command locate_in words (locates words)) refl))))))
 
 -- words name an operation exactly where they are accepted
 pub accepted : AcceptedLaw

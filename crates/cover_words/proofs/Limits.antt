@@ -14,10 +14,10 @@ use Rattle.clap.specs.Takes.{takes}
 use Rattle.clap.proofs.CallerReads.{signed_reads}
 use Rattle.clap.proofs.ValueTestLemmas.{accepts-Accepts}
 use Rattle.cover_words.specs.Accepted.{is_accepted}
-use Rattle.cover_words.specs.Commands.{lengths, validate_command, clean_command, simplify_command, union_command, node_command, regions_command}
+use Rattle.cover_words.specs.Commands.{lengths, validate_command, clean_command, simplify_command, union_command, node_command, regions_command, locate_command}
 use Rattle.cover_words.specs.Values.{number_at, number_of}
 use Rattle.cover_words.specs.declared.rule_name.RuleName.{RuleName}
-use Rattle.cover_words.specs.Words.{Operation, Union, Node, Regions, Validate, Clean, Simplify, clean_in, clean_with, files_with, node_in, IsWithinLimit, operation_by, operation_of, regions_in, simplify_in, simplify_with, taken, union_in, validate_in, validate_with}
+use Rattle.cover_words.specs.Words.{Operation, Union, Node, Regions, Locate, Validate, Clean, Simplify, clean_in, clean_with, files_with, locate_in, locate_with, node_in, IsWithinLimit, operation_by, operation_of, regions_in, simplify_in, simplify_with, taken, union_in, validate_in, validate_with}
 use Rattle.cover_words.proofs.SoundRows.{AllOwn, Present}
 use Rattle.cover_words.specs.declared.operation.Operation as code
 use Rattle.cover_words.specs.Named.{IsNamed, named}
@@ -76,6 +76,12 @@ files_within make (Some f) (Some t) o h e = this_one (make f t) o e (h f t)
 files_within make (Some f) None o h e = absurd (not_some o e)
 files_within make None t o h e = absurd (not_some o e)
 
+locate_within : (f p t : Option Text) (o : Operation) → locate_with f p t ≡ Some o → IsWithinLimit o
+locate_within (Some f) (Some p) (Some t) o e = this_one (Locate f p t) o e tt
+locate_within (Some f) (Some p) None o e = absurd (not_some o e)
+locate_within (Some f) None t o e = absurd (not_some o e)
+locate_within None p t o e = absurd (not_some o e)
+
 taken_within : (a : App) (f : List Row → Option Operation) (words : List Text) (o : Operation) → (takes a words ≡ true → f (matches_of a words) ≡ Some o → IsWithinLimit o)
     → taken a f words ≡ Some o → IsWithinLimit o
 taken_within a f words o h e = go (takes a words) h e
@@ -99,7 +105,8 @@ within_by word words o =
     (either_within (bytes_eq word (codes "union")) _ _ o (taken_within union_command union_in words o (λ by. files_within Union _ _ o (λ x y. tt)))
     (either_within (bytes_eq word (codes "node")) _ _ o (taken_within node_command node_in words o (λ by. files_within Node _ _ o (λ x y. tt)))
     (either_within (bytes_eq word (codes "regions")) _ _ o (taken_within regions_command regions_in words o (λ by. files_within Regions _ _ o (λ x y. tt)))
-    (λ e. absurd (not_some o e)))))))
+    (either_within (bytes_eq word (codes "locate")) _ _ o (taken_within locate_command locate_in words o (λ by. locate_within _ _ _ o))
+    (λ e. absurd (not_some o e))))))))
 
 within : (words : List Text) (o : Operation) → operation_of words ≡ Some o → IsWithinLimit o
 within [] o e = absurd (not_some o e)

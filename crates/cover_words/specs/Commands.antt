@@ -61,3 +61,7 @@ node_command = on_files (codes "node") []
 -- `regions IN OUT`
 abbrev pub regions_command : App
 regions_command = on_files (codes "regions") []
+
+-- `locate IN POINTS OUT`
+abbrev pub locate_command : App
+locate_command = fold with_rule (new_app (codes "locate")) (name (codes "IN") ∷ name (codes "POINTS") ∷ name (codes "OUT") ∷ [])

@@ -4,7 +4,7 @@ use Rattle.std.specs.Str.{bytes_eq}
 use Rattle.clap.specs.Walk.{Row, Text}
 use Rattle.clap.specs.Simple.{App, matches_of}
 use Rattle.clap.specs.Takes.{takes}
-use Rattle.cover_words.specs.Commands.{validate_command, clean_command, simplify_command, union_command, node_command, regions_command}
+use Rattle.cover_words.specs.Commands.{validate_command, clean_command, simplify_command, union_command, node_command, regions_command, locate_command}
 use Rattle.cover_words.specs.Values.{text_at, number_at, flag_at}
 use Rattle.cover_words.specs.declared.rule_name.RuleName.{RuleName}
 use Rattle.cover_words.specs.declared.rule_name.RuleName.TheVariants.{LeastIndex, GreatestArea, LeastArea, LongestBorder}
@@ -23,6 +23,8 @@ pub data Operation : Type 0 where
   Node : Text → Text → Operation
   -- the input, the output
   Regions : Text → Text → Operation
+  -- the input, the points; the output
+  Locate : Text → Text → Text → Operation
 
 -- the names of the files that the operation reads, in the order in which it reads them
 abbrev pub inputs_of : Operation → List Text
@@ -32,6 +34,7 @@ inputs_of (Simplify tolerance inner from to) = from ∷ []
 inputs_of (Union from to) = from ∷ []
 inputs_of (Node from to) = from ∷ []
 inputs_of (Regions from to) = from ∷ []
+inputs_of (Locate from points to) = from ∷ points ∷ []
 
 -- the name of the file that the operation writes
 abbrev pub output_of : Operation → Text
@@ -41,6 +44,7 @@ output_of (Simplify tolerance inner from to) = to
 output_of (Union from to) = to
 output_of (Node from to) = to
 output_of (Regions from to) = to
+output_of (Locate from points to) = to
 
 -- the gap width or the tolerance of the operation is at most 2^30 grid units
 abbrev pub IsWithinLimit : Operation → Type 0
@@ -80,6 +84,11 @@ abbrev pub files_with : (Text → Text → Operation) → Option Text → Option
 files_with operation (Some from) (Some to) = Some (operation from to)
 files_with operation _ _ = None
 
+-- the location that the values name, where all are there
+abbrev pub locate_with : Option Text → Option Text → Option Text → Option Operation
+locate_with (Some from) (Some points) (Some to) = Some (Locate from points to)
+locate_with _ _ _ = None
+
 -- the validation that the matches name, by the ids of its arguments
 abbrev pub validate_in : List Row → Option Operation
 validate_in rows = validate_with (text_at (codes "IN") rows) (text_at (codes "OUT") rows) (number_at (codes "gap") rows)
@@ -104,6 +113,9 @@ node_in rows = files_with Node (text_at (codes "IN") rows) (text_at (codes "OUT"
 abbrev pub regions_in : List Row → Option Operation
 regions_in rows = files_with Regions (text_at (codes "IN") rows) (text_at (codes "OUT") rows)
 
+abbrev pub locate_in : List Row → Option Operation
+locate_in rows = locate_with (text_at (codes "IN") rows) (text_at (codes "POINTS") rows) (text_at (codes "OUT") rows)
+
 -- ---- the words
 
 -- the operation that the matches name, where the command takes the words after the first
@@ -119,7 +131,8 @@ operation_by word words =
     else (if bytes_eq word (codes "union") then taken union_command union_in words
     else (if bytes_eq word (codes "node") then taken node_command node_in words
     else (if bytes_eq word (codes "regions") then taken regions_command regions_in words
-    else None)))))
+    else (if bytes_eq word (codes "locate") then taken locate_command locate_in words
+    else None))))))
 
 -- the operation that the words name, where they are accepted
 abbrev pub operation_of : List Text → Option Operation

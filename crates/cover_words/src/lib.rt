@@ -10,7 +10,9 @@
 
 mod arguments;
 mod clean;
+mod inputs;
 mod laws;
+mod locate;
 mod matched;
 mod node;
 mod operation;
@@ -22,6 +24,7 @@ mod validate;
 mod values;
 mod words;
 
+pub use inputs::Inputs;
 pub use laws::accepted_law;
 pub use operation::Operation;
 pub use rule_name::{RuleName, rule_named};

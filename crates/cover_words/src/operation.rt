@@ -1,9 +1,9 @@
-ghost use Rattle.std.specs.Prelude.{◌≡◌, map};
-ghost use Rattle.cover_words.specs.Named.{named};
+ghost use Rattle.std.specs.Prelude.{◌≡◌};
+ghost use Rattle.cover_words.specs.Named.{named, names_in};
 ghost use Rattle.cover_words.specs.Words.{inputs_of, output_of};
 
+use crate::inputs::Inputs;
 use crate::rule_name::RuleName;
-use std::slice;
 
 /// An operation, with the names of the files that it works on and its other values.
 #[derive(Clone, Copy, Debug, PartialEq, Eq)]
@@ -40,34 +40,45 @@ pub enum Operation<'a> {
         from: &'a str,
         to: &'a str,
     },
+    /// `points` names the file of points.
+    Locate {
+        from: &'a str,
+        points: &'a str,
+        to: &'a str,
+    },
 }
 
 impl<'a> Operation<'a> {
     /// The names of the files that it reads, in the order in which it reads them. Takes no memory.
-    pub fn inputs(&self) -> &[&'a str]
-        ensures { map (λ name. name.now) result.now ≡ inputs_of (named self.now) }
+    pub fn inputs(&self) -> Inputs<'a>
+        ensures { names_in result ≡ inputs_of (named self.now) }
     {
         match self {
             Operation::Validate {
                 gap: _,
                 from,
                 to: _,
-            } => slice::from_ref(from),
+            } => Inputs::One(from),
             Operation::Clean {
                 rule: _,
                 gap: _,
                 from,
                 to: _,
-            } => slice::from_ref(from),
+            } => Inputs::One(from),
             Operation::Simplify {
                 tolerance: _,
                 inner: _,
                 from,
                 to: _,
-            } => slice::from_ref(from),
-            Operation::Union { from, to: _ } => slice::from_ref(from),
-            Operation::Node { from, to: _ } => slice::from_ref(from),
-            Operation::Regions { from, to: _ } => slice::from_ref(from),
+            } => Inputs::One(from),
+            Operation::Union { from, to: _ } => Inputs::One(from),
+            Operation::Node { from, to: _ } => Inputs::One(from),
+            Operation::Regions { from, to: _ } => Inputs::One(from),
+            Operation::Locate {
+                from,
+                points,
+                to: _,
+            } => Inputs::Two(from, points),
         }
     }
 
@@ -96,6 +107,11 @@ impl<'a> Operation<'a> {
             Operation::Union { from: _, to } => to,
             Operation::Node { from: _, to } => to,
             Operation::Regions { from: _, to } => to,
+            Operation::Locate {
+                from: _,
+                points: _,
+                to,
+            } => to,
         }
     }
 }

@@ -1,4 +1,4 @@
-use crate::{Operation, RuleName, operation_named};
+use crate::{Inputs, Operation, RuleName, operation_named};
 use cov_types::NoMemory;
 use std::alloc::Global;
 use std::test::Fail;
@@ -25,7 +25,7 @@ fn names(alloc: Global, line: &str, wanted: Operation) -> Result<bool, NoMemory>
     Ok(operation_named(alloc, &words)? == Some(wanted))
 }
 
-static REFUSED: [&str; 19] = [
+static REFUSED: [&str; 22] = [
     "_",
     "measure a b",
     "clean",
@@ -43,6 +43,9 @@ static REFUSED: [&str; 19] = [
     "node -h a b",
     "regions -a b",
     "union a b --gap 3",
+    "locate a b",
+    "locate a b c d",
+    "locate a b c --gap 3",
     "simplify a b --inner",
     "simplify a b --tolerance 8 --inner=true",
 ];
@@ -127,7 +130,15 @@ fn lines_inside_alone(rt: HostRuntime) -> Result<(), Fail> {
 #[test]
 fn files_of_an_operation(rt: HostRuntime) -> Result<(), Fail> {
     let union = Operation::Union { from: "a", to: "b" };
-    assert!(rt; union.inputs() == ["a"].as_slice());
-    assert!(rt; union.output() == "b");
+    assert_eq!(rt; union.inputs(), Inputs::One("a"));
+    assert_eq!(rt; union.output(), "b");
+    let locate = Operation::Locate {
+        from: "a",
+        points: "b",
+        to: "c",
+    };
+    assert!(rt; names(rt.alloc(), "locate a b c", locate)?);
+    assert_eq!(rt; locate.inputs(), Inputs::Two("a", "b"));
+    assert_eq!(rt; locate.output(), "c");
     Ok(())
 }

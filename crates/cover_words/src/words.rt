@@ -5,6 +5,7 @@ ghost use Rattle.cover_words.specs.Named.{IsNamed, named};
 ghost use Rattle.cover_words.specs.Words.{IsWithinLimit, operation_by as operation_by_word, operation_of};
 
 use crate::clean::clean_named;
+use crate::locate::locate_named;
 use crate::node::node_named;
 use crate::operation::Operation;
 use crate::regions::regions_named;
@@ -39,6 +40,9 @@ fn operation_by<'a>(
     }
     if word == "regions" {
         return regions_named(alloc, words);
+    }
+    if word == "locate" {
+        return locate_named(alloc, words);
     }
     Ok(None)
 }

@@ -6,7 +6,7 @@ use Rattle.std.proofs.lemmas.Result.{err_from_is_err_and}
 use Rattle.cov_io.specs.Calls.{IsPromised}
 use Rattle.cover_cli.proofs.Reading.{read_more, next_unread, next_promised, names_more}
 use Rattle.geo_text.specs.declared.reader.TheConstants.{LONGEST_INPUT}
-use Rattle.cover_cli.proofs.input.read_inputs.Goals as goal
+use Rattle.cover_cli.proofs.input.read_files.Goals as goal
 
 pub returns-in_err-input-clause-cause : goal.returns-in_err-input-clause-cause
 returns-in_err-input-clause-cause g c =

@@ -1,0 +1,9 @@
+-- One point more.
+use Rattle.cover_cli.proofs.PlaceRows.{no_places, places_more}
+use Rattle.cover_cli.proofs.locate.rows_of.Goals as goal
+
+pub loop-p-init : goal.loop-p-init
+loop-p-init c = no_places _ _ c.new-text.ensures.items
+
+pub loop-p-preserved : goal.loop-p-preserved
+loop-p-preserved c = places_more _ _ c.loop-p.p-index c.p-item.result c.at.result _ _ c.loop-p-test.true c.p-item.is c.loop-p.invariant c.at.ensures c.in_ok-append_place.ensures

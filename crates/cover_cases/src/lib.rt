@@ -19,6 +19,8 @@ mod hostile;
 #[cfg(test)]
 mod rows;
 #[cfg(test)]
+mod sampling;
+#[cfg(test)]
 mod simplifying;
 #[cfg(test)]
 mod tests;

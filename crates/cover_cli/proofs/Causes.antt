@@ -1,6 +1,6 @@
 -- Causes of refusals: each input has one cause at most, and none where a text is made of it.
 use Rattle.std.proofs.Common.{◌≡◌, ◌≢◌, ℕ, zero, suc, List, [], ◌∷◌, Bool, true, false, IsTrue, refl, ap, subst, ◌∙◌, sym, inl, inr}
-use Rattle.cover_cli.specs.Answers.{is_validate, is_success, is_refusal, is_marked, touches_output}
+use Rattle.cover_cli.specs.Answers.{is_validate, is_sample, is_success, is_refusal, is_marked, is_sampled, touches_output}
 use Rattle.cov_types.specs.Coverage.{Members}
 use Rattle.cov_types.specs.Uses.{uses_of}
 use Rattle.plane.specs.Validity.{IsValid}
@@ -20,9 +20,9 @@ use Rattle.cover_cli.specs.Made.{IsOneAnd, Makes, Refuses}
 use Rattle.cover_cli.specs.Refusal.{outcome_of_file, outcome_of_refusal, IsRefusedFor}
 use Rattle.cover_cli.specs.Text.{IsReadAnd, RefusesInput}
 use Rattle.cover_cli.specs.Validate.{marking}
-use Rattle.cover_words.specs.Words.{Operation, Validate, Clean, Simplify, Union, Node, Regions}
+use Rattle.cover_words.specs.Words.{Operation, Validate, Clean, Simplify, Union, Node, Regions, Sample}
 use Rattle.cover_cli.specs.declared.outcome.Outcome.{Outcome}
-use Rattle.cover_cli.specs.declared.outcome.Outcome.TheVariants.{Done, Marked, Usage, ReadFault, WriteFault, TooLong, BadText, BadJson, NotValid, NoMemory}
+use Rattle.cover_cli.specs.declared.outcome.Outcome.TheVariants.{Done, Marked, Sampled, Usage, ReadFault, WriteFault, TooLong, BadText, BadJson, NotValid, NoMemory}
 
 -- ---- inputs with a fault
 
@@ -40,6 +40,7 @@ one_input_refusal name input (BadJson f) (BadText g) first second = (let same : 
 one_input_refusal name input (BadJson f) (BadJson g) first second = (let same : Json f ≡ Json g = one_fault name input (Json f) (Json g) first second in cc)
 one_input_refusal name input (BadText f) Done first second = absurd second
 one_input_refusal name input (BadText f) (Marked edges) first second = absurd second
+one_input_refusal name input (BadText f) (Sampled m p q) first second = absurd second
 one_input_refusal name input (BadText f) Usage first second = absurd second
 one_input_refusal name input (BadText f) ReadFault first second = absurd second
 one_input_refusal name input (BadText f) WriteFault first second = absurd second
@@ -48,6 +49,7 @@ one_input_refusal name input (BadText f) NoMemory first second = absurd second
 one_input_refusal name input (BadText f) (NotValid mark) first second = absurd second
 one_input_refusal name input (BadJson f) Done first second = absurd second
 one_input_refusal name input (BadJson f) (Marked edges) first second = absurd second
+one_input_refusal name input (BadJson f) (Sampled m p q) first second = absurd second
 one_input_refusal name input (BadJson f) Usage first second = absurd second
 one_input_refusal name input (BadJson f) ReadFault first second = absurd second
 one_input_refusal name input (BadJson f) WriteFault first second = absurd second
@@ -84,6 +86,7 @@ one_mark : (members : Members) (o p : Outcome) → TellsMark members o → Tells
 one_mark members (NotValid m) (NotValid n) first second = ap NotValid (one_first_mark members m n first.0 second.0)
 one_mark members (NotValid m) Done first second = absurd second
 one_mark members (NotValid m) (Marked edges) first second = absurd second
+one_mark members (NotValid m) (Sampled k p q) first second = absurd second
 one_mark members (NotValid m) Usage first second = absurd second
 one_mark members (NotValid m) ReadFault first second = absurd second
 one_mark members (NotValid m) WriteFault first second = absurd second
@@ -140,6 +143,7 @@ one_refusal (Simplify tolerance inner from to) inputs o p = of_both inputs _ _ (
 one_refusal (Union from to) inputs o p = of_both inputs _ _ (o ≡ p) (λ input. one_invalid_refusal from input o p)
 one_refusal (Node from to) inputs o p = of_both inputs _ _ (o ≡ p) (λ input. one_input_refusal from input o p)
 one_refusal (Regions from to) inputs o p = of_both inputs _ _ (o ≡ p) (λ input. one_input_refusal from input o p)
+one_refusal (Sample side seed to) inputs o p first second = absurd first
 
 pub refuses_refusal : (operation : Operation) (inputs : List (List ℕ)) (o : Outcome) → Refuses operation inputs o → IsTrue (is_refusal o)
 refuses_refusal (Validate gap from to) inputs o = of_one inputs _ (IsTrue (is_refusal o)) (λ input. input_refusal from input o)
@@ -148,6 +152,7 @@ refuses_refusal (Simplify tolerance inner from to) inputs o = of_one inputs _ (I
 refuses_refusal (Union from to) inputs o = of_one inputs _ (IsTrue (is_refusal o)) (λ input. invalid_refusal from input o)
 refuses_refusal (Node from to) inputs o = of_one inputs _ (IsTrue (is_refusal o)) (λ input. input_refusal from input o)
 refuses_refusal (Regions from to) inputs o = of_one inputs _ (IsTrue (is_refusal o)) (λ input. input_refusal from input o)
+refuses_refusal (Sample side seed to) inputs o refuses = absurd refuses
 
 -- of inputs that are refused no text is made
 pub not_both : (operation : Operation) (inputs : List (List ℕ)) (o p : Outcome) (text : List ℕ) → Makes operation inputs o text → Refuses operation inputs p → ⊥
@@ -157,6 +162,7 @@ not_both (Simplify tolerance inner from to) inputs o p text = of_both inputs _ _
 not_both (Union from to) inputs o p text = of_both inputs _ _ ⊥ (λ input. not_admitted_and_refused from input _ p (λ r uniting. uniting.admitted))
 not_both (Node from to) inputs o p text = of_both inputs _ _ ⊥ (λ input. not_read_and_refused from input _ p)
 not_both (Regions from to) inputs o p text = of_both inputs _ _ ⊥ (λ input. not_read_and_refused from input _ p)
+not_both (Sample side seed to) inputs o p text makes refuses = refuses
 
 marking_success : (edges : ℕ) → IsTrue (is_success (marking edges))
 marking_success zero = refl
@@ -170,6 +176,7 @@ makes_success (Simplify tolerance inner from to) inputs o text = of_one inputs _
 makes_success (Union from to) inputs o text = of_one inputs _ (IsTrue (is_success o)) (λ input makes. ap is_success makes.holds.done)
 makes_success (Node from to) inputs o text = of_one inputs _ (IsTrue (is_success o)) (λ input makes. ap is_success makes.holds.done)
 makes_success (Regions from to) inputs o text = of_one inputs _ (IsTrue (is_success o)) (λ input makes. ap is_success makes.holds.done)
+makes_success (Sample side seed to) inputs o text makes = ap is_success makes.counted
 
 -- only validate answers marks
 pub makes_marked : (operation : Operation) (inputs : List (List ℕ)) (o : Outcome) (text : List ℕ) → Makes operation inputs o text → IsTrue (is_marked o) → IsTrue (is_validate operation)
@@ -179,6 +186,7 @@ makes_marked (Simplify tolerance inner from to) inputs o text makes marks = of_o
 makes_marked (Union from to) inputs o text makes marks = of_one inputs _ (IsTrue false) (λ input uniting. sym (ap is_marked uniting.holds.done) ∙ marks) makes
 makes_marked (Node from to) inputs o text makes marks = of_one inputs _ (IsTrue false) (λ input noding. sym (ap is_marked noding.holds.done) ∙ marks) makes
 makes_marked (Regions from to) inputs o text makes marks = of_one inputs _ (IsTrue false) (λ input listing. sym (ap is_marked listing.holds.done) ∙ marks) makes
+makes_marked (Sample side seed to) inputs o text makes marks = sym (ap is_marked makes.counted) ∙ marks
 
 marking_some : (edges : ℕ) → marking edges ≢ Marked 0
 marking_some zero h = cc
@@ -192,6 +200,21 @@ makes_some (Simplify tolerance inner from to) inputs o text makes h = of_one inp
 makes_some (Union from to) inputs o text makes h = of_one inputs _ ⊥ (λ input uniting. (let e : Done ≡ Marked 0 = sym uniting.holds.done ∙ h in cc)) makes
 makes_some (Node from to) inputs o text makes h = of_one inputs _ ⊥ (λ input noding. (let e : Done ≡ Marked 0 = sym noding.holds.done ∙ h in cc)) makes
 makes_some (Regions from to) inputs o text makes h = of_one inputs _ ⊥ (λ input listing. (let e : Done ≡ Marked 0 = sym listing.holds.done ∙ h in cc)) makes
+makes_some (Sample side seed to) inputs o text makes h = (let e : true ≡ false = sym (ap is_sampled makes.counted) ∙ ap is_sampled h in cc)
+
+marking_none_sampled : (edges : ℕ) → is_sampled (marking edges) ≡ false
+marking_none_sampled zero = refl
+marking_none_sampled (suc edges) = refl
+
+-- sample answers counts, and no other operation does
+pub makes_sampled : (operation : Operation) (inputs : List (List ℕ)) (o : Outcome) (text : List ℕ) → Makes operation inputs o text → is_sampled o ≡ is_sample operation
+makes_sampled (Validate gap from to) inputs o text = of_one inputs _ (is_sampled o ≡ false) (λ input makes. ap is_sampled makes.holds.counted ∙ marking_none_sampled _)
+makes_sampled (Clean rule gap from to) inputs o text = of_one inputs _ (is_sampled o ≡ false) (λ input makes. ap is_sampled makes.holds.done)
+makes_sampled (Simplify tolerance inner from to) inputs o text = of_one inputs _ (is_sampled o ≡ false) (λ input makes. ap is_sampled makes.holds.done)
+makes_sampled (Union from to) inputs o text = of_one inputs _ (is_sampled o ≡ false) (λ input makes. ap is_sampled makes.holds.done)
+makes_sampled (Node from to) inputs o text = of_one inputs _ (is_sampled o ≡ false) (λ input makes. ap is_sampled makes.holds.done)
+makes_sampled (Regions from to) inputs o text = of_one inputs _ (is_sampled o ≡ false) (λ input makes. ap is_sampled makes.holds.done)
+makes_sampled (Sample side seed to) inputs o text makes = ap is_sampled makes.counted
 
 -- ---- the kinds of answers
 
@@ -202,6 +225,7 @@ differs kind o p is not same = (let e : true ≡ false = sym is ∙ ap kind same
 pub refusal_no_success : (o : Outcome) → IsTrue (is_refusal o) → is_success o ≡ false
 refusal_no_success Done refusal = cc
 refusal_no_success (Marked edges) refusal = cc
+refusal_no_success (Sampled m p q) refusal = cc
 refusal_no_success _ refusal = refl
 
 -- a refusal of what was read touches no output, and a success does
@@ -213,6 +237,7 @@ refusal_no_touch _ refusal = cc
 pub success_touches : (o : Outcome) → IsTrue (is_success o) → IsTrue (touches_output o)
 success_touches Done success = refl
 success_touches (Marked edges) success = refl
+success_touches (Sampled m p q) success = refl
 success_touches _ success = cc
 
 pub marked_success : (o : Outcome) → IsTrue (is_marked o) → IsTrue (is_success o)
@@ -230,4 +255,5 @@ pub untouching_no_success : (o : Outcome) → touches_output o ≡ false → is_
 untouching_no_success WriteFault h = refl
 untouching_no_success Done h = h
 untouching_no_success (Marked edges) h = h
+untouching_no_success (Sampled m p q) h = h
 untouching_no_success _ h = refl

@@ -9,3 +9,4 @@ pub mod Headline
 pub mod OneAnswer
 pub mod RegionRows
 pub mod Overlays
+pub mod Sampling

@@ -10,9 +10,11 @@ pub mod Simplify
 pub mod Union
 pub mod Node
 pub mod Regions
+pub mod Sample
 pub mod Made
 pub mod Refusal
 pub mod Answers
 pub mod Written
 pub mod Laws
 pub mod Headline
+pub mod SampleLaw

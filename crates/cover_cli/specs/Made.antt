@@ -3,12 +3,13 @@ use Rattle.std.specs.Prelude.{ℕ, List, [], ◌∷◌}
 use Rattle.cover_cli.specs.Clean.{IsCleaning}
 use Rattle.cover_cli.specs.Node.{IsNoding}
 use Rattle.cover_cli.specs.Regions.{IsRegionList}
+use Rattle.cover_cli.specs.Sample.{IsSampling}
 use Rattle.cover_cli.specs.Simplify.{IsSimplifying}
 use Rattle.cover_cli.specs.Text.{IsReadAnd, RefusesInput}
 use Rattle.cover_cli.specs.Invalid.{RefusesInvalid}
 use Rattle.cover_cli.specs.Union.{IsUniting}
 use Rattle.cover_cli.specs.Validate.{IsValidation}
-use Rattle.cover_words.specs.Words.{Operation, Validate, Clean, Simplify, Union, Node, Regions}
+use Rattle.cover_words.specs.Words.{Operation, Validate, Clean, Simplify, Union, Node, Regions, Sample}
 use Rattle.cover_cli.specs.declared.outcome.Outcome.{Outcome}
 
 -- there is one input, and this holds of it
@@ -25,6 +26,7 @@ Makes (Simplify tolerance inner from to) inputs outcome text = IsOneAnd inputs (
 Makes (Union from to) inputs outcome text = IsOneAnd inputs (λ input. IsReadAnd from input (λ r. IsUniting to r.members outcome text))
 Makes (Node from to) inputs outcome text = IsOneAnd inputs (λ input. IsReadAnd from input (λ r. IsNoding r.members outcome text))
 Makes (Regions from to) inputs outcome text = IsOneAnd inputs (λ input. IsReadAnd from input (λ r. IsRegionList r.members outcome text))
+Makes (Sample side seed to) inputs outcome text = IsSampling side seed to outcome text
 
 -- these inputs are a cause for the operation to refuse them with this outcome
 abbrev pub Refuses : Operation → List (List ℕ) → Outcome → Type 0
@@ -34,3 +36,4 @@ Refuses (Simplify tolerance inner from to) inputs outcome = IsOneAnd inputs (λ 
 Refuses (Union from to) inputs outcome = IsOneAnd inputs (λ input. RefusesInvalid from input outcome)
 Refuses (Node from to) inputs outcome = IsOneAnd inputs (λ input. RefusesInput from input outcome)
 Refuses (Regions from to) inputs outcome = IsOneAnd inputs (λ input. RefusesInput from input outcome)
+Refuses (Sample side seed to) inputs outcome = ⊥

@@ -2,7 +2,7 @@
 use Rattle.std.specs.Prelude.{ℕ, List, ◌++◌, codes}
 use Rattle.std.specs.Fmt.{decimal}
 use Rattle.cover_cli.specs.declared.outcome.Outcome.{Outcome}
-use Rattle.cover_cli.specs.declared.outcome.Outcome.TheVariants.{Done, Marked, Usage, ReadFault, WriteFault, TooLong, BadText, BadJson, NotValid, NoMemory}
+use Rattle.cover_cli.specs.declared.outcome.Outcome.TheVariants.{Done, Marked, Sampled, Usage, ReadFault, WriteFault, TooLong, BadText, BadJson, NotValid, NoMemory}
 use Rattle.cov_valid.specs.declared.mark.Kind.{Kind}
 use Rattle.cov_valid.specs.declared.mark.Kind.TheVariants.{Meets, Repeated, SameSide, Inside, NarrowGap}
 use Rattle.geo_json.specs.declared.error.JsonFault.{JsonFault}
@@ -13,6 +13,7 @@ use Rattle.geo_text.specs.declared.error.TextFault.TheVariants.{Syntax, NotPlana
 -- the exit status
 abbrev pub status_of : Outcome → ℕ
 status_of Done = 0
+status_of (Sampled members polygons points) = 0
 status_of (Marked edges) = 1
 status_of Usage = 2
 status_of (NotValid mark) = 3
@@ -42,6 +43,11 @@ json_fault_text (json.OutOfRange feature) = codes "json: out of range in feature
 json_fault_text (json.RingShort ring) = codes "json: ring " ++ decimal ring ++ codes " is short"
 json_fault_text (json.RingOpen ring) = codes "json: ring " ++ decimal ring ++ codes " is open"
 
+-- the text of a sample, with the numbers of its members, of their polygons and of the points of all rings
+abbrev pub sampled_text : ℕ → ℕ → ℕ → List ℕ
+sampled_text members polygons points =
+    codes "sampled: members " ++ (decimal members ++ (codes ", polygons " ++ (decimal polygons ++ (codes ", points " ++ decimal points))))
+
 -- the text of the first segment at fault of a coverage that is not valid, with its member, its place and its kind
 abbrev pub mark_text : ℕ → ℕ → Kind → List ℕ
 mark_text member place Meets = codes "not valid: member " ++ (decimal member ++ (codes " place " ++ (decimal place ++ codes " meets")))
@@ -54,7 +60,8 @@ mark_text member place NarrowGap = codes "not valid: member " ++ (decimal member
 abbrev pub message_of : Outcome → List ℕ
 message_of Done = codes "done"
 message_of (Marked edges) = codes "marked " ++ decimal edges
-message_of Usage = codes "usage: cover validate|clean|simplify|union|node|regions"
+message_of (Sampled members polygons points) = sampled_text members polygons points
+message_of Usage = codes "usage: cover validate|clean|simplify|union|node|regions|sample"
 message_of ReadFault = codes "cannot read"
 message_of WriteFault = codes "cannot write"
 message_of TooLong = codes "input is longer than 67108864 bytes"

@@ -2,7 +2,7 @@
 use Rattle.std.specs.Prelude.{◌≡◌, Option, Some, None}
 use Rattle.cover_words.specs.declared.operation.Operation as code
 use Rattle.cover_words.specs.declared.operation.Operation.TheVariants as operations
-use Rattle.cover_words.specs.Words.{Operation, Validate, Clean, Simplify, Union, Node, Regions}
+use Rattle.cover_words.specs.Words.{Operation, Validate, Clean, Simplify, Union, Node, Regions, Sample}
 
 -- the operation with the names that its texts hold
 abbrev pub named : code.Operation → Operation
@@ -12,6 +12,7 @@ named (operations.Simplify tolerance inner from to) = Simplify tolerance inner f
 named (operations.Union from to) = Union from.now to.now
 named (operations.Node from to) = Node from.now to.now
 named (operations.Regions from to) = Regions from.now to.now
+named (operations.Sample side seed to) = Sample side seed to.now
 
 -- the answer names the same operation, or none where there is none
 abbrev pub IsNamed : Option Operation → Option code.Operation → Type 0

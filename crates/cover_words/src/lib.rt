@@ -16,6 +16,7 @@ mod node;
 mod operation;
 mod regions;
 mod rule_name;
+mod sample;
 mod simplify;
 mod union;
 mod validate;

@@ -40,6 +40,12 @@ pub enum Operation<'a> {
         from: &'a str,
         to: &'a str,
     },
+    /// `side` in cells, 1 to 400.
+    Sample {
+        side: u32,
+        seed: u32,
+        to: &'a str,
+    },
 }
 
 impl<'a> Operation<'a> {
@@ -68,6 +74,11 @@ impl<'a> Operation<'a> {
             Operation::Union { from, to: _ } => slice::from_ref(from),
             Operation::Node { from, to: _ } => slice::from_ref(from),
             Operation::Regions { from, to: _ } => slice::from_ref(from),
+            Operation::Sample {
+                side: _,
+                seed: _,
+                to: _,
+            } => &[],
         }
     }
 
@@ -96,6 +107,11 @@ impl<'a> Operation<'a> {
             Operation::Union { from: _, to } => to,
             Operation::Node { from: _, to } => to,
             Operation::Regions { from: _, to } => to,
+            Operation::Sample {
+                side: _,
+                seed: _,
+                to,
+            } => to,
         }
     }
 }

@@ -8,6 +8,7 @@ use crate::clean::clean_named;
 use crate::node::node_named;
 use crate::operation::Operation;
 use crate::regions::regions_named;
+use crate::sample::sample_named;
 use crate::simplify::simplify_named;
 use crate::union::union_named;
 use crate::validate::validate_named;
@@ -39,6 +40,9 @@ fn operation_by<'a>(
     }
     if word == "regions" {
         return regions_named(alloc, words);
+    }
+    if word == "sample" {
+        return sample_named(alloc, words);
     }
     Ok(None)
 }

@@ -1,2 +1,2 @@
 mod Cells
-mod Shapes
+pub mod Shapes

@@ -80,7 +80,8 @@ length-rows f side from (suc n) each =
     let rest = length-rows f side (from + 1) n each in
     length-append (f from) _ ∙ omega (arith, here, rest)
 
-length-cells : (side seed : ℕ) → length (cells side seed) ≡ side * side
+-- there is a member for each cell
+pub length-cells : (side seed : ℕ) → length (cells side seed) ≡ side * side
 length-cells side seed = length-rows (cells_in_row side seed) side 0 side (λ row. length-map (range_with_len 0 side) (cell side seed row) ∙ length-range_with_len 0 side)
 
 few : (side : ℕ) → side ≤ 400 → side * side < 2 ^ 32

@@ -2,6 +2,8 @@
 //! neighbours overlap and leave slivers between them.
 //!
 //! Its promise: [`jittered_cells`] is the coverage of the definition (`cells`), which the number of cells on a side and the seed determine.
+//!
+//! A crate above takes a lemma by `use Rattle.jittered_grid.proofs.Shapes.{NAME}` in its `proofs/`.
 #![tactic(auto)]
 
 mod cell;

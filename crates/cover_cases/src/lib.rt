@@ -21,6 +21,8 @@ mod locating;
 #[cfg(test)]
 mod rows;
 #[cfg(test)]
+mod sampling;
+#[cfg(test)]
 mod simplifying;
 #[cfg(test)]
 mod tests;

@@ -24,7 +24,7 @@ pub(crate) type Case<'a> = (&'a str, &'a str, Outcome, &'a str);
 const NO_TEXT: Outcome = Outcome::BadText(TextFault::Syntax { at: 0 });
 
 // Runs the program on the words of a line.
-fn answer(alloc: Global, line: &str, files: &mut Shelf) -> Result<Outcome, AllocError> {
+pub(crate) fn answer(alloc: Global, line: &str, files: &mut Shelf) -> Result<Outcome, AllocError> {
     let mut words = Vec::new(alloc);
     for word in line.split_whitespace() {
         words.push(String::from_str(alloc, word)?)?;
@@ -32,7 +32,7 @@ fn answer(alloc: Global, line: &str, files: &mut Shelf) -> Result<Outcome, Alloc
     Ok(cover(alloc, &words, files))
 }
 
-fn holds(files: &Shelf, name: &str, text: &str) -> bool {
+pub(crate) fn holds(files: &Shelf, name: &str, text: &str) -> bool {
     match files.held(name) {
         Some(bytes) => bytes == text.as_bytes(),
         None => false,
@@ -539,7 +539,16 @@ fn each_outcome_has_its_status_and_its_message(rt: HostRuntime) -> Result<(), te
         (
             Outcome::Usage,
             2,
-            "usage: cover validate|clean|simplify|union|node|regions|locate",
+            "usage: cover validate|clean|simplify|union|node|regions|sample|locate",
+        ),
+        (
+            Outcome::Sampled {
+                members: 3,
+                polygons: 2,
+                points: 10,
+            },
+            0,
+            "sampled: members 3, polygons 2, points 10",
         ),
         (NO_TEXT, 4, "text: syntax at 0"),
         (Outcome::TooLong, 6, "input is longer than 67108864 bytes"),

@@ -6,16 +6,16 @@ use Rattle.cov_io.specs.Contents.{Contents, SameFiles, HoldsNow, HoldsPrefix}
 use Rattle.cov_io.specs.Count.{Rose}
 use Rattle.cov_io.specs.Frame.{KeepsOutput, KeepsInput}
 use Rattle.cov_io.specs.State.{State, IsTelling}
-use Rattle.cover_cli.specs.Answers.{is_success, is_refusal, is_marked, touches_output, MayWrite, IsOnlyText, HoldsCause, IsAnswer}
+use Rattle.cover_cli.specs.Answers.{is_success, is_refusal, is_marked, is_sampled, touches_output, MayWrite, IsOnlyText, HoldsCause, IsAnswer}
 use Rattle.cover_cli.specs.Input.{AreInputs}
 use Rattle.cover_cli.specs.Made.{Makes, Refuses}
 use Rattle.cover_cli.specs.Refusal.{IsRefusedFor, IsUnread}
 use Rattle.cover_words.specs.Words.{Operation, inputs_of, output_of}
 use Rattle.cover_cli.specs.Written.{IsTextWritten, IsWrittenWhole, IsWrittenInPart}
 use Rattle.cover_cli.specs.declared.outcome.Outcome.{Outcome}
-use Rattle.cover_cli.specs.declared.outcome.Outcome.TheVariants.{Done, Marked, Usage, ReadFault, WriteFault, TooLong, BadText, BadJson, BadPoints, NotValid, NoMemory}
+use Rattle.cover_cli.specs.declared.outcome.Outcome.TheVariants.{Done, Marked, Usage, ReadFault, WriteFault, TooLong, BadText, BadJson, BadPoints, NotValid, NoMemory, Sampled}
 use Rattle.cover_cli.specs.declared.making.Made.{Made}
-use Rattle.cover_cli.proofs.Causes.{one_refusal, refuses_refusal, not_both, makes_success, makes_marked, makes_some, differs, refusal_no_success, refusal_no_touch, success_touches, marked_success, success_no_refusal, untouching_no_success}
+use Rattle.cover_cli.proofs.Causes.{one_refusal, refuses_refusal, not_both, makes_success, makes_marked, makes_sampled, makes_some, differs, refusal_no_success, refusal_no_touch, success_touches, marked_success, success_no_refusal, untouching_no_success}
 use Rattle.cover_cli.proofs.Inputs.{same_inputs, none_too_long, promised_after}
 use Rattle.cover_cli.proofs.OneText.{one_text}
 
@@ -42,6 +42,7 @@ without_memory operation old new reads kept = record {
   written = λ told success. cc;
   marked = λ marks. cc;
   some = λ h. cc;
+  sampled = λ success. cc;
   closed = λ touching. cc;
   current = λ h. kept.present;
   read_fault = λ h. cc;
@@ -67,6 +68,7 @@ unread operation old new ReadFault cause kept promised = record {
   written = λ told success. cc;
   marked = λ marks. cc;
   some = λ h. cc;
+  sampled = λ success. cc;
   closed = λ touching. cc;
   current = λ h. kept.present;
   read_fault = λ h. cause;
@@ -88,6 +90,7 @@ unread operation old new TooLong cause kept promised = record {
   written = λ told success. cc;
   marked = λ marks. cc;
   some = λ h. cc;
+  sampled = λ success. cc;
   closed = λ touching. cc;
   current = λ h. kept.present;
   read_fault = λ h. cc;
@@ -107,6 +110,7 @@ unread operation old new TooLong cause kept promised = record {
 unread operation old new NoMemory cause kept promised = without_memory operation old new cause kept
 unread operation old new Done cause kept promised = absurd cause
 unread operation old new (Marked edges) cause kept promised = absurd cause
+unread operation old new (Sampled members polygons points) cause kept promised = absurd cause
 unread operation old new Usage cause kept promised = absurd cause
 unread operation old new WriteFault cause kept promised = absurd cause
 unread operation old new (BadText fault) cause kept promised = absurd cause
@@ -125,6 +129,7 @@ refused_for operation old new inputs o read reads kept refuses =
       written = λ told success. absurd (none success);
       marked = λ marks. absurd (none (marked_success o marks));
       some = differs is_refusal o (Marked 0) refusal refl;
+      sampled = λ success. absurd (none success);
       closed = λ touching. (let e : true ≡ false = sym touching ∙ refusal_no_touch o refusal in cc);
       current = λ h. kept.present;
       read_fault = λ h. absurd (differs is_refusal o ReadFault refusal refl h);
@@ -184,6 +189,7 @@ module _ (operation : Operation) (old mid new : State) (inputs : List (List ℕ)
         };
         marked = λ marks. makes_marked operation inputs made.outcome made.text.items makes (ap is_marked (sym is) ∙ marks);
         some = λ h. makes_some operation inputs made.outcome made.text.items makes (sym is ∙ h);
+        sampled = λ success. ap is_sampled is ∙ makes_sampled operation inputs made.outcome made.text.items makes;
         closed = λ touching. closed;
         current = λ h. (let e : true ≡ false = sym (success_touches o ok) ∙ h in cc);
         read_fault = λ h. absurd (differs is_success o ReadFault ok refl h);
@@ -209,6 +215,7 @@ module _ (operation : Operation) (old mid new : State) (inputs : List (List ℕ)
         written = λ told success. (let e : false ≡ true = sym (ap is_success is) ∙ success in cc);
         marked = λ marks. (let e : false ≡ true = sym (ap is_marked is) ∙ marks in cc);
         some = λ h. (let e : WriteFault ≡ Marked 0 = sym is ∙ h in cc);
+        sampled = λ success. (let e : false ≡ true = sym (ap is_success is) ∙ success in cc);
         closed = λ touching. closed;
         current = λ h. (let e : true ≡ false = sym (ap touches_output is) ∙ h in cc);
         read_fault = λ h. cc;

@@ -1,6 +1,6 @@
 -- Causes of refusals: each input has one cause at most, and none where a text is made of it.
 use Rattle.std.proofs.Common.{◌≡◌, ◌≢◌, ℕ, zero, suc, List, [], ◌∷◌, Bool, true, false, IsTrue, Some, None, refl, ap, subst, ◌∙◌, sym, inl, inr}
-use Rattle.cover_cli.specs.Answers.{is_validate, is_success, is_refusal, is_marked, touches_output}
+use Rattle.cover_cli.specs.Answers.{is_validate, is_success, is_refusal, is_marked, touches_output, is_sample, is_sampled}
 use Rattle.cov_types.specs.Coverage.{Members}
 use Rattle.cov_types.specs.Uses.{uses_of}
 use Rattle.plane.specs.Validity.{IsValid}
@@ -26,9 +26,9 @@ use Rattle.cover_cli.specs.Made.{IsOneAnd, IsTwoAnd, Makes, Refuses}
 use Rattle.cover_cli.specs.Refusal.{outcome_of_file, outcome_of_refusal, outcome_of_points, IsRefusedFor}
 use Rattle.cover_cli.specs.Text.{IsReadAnd, RefusesInput}
 use Rattle.cover_cli.specs.Validate.{marking}
-use Rattle.cover_words.specs.Words.{Operation, Validate, Clean, Simplify, Union, Node, Regions, Locate}
+use Rattle.cover_words.specs.Words.{Operation, Validate, Clean, Simplify, Union, Node, Regions, Locate, Sample}
 use Rattle.cover_cli.specs.declared.outcome.Outcome.{Outcome}
-use Rattle.cover_cli.specs.declared.outcome.Outcome.TheVariants.{Done, Marked, Usage, ReadFault, WriteFault, TooLong, BadText, BadJson, BadPoints, NotValid, NoMemory}
+use Rattle.cover_cli.specs.declared.outcome.Outcome.TheVariants.{Done, Marked, Usage, ReadFault, WriteFault, TooLong, BadText, BadJson, BadPoints, NotValid, NoMemory, Sampled}
 
 -- ---- inputs with a fault
 
@@ -46,6 +46,7 @@ one_input_refusal name input (BadJson f) (BadText g) first second = (let same : 
 one_input_refusal name input (BadJson f) (BadJson g) first second = (let same : Json f ≡ Json g = one_fault name input (Json f) (Json g) first second in cc)
 one_input_refusal name input (BadText f) Done first second = absurd second
 one_input_refusal name input (BadText f) (Marked edges) first second = absurd second
+one_input_refusal name input (BadText f) (Sampled m p q) first second = absurd second
 one_input_refusal name input (BadText f) Usage first second = absurd second
 one_input_refusal name input (BadText f) ReadFault first second = absurd second
 one_input_refusal name input (BadText f) WriteFault first second = absurd second
@@ -55,6 +56,7 @@ one_input_refusal name input (BadText f) (NotValid mark) first second = absurd s
 one_input_refusal name input (BadText f) (BadPoints g) first second = absurd second
 one_input_refusal name input (BadJson f) Done first second = absurd second
 one_input_refusal name input (BadJson f) (Marked edges) first second = absurd second
+one_input_refusal name input (BadJson f) (Sampled m p q) first second = absurd second
 one_input_refusal name input (BadJson f) Usage first second = absurd second
 one_input_refusal name input (BadJson f) ReadFault first second = absurd second
 one_input_refusal name input (BadJson f) WriteFault first second = absurd second
@@ -92,6 +94,7 @@ one_mark : (members : Members) (o p : Outcome) → TellsMark members o → Tells
 one_mark members (NotValid m) (NotValid n) first second = ap NotValid (one_first_mark members m n first.0 second.0)
 one_mark members (NotValid m) Done first second = absurd second
 one_mark members (NotValid m) (Marked edges) first second = absurd second
+one_mark members (NotValid m) (Sampled k p q) first second = absurd second
 one_mark members (NotValid m) Usage first second = absurd second
 one_mark members (NotValid m) ReadFault first second = absurd second
 one_mark members (NotValid m) WriteFault first second = absurd second
@@ -202,6 +205,7 @@ one_refusal (Simplify tolerance inner from to) inputs o p = of_both inputs _ _ (
 one_refusal (Union from to) inputs o p = of_both inputs _ _ (o ≡ p) (λ input. one_invalid_refusal from input o p)
 one_refusal (Node from to) inputs o p = of_both inputs _ _ (o ≡ p) (λ input. one_input_refusal from input o p)
 one_refusal (Regions from to) inputs o p = of_both inputs _ _ (o ≡ p) (λ input. one_input_refusal from input o p)
+one_refusal (Sample side seed to) inputs o p first second = absurd first
 one_refusal (Locate from points to) inputs o p = of_both_two inputs _ _ (o ≡ p) (λ input file. one_points_refusal from input file o p)
 
 pub refuses_refusal : (operation : Operation) (inputs : List (List ℕ)) (o : Outcome) → Refuses operation inputs o → IsTrue (is_refusal o)
@@ -211,6 +215,7 @@ refuses_refusal (Simplify tolerance inner from to) inputs o = of_one inputs _ (I
 refuses_refusal (Union from to) inputs o = of_one inputs _ (IsTrue (is_refusal o)) (λ input. invalid_refusal from input o)
 refuses_refusal (Node from to) inputs o = of_one inputs _ (IsTrue (is_refusal o)) (λ input. input_refusal from input o)
 refuses_refusal (Regions from to) inputs o = of_one inputs _ (IsTrue (is_refusal o)) (λ input. input_refusal from input o)
+refuses_refusal (Sample side seed to) inputs o refuses = absurd refuses
 refuses_refusal (Locate from points to) inputs o = of_two inputs _ (IsTrue (is_refusal o)) (λ input file. points_refusal from input file o)
 
 -- of inputs that are refused no text is made
@@ -221,6 +226,7 @@ not_both (Simplify tolerance inner from to) inputs o p text = of_both inputs _ _
 not_both (Union from to) inputs o p text = of_both inputs _ _ ⊥ (λ input. not_admitted_and_refused from input _ p (λ r uniting. uniting.admitted))
 not_both (Node from to) inputs o p text = of_both inputs _ _ ⊥ (λ input. not_read_and_refused from input _ p)
 not_both (Regions from to) inputs o p text = of_both inputs _ _ ⊥ (λ input. not_read_and_refused from input _ p)
+not_both (Sample side seed to) inputs o p text makes refuses = refuses
 not_both (Locate from points to) inputs o p text = of_both_two inputs _ _ ⊥ (λ input file made. not_listed_and_refused from input file _ made.holds.points p made.holds.points_are made)
 
 marking_success : (edges : ℕ) → IsTrue (is_success (marking edges))
@@ -235,6 +241,7 @@ makes_success (Simplify tolerance inner from to) inputs o text = of_one inputs _
 makes_success (Union from to) inputs o text = of_one inputs _ (IsTrue (is_success o)) (λ input makes. ap is_success makes.holds.done)
 makes_success (Node from to) inputs o text = of_one inputs _ (IsTrue (is_success o)) (λ input makes. ap is_success makes.holds.done)
 makes_success (Regions from to) inputs o text = of_one inputs _ (IsTrue (is_success o)) (λ input makes. ap is_success makes.holds.done)
+makes_success (Sample side seed to) inputs o text makes = ap is_success makes.counted
 makes_success (Locate from points to) inputs o text = of_two inputs _ (IsTrue (is_success o)) (λ input file makes. ap is_success makes.holds.done)
 
 -- only validate answers marks
@@ -245,6 +252,7 @@ makes_marked (Simplify tolerance inner from to) inputs o text makes marks = of_o
 makes_marked (Union from to) inputs o text makes marks = of_one inputs _ (IsTrue false) (λ input uniting. sym (ap is_marked uniting.holds.done) ∙ marks) makes
 makes_marked (Node from to) inputs o text makes marks = of_one inputs _ (IsTrue false) (λ input noding. sym (ap is_marked noding.holds.done) ∙ marks) makes
 makes_marked (Regions from to) inputs o text makes marks = of_one inputs _ (IsTrue false) (λ input listing. sym (ap is_marked listing.holds.done) ∙ marks) makes
+makes_marked (Sample side seed to) inputs o text makes marks = sym (ap is_marked makes.counted) ∙ marks
 makes_marked (Locate from points to) inputs o text makes marks = of_two inputs _ (IsTrue false) (λ input file locating. sym (ap is_marked locating.holds.done) ∙ marks) makes
 
 marking_some : (edges : ℕ) → marking edges ≢ Marked 0
@@ -259,7 +267,23 @@ makes_some (Simplify tolerance inner from to) inputs o text makes h = of_one inp
 makes_some (Union from to) inputs o text makes h = of_one inputs _ ⊥ (λ input uniting. (let e : Done ≡ Marked 0 = sym uniting.holds.done ∙ h in cc)) makes
 makes_some (Node from to) inputs o text makes h = of_one inputs _ ⊥ (λ input noding. (let e : Done ≡ Marked 0 = sym noding.holds.done ∙ h in cc)) makes
 makes_some (Regions from to) inputs o text makes h = of_one inputs _ ⊥ (λ input listing. (let e : Done ≡ Marked 0 = sym listing.holds.done ∙ h in cc)) makes
+makes_some (Sample side seed to) inputs o text makes h = (let e : true ≡ false = sym (ap is_sampled makes.counted) ∙ ap is_sampled h in cc)
 makes_some (Locate from points to) inputs o text makes h = of_two inputs _ ⊥ (λ input file locating. (let e : Done ≡ Marked 0 = sym locating.holds.done ∙ h in cc)) makes
+
+marking_none_sampled : (edges : ℕ) → is_sampled (marking edges) ≡ false
+marking_none_sampled zero = refl
+marking_none_sampled (suc edges) = refl
+
+-- sample answers counts, and no other operation does
+pub makes_sampled : (operation : Operation) (inputs : List (List ℕ)) (o : Outcome) (text : List ℕ) → Makes operation inputs o text → is_sampled o ≡ is_sample operation
+makes_sampled (Validate gap from to) inputs o text = of_one inputs _ (is_sampled o ≡ false) (λ input makes. ap is_sampled makes.holds.counted ∙ marking_none_sampled _)
+makes_sampled (Clean rule gap from to) inputs o text = of_one inputs _ (is_sampled o ≡ false) (λ input makes. ap is_sampled makes.holds.done)
+makes_sampled (Simplify tolerance inner from to) inputs o text = of_one inputs _ (is_sampled o ≡ false) (λ input makes. ap is_sampled makes.holds.done)
+makes_sampled (Union from to) inputs o text = of_one inputs _ (is_sampled o ≡ false) (λ input makes. ap is_sampled makes.holds.done)
+makes_sampled (Node from to) inputs o text = of_one inputs _ (is_sampled o ≡ false) (λ input makes. ap is_sampled makes.holds.done)
+makes_sampled (Regions from to) inputs o text = of_one inputs _ (is_sampled o ≡ false) (λ input makes. ap is_sampled makes.holds.done)
+makes_sampled (Sample side seed to) inputs o text makes = ap is_sampled makes.counted
+makes_sampled (Locate from points to) inputs o text = of_two inputs _ (is_sampled o ≡ false) (λ input file locating. ap is_sampled locating.holds.done)
 
 -- ---- the kinds of answers
 
@@ -270,6 +294,7 @@ differs kind o p is not same = (let e : true ≡ false = sym is ∙ ap kind same
 pub refusal_no_success : (o : Outcome) → IsTrue (is_refusal o) → is_success o ≡ false
 refusal_no_success Done refusal = cc
 refusal_no_success (Marked edges) refusal = cc
+refusal_no_success (Sampled m p q) refusal = cc
 refusal_no_success _ refusal = refl
 
 -- a refusal of what was read touches no output, and a success does
@@ -282,6 +307,7 @@ refusal_no_touch _ refusal = cc
 pub success_touches : (o : Outcome) → IsTrue (is_success o) → IsTrue (touches_output o)
 success_touches Done success = refl
 success_touches (Marked edges) success = refl
+success_touches (Sampled m p q) success = refl
 success_touches _ success = cc
 
 pub marked_success : (o : Outcome) → IsTrue (is_marked o) → IsTrue (is_success o)
@@ -300,4 +326,5 @@ pub untouching_no_success : (o : Outcome) → touches_output o ≡ false → is_
 untouching_no_success WriteFault h = refl
 untouching_no_success Done h = h
 untouching_no_success (Marked edges) h = h
+untouching_no_success (Sampled m p q) h = h
 untouching_no_success _ h = refl

@@ -11,3 +11,4 @@ pub mod OneAnswer
 pub mod RegionRows
 pub mod PlaceRows
 pub mod Overlays
+pub mod Sampling

@@ -12,7 +12,7 @@ use Rattle.cover_cli.specs.Input.{HoldsTooMuch, AreInputs}
 use Rattle.cover_cli.specs.Laws.{is_settled, HoldAlike}
 use Rattle.cover_words.specs.Words.{Operation, inputs_of, output_of}
 use Rattle.cover_cli.specs.declared.outcome.Outcome.{Outcome}
-use Rattle.cover_cli.specs.declared.outcome.Outcome.TheVariants.{Done, Marked, Usage, ReadFault, WriteFault, TooLong, BadText, BadJson, BadPoints, NotValid, NoMemory}
+use Rattle.cover_cli.specs.declared.outcome.Outcome.TheVariants.{Done, Marked, Usage, ReadFault, WriteFault, TooLong, BadText, BadJson, BadPoints, NotValid, NoMemory, Sampled}
 
 -- ---- files that hold the same
 
@@ -94,6 +94,7 @@ module _ (operation : Operation) (s s_after t t_after : State) (told : IsTrue s.
   one_answer_told : (o p : Outcome) → IsAnswer operation s s_after o → IsAnswer operation t t_after p → IsTrue (is_settled o) → IsTrue (is_settled p) → (o ≡ p) × (HasOneText operation s → IsTrue (is_success o) → s_after.files (output_of operation) ≡ t_after.files (output_of operation))
   one_answer_told Done p first second settled settled_too = after_success Done p first second refl settled_too
   one_answer_told (Marked edges) p first second settled settled_too = after_success (Marked edges) p first second refl settled_too
+  one_answer_told (Sampled m q r) p first second settled settled_too = after_success (Sampled m q r) p first second refl settled_too
   one_answer_told Usage p first second settled settled_too = absurd (first.usage refl)
   one_answer_told ReadFault p first second settled settled_too = absurd (differs is_settled ReadFault ReadFault settled refl refl)
   one_answer_told WriteFault p first second settled settled_too = absurd (differs is_settled WriteFault WriteFault settled refl refl)

@@ -41,16 +41,19 @@ use Rattle.cover_cli.specs.Lines.{member_lists, marked_uses}
 use Rattle.cover_cli.specs.Locate.{place_row, ArePlaceRows, IsLocating}
 use Rattle.cover_cli.specs.Made.{IsOneAnd, Makes, Refuses}
 use Rattle.cover_cli.specs.Node.{IsNoding}
+use Rattle.cover_cli.specs.Sample.{sampled, IsSampling}
 use Rattle.cover_cli.specs.Simplify.{IsSimplifying}
+use Rattle.jittered_grid.specs.Cells.{cells}
 use Rattle.greedy_run.proofs.OneRun.{one_simplified}
 use Rattle.cover_cli.specs.Regions.{IsClearanceTold, IsRow, AreRows, IsRegionList}
 use Rattle.cover_cli.specs.Text.{IsReadAnd}
 use Rattle.cov_union.proofs.OneUnited.{one_united}
 use Rattle.cover_cli.specs.Union.{IsUniting}
 use Rattle.cover_cli.specs.Validate.{marking, IsValidation}
-use Rattle.cover_words.specs.Words.{Operation, Validate, Clean, Simplify, Union, Node, Regions, Locate, inputs_of}
+use Rattle.cover_words.specs.Words.{Operation, Validate, Clean, Simplify, Union, Node, Regions, Locate, inputs_of, Sample}
 use Rattle.cover_cli.specs.declared.outcome.Outcome.{Outcome}
 use Rattle.cover_words.specs.declared.rule_name.RuleName.{RuleName}
+use Rattle.cover_words.specs.declared.rule_name.RuleName.TheVariants.{LongestBorder}
 use Rattle.merge_rule.specs.RuleState.{no_state}
 
 -- ---- what is made of a coverage
@@ -92,6 +95,11 @@ one_uniting : (to : List ℕ) (members : List (List (List (List Coord)))) (o p :
 one_uniting to members o p text other in_range v w =
     let same : v.out ≡ w.out = one_united members in_range v.admitted v.out w.out v.united w.united in
     (v.done ∙ sym w.done, one_form to (bare w.out) text other (bare_exact w.out) (subst (λ (ms : Members). IsWrittenAs to (bare ms) text) same v.written) w.written)
+
+one_sampling : (side seed : ℕ) (to : List ℕ) (o p : Outcome) (text other : List ℕ) → IsSampling side seed to o text → IsSampling side seed to p other → (o ≡ p) × (text ≡ other)
+one_sampling side seed to o p text other v w =
+    let same : v.out ≡ w.out = one_cleaned (cells side seed) v.grid.in_range (rule_of LongestBorder) no_state 8 v.out w.out v.sample w.sample in
+    (v.counted ∙ ap sampled same ∙ sym w.counted, one_form to (bare w.out) text other (bare_exact w.out) (subst (λ (ms : Members). IsWrittenAs to (bare ms) text) same v.written) w.written)
 
 -- a region has one clearance to tell
 one_told : (o : Overlay) (r : ℕ) (first second : Option ℕ) → IsClearanceTold o r first → IsClearanceTold o r second → first ≡ second
@@ -205,6 +213,7 @@ one_made (Node from to) s inputs o p text other =
 one_made (Regions from to) s inputs o p text other =
     of_inputs s from inputs (λ r. IsRegionList r.members o text) (λ r. IsRegionList r.members p other) (IsOne (Regions from to) s o p text other)
     (λ input r holds in_range reads v w. (let one = one_region_list r.members o p text other in_range v w in (one.0, λ determined. one.1)))
+one_made (Sample side seed to) s inputs o p text other read v w = (let one = one_sampling side seed to o p text other v w in (one.0, λ determined. one.1))
 one_made (Locate from points to) s inputs o p text other are =
     of_both_two inputs _ _ (IsOne (Locate from points to) s o p text other) (λ input file v w. (let one = one_located from input file o p text other v w in (one.0, λ determined. one.1)))
 

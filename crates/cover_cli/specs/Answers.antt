@@ -5,10 +5,10 @@ use Rattle.cov_io.specs.Contents.{SameFiles, HoldsNow, HoldsPrefix}
 use Rattle.cov_io.specs.Count.{Rose}
 use Rattle.cov_io.specs.State.{State}
 use Rattle.cover_cli.specs.declared.outcome.Outcome.{Outcome}
-use Rattle.cover_cli.specs.declared.outcome.Outcome.TheVariants.{Done, Marked, Usage, ReadFault, WriteFault, TooLong, BadText, BadJson, BadPoints, NotValid, NoMemory}
+use Rattle.cover_cli.specs.declared.outcome.Outcome.TheVariants.{Done, Marked, Usage, ReadFault, WriteFault, TooLong, BadText, BadJson, BadPoints, NotValid, NoMemory, Sampled}
 use Rattle.cover_cli.specs.Input.{HoldsTooMuch, AreInputs}
 use Rattle.cover_cli.specs.Made.{Makes, Refuses}
-use Rattle.cover_words.specs.Words.{Operation, Validate, Clean, Simplify, inputs_of, output_of}
+use Rattle.cover_words.specs.Words.{Operation, Validate, Clean, Simplify, Sample, inputs_of, output_of}
 use Rattle.feature_files.specs.Form.{HasNoFloat}
 use Rattle.feature_files.specs.Name.{is_json}
 use Rattle.feature_files.specs.Reading.{IsRead}
@@ -19,12 +19,18 @@ abbrev pub is_validate : Operation → Bool
 is_validate (Validate gap from to) = true
 is_validate _ = false
 
+-- whether the operation makes a coverage of its own
+abbrev pub is_sample : Operation → Bool
+is_sample (Sample side seed to) = true
+is_sample _ = false
+
 -- ---- the kinds of answers
 
 -- the output was written
 abbrev pub is_success : Outcome → Bool
 is_success Done = true
 is_success (Marked edges) = true
+is_success (Sampled members polygons points) = true
 is_success _ = false
 
 -- the inputs were read, and refused
@@ -39,6 +45,11 @@ is_refusal _ = false
 abbrev pub is_marked : Outcome → Bool
 is_marked (Marked edges) = true
 is_marked _ = false
+
+-- counts are answered
+abbrev pub is_sampled : Outcome → Bool
+is_sampled (Sampled members polygons points) = true
+is_sampled _ = false
 
 -- the output may have been touched
 abbrev pub touches_output : Outcome → Bool
@@ -123,6 +134,8 @@ pub record IsAnswer (operation : Operation) (old new : State) (answer : Outcome)
   -- marked segments are answered by validate alone, and where there are some
   pub marked : IsTrue (is_marked answer) → IsTrue (is_validate operation)
   pub some : answer ≢ Marked 0
+  -- of the successes sample answers its counts, and every other operation none
+  pub sampled : IsTrue (is_success answer) → is_sampled answer ≡ is_sample operation
   -- once the output was created, there is no current output; before that, the current output stays
   pub closed : IsTrue (touches_output answer) → new.has_output ≡ false
   pub current : touches_output answer ≡ false → new.has_output ≡ old.has_output

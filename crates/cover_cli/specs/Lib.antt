@@ -10,6 +10,7 @@ pub mod Simplify
 pub mod Union
 pub mod Node
 pub mod Regions
+pub mod Sample
 pub mod Locate
 pub mod Made
 pub mod Refusal
@@ -17,4 +18,5 @@ pub mod Answers
 pub mod Written
 pub mod Laws
 pub mod Headline
+pub mod SampleLaw
 pub mod Located

@@ -4,12 +4,13 @@ use Rattle.cover_cli.specs.Clean.{IsCleaning}
 use Rattle.cover_cli.specs.Locate.{IsLocating, RefusesPoints}
 use Rattle.cover_cli.specs.Node.{IsNoding}
 use Rattle.cover_cli.specs.Regions.{IsRegionList}
+use Rattle.cover_cli.specs.Sample.{IsSampling}
 use Rattle.cover_cli.specs.Simplify.{IsSimplifying}
 use Rattle.cover_cli.specs.Text.{IsReadAnd, RefusesInput}
 use Rattle.cover_cli.specs.Invalid.{RefusesInvalid}
 use Rattle.cover_cli.specs.Union.{IsUniting}
 use Rattle.cover_cli.specs.Validate.{IsValidation}
-use Rattle.cover_words.specs.Words.{Operation, Validate, Clean, Simplify, Union, Node, Regions, Locate}
+use Rattle.cover_words.specs.Words.{Operation, Validate, Clean, Simplify, Union, Node, Regions, Locate, Sample}
 use Rattle.cover_cli.specs.declared.outcome.Outcome.{Outcome}
 
 -- there is one input, and this holds of it
@@ -33,6 +34,7 @@ Makes (Simplify tolerance inner from to) inputs outcome text = IsOneAnd inputs (
 Makes (Union from to) inputs outcome text = IsOneAnd inputs (λ input. IsReadAnd from input (λ r. IsUniting to r.members outcome text))
 Makes (Node from to) inputs outcome text = IsOneAnd inputs (λ input. IsReadAnd from input (λ r. IsNoding r.members outcome text))
 Makes (Regions from to) inputs outcome text = IsOneAnd inputs (λ input. IsReadAnd from input (λ r. IsRegionList r.members outcome text))
+Makes (Sample side seed to) inputs outcome text = IsSampling side seed to outcome text
 Makes (Locate from points to) inputs outcome text = IsTwoAnd inputs (λ input file. IsReadAnd from input (λ r. IsLocating r.members file outcome text))
 
 -- these inputs are a cause for the operation to refuse them with this outcome
@@ -43,4 +45,5 @@ Refuses (Simplify tolerance inner from to) inputs outcome = IsOneAnd inputs (λ 
 Refuses (Union from to) inputs outcome = IsOneAnd inputs (λ input. RefusesInvalid from input outcome)
 Refuses (Node from to) inputs outcome = IsOneAnd inputs (λ input. RefusesInput from input outcome)
 Refuses (Regions from to) inputs outcome = IsOneAnd inputs (λ input. RefusesInput from input outcome)
+Refuses (Sample side seed to) inputs outcome = ⊥
 Refuses (Locate from points to) inputs outcome = IsTwoAnd inputs (λ input file. RefusesPoints from input file outcome)

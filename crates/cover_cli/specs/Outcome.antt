@@ -2,7 +2,7 @@
 use Rattle.std.specs.Prelude.{ℕ, List, ◌++◌, codes}
 use Rattle.std.specs.Fmt.{decimal}
 use Rattle.cover_cli.specs.declared.outcome.Outcome.{Outcome}
-use Rattle.cover_cli.specs.declared.outcome.Outcome.TheVariants.{Done, Marked, Usage, ReadFault, WriteFault, TooLong, BadText, BadJson, BadPoints, NotValid, NoMemory}
+use Rattle.cover_cli.specs.declared.outcome.Outcome.TheVariants.{Done, Marked, Usage, ReadFault, WriteFault, TooLong, BadText, BadJson, BadPoints, NotValid, NoMemory, Sampled}
 use Rattle.cov_locate.specs.declared.points.PointsFault.{PointsFault}
 use Rattle.cov_locate.specs.declared.points.PointsFault.TheVariants as points
 use Rattle.cov_valid.specs.declared.mark.Kind.{Kind}
@@ -15,6 +15,7 @@ use Rattle.geo_text.specs.declared.error.TextFault.TheVariants.{Syntax, NotPlana
 -- the exit status
 abbrev pub status_of : Outcome → ℕ
 status_of Done = 0
+status_of (Sampled members polygons points) = 0
 status_of (Marked edges) = 1
 status_of Usage = 2
 status_of (NotValid mark) = 3
@@ -50,6 +51,11 @@ abbrev pub points_fault_text : PointsFault → List ℕ
 points_fault_text (points.Syntax line) = codes "points: syntax in line " ++ decimal line
 points_fault_text (points.OutOfRange line) = codes "points: out of range in line " ++ decimal line
 
+-- the text of a sample, with the numbers of its members, of their polygons and of the points of all rings
+abbrev pub sampled_text : ℕ → ℕ → ℕ → List ℕ
+sampled_text members polygons points =
+    codes "sampled: members " ++ (decimal members ++ (codes ", polygons " ++ (decimal polygons ++ (codes ", points " ++ decimal points))))
+
 -- the text of the first segment at fault of a coverage that is not valid, with its member, its place and its kind
 abbrev pub mark_text : ℕ → ℕ → Kind → List ℕ
 mark_text member place Meets = codes "not valid: member " ++ (decimal member ++ (codes " place " ++ (decimal place ++ codes " meets")))
@@ -62,7 +68,8 @@ mark_text member place NarrowGap = codes "not valid: member " ++ (decimal member
 abbrev pub message_of : Outcome → List ℕ
 message_of Done = codes "done"
 message_of (Marked edges) = codes "marked " ++ decimal edges
-message_of Usage = codes "usage: cover validate|clean|simplify|union|node|regions|locate"
+message_of (Sampled members polygons points) = sampled_text members polygons points
+message_of Usage = codes "usage: cover validate|clean|simplify|union|node|regions|sample|locate"
 message_of ReadFault = codes "cannot read"
 message_of WriteFault = codes "cannot write"
 message_of TooLong = codes "input is longer than 67108864 bytes"

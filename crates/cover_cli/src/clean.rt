@@ -19,8 +19,8 @@ use geo_json::Features;
 use merge_rule::{GreatestArea, LeastArea, LeastIndex, LongestBorder};
 use std::alloc::Global;
 
-// The coverage, cleaned by the rule of the name at the gap width.
-fn cleaned(alloc: Global, c: &Coverage, rule: RuleName, gap: u32) -> Result<Coverage, NoMemory>
+/// The coverage, cleaned by the rule of the name at the gap width.
+pub fn cleaned(alloc: Global, c: &Coverage, rule: RuleName, gap: u32) -> Result<Coverage, NoMemory>
     requires in_range { AllInRange c.now }
     requires gap { gap ≤ 2 ^ 30 }
     ensures cleaned { IfOk result (λ out. IsCleaned c.now (rule_of rule) no_state gap out) }

@@ -29,6 +29,7 @@ pub fn read_inputs<F: Files>(
         → result ≢ Err Outcome.ReadFault }
 {
     match names {
+        Inputs::Nothing => read_files(alloc, files, &[]),
         Inputs::One(name) => read_files(alloc, files, &[name]),
         Inputs::Two(first, second) => read_files(alloc, files, &[first, second]),
     }

@@ -1,4 +1,5 @@
 ghost use Rattle.cover_cli.specs.Headline.{HeadlineLaw};
+ghost use Rattle.cover_cli.specs.SampleLaw.{SampleLaw};
 ghost use Rattle.cover_cli.specs.Located.{LocateLaw};
 ghost use Rattle.cover_cli.specs.Laws.{OneTextLaw, OneRefusalLaw, RefusedLaw, OneAnswerLaw, CompleteLaw, NoFaultLaw};
 
@@ -29,4 +30,10 @@ pub fn answer_law()
     ensures one { OneAnswerLaw }
     ensures complete { CompleteLaw }
     ensures faultless { NoFaultLaw }
+{}
+
+/// What `cover sample` leaves: the output holds the jittered grid, cleaned, and the answer has its counts; it reads no file, and
+/// only a write fault or want of memory prevents that. A call does nothing.
+pub fn sample_law()
+    ensures { SampleLaw }
 {}

@@ -12,6 +12,7 @@
 
 mod clean;
 mod command;
+mod counts;
 mod input;
 mod laws;
 mod lines;
@@ -22,6 +23,7 @@ mod outcome;
 mod output;
 mod refusal;
 mod regions;
+mod sample;
 mod simplify;
 mod text;
 mod union;
@@ -30,5 +32,5 @@ mod valid_features;
 mod validate;
 
 pub use command::cover;
-pub use laws::{answer_law, headline_law, locate_law, written_law};
+pub use laws::{answer_law, headline_law, locate_law, sample_law, written_law};
 pub use outcome::{Outcome, message, status};

@@ -6,7 +6,7 @@ ghost use Rattle.cover_cli.specs.Refusal.{IsRefusedFor};
 ghost use Rattle.cover_words.specs.Words.{IsWithinLimit, inputs_of};
 
 use crate::outcome::Outcome;
-use crate::{clean, locate, node, regions, simplify, union, validate};
+use crate::{clean, locate, node, regions, sample, simplify, union, validate};
 use cover_words::Operation;
 use std::alloc::Global;
 
@@ -49,6 +49,7 @@ pub fn make(alloc: Global, operation: &Operation, mut inputs: Vec<Vec<u8>>) -> R
         Operation::Union { from, to } => union::make(alloc, from, to, inputs.remove(0)),
         Operation::Node { from, .. } => node::make(alloc, from, inputs.remove(0)),
         Operation::Regions { from, .. } => regions::make(alloc, from, inputs.remove(0)),
+        Operation::Sample { side, seed, to } => Ok(sample::make(alloc, *side, *seed, to)?),
         Operation::Locate { from, .. } => {
             let file = inputs.remove(1);
             locate::make(alloc, from, inputs.remove(0), file)

@@ -1,6 +1,6 @@
 ghost use Rattle.std.specs.Prelude.{◌≡◌, IfOk};
 ghost use Rattle.std.specs.String.{string_bytes};
-ghost use Rattle.cover_cli.specs.Outcome.{status_of, message_of, fault_text, json_fault_text, points_fault_text, mark_text};
+ghost use Rattle.cover_cli.specs.Outcome.{status_of, message_of, fault_text, json_fault_text, points_fault_text, mark_text, sampled_text};
 
 use cov_locate::PointsFault;
 use cov_types::NoMemory;
@@ -15,7 +15,15 @@ pub enum Outcome {
     /// The output was written, and nothing is at fault.
     Done,
     /// The output was written, and it lists this many segments that are at fault.
-    Marked { edges: u64 },
+    Marked {
+        edges: u64,
+    },
+    /// A sample was written, which has so many members, polygons of members, and points of rings without closing repeats.
+    Sampled {
+        members: u64,
+        polygons: u64,
+        points: u64,
+    },
     /// The words name no operation, or not as it takes them.
     Usage,
     /// The input could not be read.
@@ -31,7 +39,9 @@ pub enum Outcome {
     /// The points file lists no points that can be read.
     BadPoints(PointsFault),
     /// The coverage that the input is read as is not valid: its first segment that is at fault.
-    NotValid { mark: Mark },
+    NotValid {
+        mark: Mark,
+    },
     /// Memory ran out before the output was created.
     NoMemory,
 }
@@ -42,6 +52,11 @@ pub fn status(o: &Outcome) -> u8
 {
     match o {
         Outcome::Done => 0,
+        Outcome::Sampled {
+            members: _,
+            polygons: _,
+            points: _,
+        } => 0,
         Outcome::Marked { edges: _ } => 1,
         Outcome::Usage => 2,
         Outcome::NotValid { mark: _ } => 3,
@@ -61,6 +76,11 @@ pub fn message(alloc: Global, o: &Outcome) -> Result<String, NoMemory>
 {
     let text = match o {
         Outcome::Marked { edges } => return Ok(format!(in alloc; "marked {edges}")?),
+        Outcome::Sampled {
+            members,
+            polygons,
+            points,
+        } => return sampled_message(alloc, *members, *polygons, *points),
         Outcome::NotValid { mark } => return mark_message(
             alloc,
             mark.member,
@@ -71,13 +91,25 @@ pub fn message(alloc: Global, o: &Outcome) -> Result<String, NoMemory>
         Outcome::BadJson(fault) => return json_fault_message(alloc, *fault),
         Outcome::BadPoints(fault) => return points_fault_message(alloc, *fault),
         Outcome::Done => "done",
-        Outcome::Usage => "usage: cover validate|clean|simplify|union|node|regions|locate",
+        Outcome::Usage => "usage: cover validate|clean|simplify|union|node|regions|sample|locate",
         Outcome::ReadFault => "cannot read",
         Outcome::WriteFault => "cannot write",
         Outcome::TooLong => "input is longer than 67108864 bytes",
         Outcome::NoMemory => "no memory",
     };
     Ok(String::from_str(alloc, text)?)
+}
+
+// The line that is printed for a sample with these counts.
+fn sampled_message(
+    alloc: Global,
+    members: u64,
+    polygons: u64,
+    points: u64,
+) -> Result<String, NoMemory>
+    ensures { IfOk result (λ text. string_bytes text ≡ sampled_text members polygons points) }
+{
+    Ok(format!(in alloc; "sampled: members {members}, polygons {polygons}, points {points}")?)
 }
 
 // The line that is printed for a coverage that is not valid.

@@ -1,5 +1,5 @@
 -- The words that a command takes have the values that its operation needs.
-use Rattle.std.proofs.Common.{◌≡◌, ◌∙◌, ◌&&◌, ◌||◌, ◌<◌, ◌≤◌, ◌^◌, ℕ, Bool, cond, codes, true, false, not, refl, ap, sym, subst, arith, List, [], ◌∷◌, length, find, Option, Some, None, is_some, option_and_then, unwrap_or, true≢false}
+use Rattle.std.proofs.Common.{◌≡◌, ◌∙◌, ◌&&◌, ◌||◌, ◌<◌, ◌≤◌, ◌^◌, pos, ℕ, Bool, cond, codes, true, false, not, refl, ap, sym, subst, arith, List, [], ◌∷◌, length, find, Option, Some, None, is_some, option_and_then, unwrap_or, true≢false}
 use Rattle.std.specs.Prelude.{⊤, nat_lt}
 use Rattle.std.specs.List.{list_all, list_any}
 use Rattle.std.specs.Str.{bytes_eq}
@@ -19,10 +19,10 @@ use Rattle.clap.proofs.CallerReads.{signed_reads}
 use Rattle.clap.proofs.ValueTestLemmas.{accepts-Accepts, Accepts-accepts}
 use Rattle.clap.proofs.WalkLemmas.{both}
 use Rattle.cover_words.specs.Accepted.{AcceptedLaw, has_a_rule, is_accepted_by}
-use Rattle.cover_words.specs.Commands.{lengths, validate_command, clean_command, simplify_command, union_command, node_command, regions_command, locate_command}
+use Rattle.cover_words.specs.Commands.{lengths, validate_command, clean_command, simplify_command, union_command, node_command, regions_command, locate_command, sample_command}
 use Rattle.cover_words.specs.Values.{flag_at, number_at, number_of, text_at, truth_of}
 use Rattle.cover_words.specs.declared.rule_name.RuleName.{RuleName}
-use Rattle.cover_words.specs.Words.{Operation, Union, Node, Regions, clean_in, clean_with, files_with, locate_in, locate_with, node_in, operation_by, regions_in, simplify_in, simplify_with, taken, union_in, validate_in, validate_with}
+use Rattle.cover_words.specs.Words.{Operation, Union, Node, Regions, clean_in, clean_with, files_with, locate_in, locate_with, node_in, operation_by, regions_in, simplify_in, simplify_with, taken, union_in, validate_in, validate_with, sample_in, sample_with}
 use Rattle.cover_words.proofs.SoundRows.{AllOwn, AllSound, Present, defaults_have, defaults_sound, given_has, present, settled_sound, walk_sound}
 
 -- ---- the values of a command that takes the words
@@ -110,10 +110,10 @@ number_reads t = go (is_unsigned_in 0 4294967295 t) refl
           true≢false (sym fits ∙ e),
     )
 
-number_some : (t : Text) → accepts false lengths t ≡ true → is_some (number_of (without_minus t)) ≡ true
-number_some t e =
-    let h = signed_reads ⊤ (λ u x. ParsesUnsigned 32 10 u x) 32 0 1073741824 t (number_of (without_minus t)) (number_reads (without_minus t)) (λ u x g. g) (omega arith)
-    (accepts-Accepts false lengths t e) in
+number_some : (low high : ℕ) (t : Text) → high < 2 ^ 32 → accepts false (vp.Signed (pos low) (pos high)) t ≡ true → is_some (number_of (without_minus t)) ≡ true
+number_some low high t small e =
+    let h = signed_reads ⊤ (λ u x. ParsesUnsigned 32 10 u x) 32 low high t (number_of (without_minus t)) (number_reads (without_minus t)) (λ u x g. g) small
+    (accepts-Accepts false (vp.Signed (pos low) (pos high)) t e) in
     ap is_some h.1
 
 truth_some : (t : Text) → accepts false vp.Bool t ≡ true → is_some (truth_of t) ≡ true
@@ -147,6 +147,12 @@ simplify_some (Some f) (Some t) None b x y z w = z
 simplify_some (Some f) None g b x y z w = y
 simplify_some None t g b x y z w = x
 
+sample_some : (n s : Option ℕ) (t : Option Text) → is_some n ≡ true → is_some s ≡ true → is_some t ≡ true → is_some (sample_with n s t) ≡ true
+sample_some (Some n) (Some s) (Some t) x y z = refl
+sample_some (Some n) (Some s) None x y z = z
+sample_some (Some n) None t x y z = y
+sample_some None s t x y z = x
+
 files_some : (make : Text → Text → Operation) (f t : Option Text) → is_some f ≡ true → is_some t ≡ true → is_some (files_with make f t) ≡ true
 files_some make (Some f) (Some t) x y = refl
 files_some make (Some f) None x y = y
@@ -161,12 +167,13 @@ locate_some None p t x y z = x
 name_there : (r : Rule) (id : Text) (rows : List Row) → r.id ≡ id → Present r rows → is_some (text_at id rows) ≡ true
 name_there r id rows same p = subst (λ (i : Text). is_some (first_of i rows) ≡ true) same (ap is_some p.first)
 
-number_there : (r : Rule) (id : Text) (rows : List Row) → r.id ≡ id → r.parser ≡ Some lengths → Present r rows → is_some (number_at id rows) ≡ true
-number_there r id rows same parser p =
+number_there : (low high : ℕ) (r : Rule) (id : Text) (rows : List Row) → high < 2 ^ 32 → r.id ≡ id → r.parser ≡ Some (vp.Signed (pos low) (pos high)) → Present r rows
+    → is_some (number_at id rows) ≡ true
+number_there low high r id rows small same parser p =
     let read : one_of r.id rows ≡ Some (without_minus p.text) =
     subst (λ (q : Option ValueParser). one_of r.id rows ≡ Some (read_as (reading_of (parser_of_value q)) p.text)) parser p.read in
-    let passes : accepts r.ignore_case lengths p.text ≡ true = subst (λ (q : Option ValueParser). accepts r.ignore_case (parser_of_value q) p.text ≡ true) parser p.passes in
-    subst (λ (i : Text). is_some (number_at i rows) ≡ true) same (ap (λ (o : Option Text). is_some (option_and_then number_of o)) read ∙ number_some p.text passes)
+    let passes : accepts r.ignore_case (vp.Signed (pos low) (pos high)) p.text ≡ true = subst (λ (q : Option ValueParser). accepts r.ignore_case (parser_of_value q) p.text ≡ true) parser p.passes in
+    subst (λ (i : Text). is_some (number_at i rows) ≡ true) same (ap (λ (o : Option Text). is_some (option_and_then number_of o)) read ∙ number_some low high p.text small passes)
 
 flag_there : (r : Rule) (id : Text) (rows : List Row) → r.id ≡ id → r.parser ≡ Some vp.Bool → Present r rows → is_some (flag_at id rows) ≡ true
 flag_there r id rows same parser p =
@@ -193,6 +200,9 @@ own_node = ((refl, refl), ((refl, refl), ((refl, refl), tt)))
 pub own_regions : AllOwn (built regions_command).top.rules (built regions_command).top.rules
 own_regions = ((refl, refl), ((refl, refl), ((refl, refl), tt)))
 
+pub own_sample : AllOwn (built sample_command).top.rules (built sample_command).top.rules
+own_sample = ((refl, refl), ((refl, refl), ((refl, refl), ((refl, refl), tt))))
+
 pub own_locate : AllOwn (built locate_command).top.rules (built locate_command).top.rules
 own_locate = ((refl, refl), ((refl, refl), ((refl, refl), ((refl, refl), tt))))
 
@@ -204,8 +214,11 @@ module _ (a : App) (words : List Text) (own : AllOwn (built a).top.rules (built 
   name_in : (id : Text) → is_at a id → is_some (text_at id (matches_of a words)) ≡ true
   name_in id at = name_there (rule_at a id) id (matches_of a words) at.2 (taken_present a words own kept by (rule_at a id) at.0 at.1)
 
+  number_from : (low high : ℕ) (id : Text) → high < 2 ^ 32 → is_at a id → (rule_at a id).parser ≡ Some (vp.Signed (pos low) (pos high)) → is_some (number_at id (matches_of a words)) ≡ true
+  number_from low high id small at parser = number_there low high (rule_at a id) id (matches_of a words) small at.2 parser (taken_present a words own kept by (rule_at a id) at.0 at.1)
+
   number_in : (id : Text) → is_at a id → (rule_at a id).parser ≡ Some lengths → is_some (number_at id (matches_of a words)) ≡ true
-  number_in id at parser = number_there (rule_at a id) id (matches_of a words) at.2 parser (taken_present a words own kept by (rule_at a id) at.0 at.1)
+  number_in id at parser = number_from 0 1073741824 id (omega arith) at parser
 
   flag_in : (id : Text) → is_at a id → (rule_at a id).parser ≡ Some vp.Bool → is_some (flag_at id (matches_of a words)) ≡ true
   flag_in id at parser = flag_there (rule_at a id) id (matches_of a words) at.2 parser (taken_present a words own kept by (rule_at a id) at.0 at.1)
@@ -238,6 +251,11 @@ module _ (words : List Text) where
   lists_regions : takes regions_command words ≡ true → is_some (regions_in (matches_of regions_command words)) ≡ true
   lists_regions by = files_some Regions _ _ (name_in regions_command words own_regions refl by (codes "IN") (refl, refl, refl))
       (name_in regions_command words own_regions refl by (codes "OUT") (refl, refl, refl))
+
+  samples : takes sample_command words ≡ true → is_some (sample_in (matches_of sample_command words)) ≡ true
+  samples by = sample_some _ _ _ (number_from sample_command words own_sample refl by 1 400 (codes "N") (omega arith) (refl, refl, refl) refl)
+      (number_from sample_command words own_sample refl by 0 4294967295 (codes "SEED") (omega arith) (refl, refl, refl) refl)
+      (name_in sample_command words own_sample refl by (codes "OUT") (refl, refl, refl))
 
   locates : takes locate_command words ≡ true → is_some (locate_in (matches_of locate_command words)) ≡ true
   locates by = locate_some _ _ _ (name_in locate_command words own_locate refl by (codes "IN") (refl, refl, refl))
@@ -274,7 +292,8 @@ accepted_by word words =
     (by_word (bytes_eq word (codes "union")) _ _ _ _ (taken_some union_command union_in words (unites words))
     (by_word (bytes_eq word (codes "node")) _ _ _ _ (taken_some node_command node_in words (nodes words))
     (by_word (bytes_eq word (codes "regions")) _ _ _ _ (taken_some regions_command regions_in words (lists_regions words))
-    (by_word (bytes_eq word (codes "locate")) _ _ _ _ (taken_some locate_command locate_in words (locates words)) refl))))))
+    (by_word (bytes_eq word (codes "sample")) _ _ _ _ (taken_some sample_command sample_in words (samples words))
+    (by_word (bytes_eq word (codes "locate")) _ _ _ _ (taken_some locate_command locate_in words (locates words)) refl)))))))
 
 -- words name an operation exactly where they are accepted
 pub accepted : AcceptedLaw

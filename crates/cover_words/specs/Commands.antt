@@ -32,6 +32,22 @@ tolerance = record (new_rule (codes "tolerance")) { long = Some (codes "toleranc
 abbrev pub inner : Rule
 inner = record (new_rule (codes "inner")) { long = Some (codes "inner"); action = Some SetTrue }
 
+-- the numbers that a sample may have of cells on a side
+abbrev pub sides : ValueParser
+sides = Signed (pos 1) (pos 400)
+
+-- `N`: a positional number of cells on a side
+abbrev pub side : Rule
+side = record (new_rule (codes "N")) { required = true; parser = Some sides }
+
+-- the seeds: all numbers of 32 bits
+abbrev pub seeds : ValueParser
+seeds = Signed (pos 0) (pos 4294967295)
+
+-- `SEED`: a positional number
+abbrev pub seed : Rule
+seed = record (new_rule (codes "SEED")) { required = true; parser = Some seeds }
+
 -- ---- commands
 
 -- the command of this name with an input, an output and the further arguments
@@ -61,6 +77,10 @@ node_command = on_files (codes "node") []
 -- `regions IN OUT`
 abbrev pub regions_command : App
 regions_command = on_files (codes "regions") []
+
+-- `sample N SEED OUT`
+abbrev pub sample_command : App
+sample_command = fold with_rule (new_app (codes "sample")) (side ∷ seed ∷ name (codes "OUT") ∷ [])
 
 -- `locate IN POINTS OUT`
 abbrev pub locate_command : App

@@ -2,10 +2,10 @@
 use Rattle.std.specs.Prelude.{◌≡◌, List, [], ◌∷◌, Option, Some, None}
 use Rattle.clap.specs.Walk.{Text}
 use Rattle.cover_words.specs.declared.inputs.Inputs.{Inputs}
-use Rattle.cover_words.specs.declared.inputs.Inputs.TheVariants.{One, Two}
+use Rattle.cover_words.specs.declared.inputs.Inputs.TheVariants.{Nothing, One, Two}
 use Rattle.cover_words.specs.declared.operation.Operation as code
 use Rattle.cover_words.specs.declared.operation.Operation.TheVariants as operations
-use Rattle.cover_words.specs.Words.{Operation, Validate, Clean, Simplify, Union, Node, Regions, Locate}
+use Rattle.cover_words.specs.Words.{Operation, Validate, Clean, Simplify, Union, Node, Regions, Locate, Sample}
 
 -- the operation with the names that its texts hold
 abbrev pub named : code.Operation → Operation
@@ -15,10 +15,12 @@ named (operations.Simplify tolerance inner from to) = Simplify tolerance inner f
 named (operations.Union from to) = Union from.now to.now
 named (operations.Node from to) = Node from.now to.now
 named (operations.Regions from to) = Regions from.now to.now
+named (operations.Sample side seed to) = Sample side seed to.now
 named (operations.Locate from points to) = Locate from.now points.now to.now
 
 -- the names, as their texts
 abbrev pub names_in : Inputs → List Text
+names_in Nothing = []
 names_in (One name) = name.now ∷ []
 names_in (Two first second) = first.now ∷ second.now ∷ []
 

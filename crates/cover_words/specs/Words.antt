@@ -4,7 +4,7 @@ use Rattle.std.specs.Str.{bytes_eq}
 use Rattle.clap.specs.Walk.{Row, Text}
 use Rattle.clap.specs.Simple.{App, matches_of}
 use Rattle.clap.specs.Takes.{takes}
-use Rattle.cover_words.specs.Commands.{validate_command, clean_command, simplify_command, union_command, node_command, regions_command, locate_command}
+use Rattle.cover_words.specs.Commands.{validate_command, clean_command, simplify_command, union_command, node_command, regions_command, locate_command, sample_command}
 use Rattle.cover_words.specs.Values.{text_at, number_at, flag_at}
 use Rattle.cover_words.specs.declared.rule_name.RuleName.{RuleName}
 use Rattle.cover_words.specs.declared.rule_name.RuleName.TheVariants.{LeastIndex, GreatestArea, LeastArea, LongestBorder}
@@ -23,6 +23,8 @@ pub data Operation : Type 0 where
   Node : Text → Text → Operation
   -- the input, the output
   Regions : Text → Text → Operation
+  -- the number of cells on a side, the seed; the output
+  Sample : ℕ → ℕ → Text → Operation
   -- the input, the points; the output
   Locate : Text → Text → Text → Operation
 
@@ -34,6 +36,7 @@ inputs_of (Simplify tolerance inner from to) = from ∷ []
 inputs_of (Union from to) = from ∷ []
 inputs_of (Node from to) = from ∷ []
 inputs_of (Regions from to) = from ∷ []
+inputs_of (Sample side seed to) = []
 inputs_of (Locate from points to) = from ∷ points ∷ []
 
 -- the name of the file that the operation writes
@@ -44,13 +47,15 @@ output_of (Simplify tolerance inner from to) = to
 output_of (Union from to) = to
 output_of (Node from to) = to
 output_of (Regions from to) = to
+output_of (Sample side seed to) = to
 output_of (Locate from points to) = to
 
--- the gap width or the tolerance of the operation is at most 2^30 grid units
+-- the gap width or the tolerance of the operation is at most 2^30 grid units, and a sample has at most 400 cells on a side
 abbrev pub IsWithinLimit : Operation → Type 0
 IsWithinLimit (Validate gap from to) = gap ≤ 1073741824
 IsWithinLimit (Clean rule gap from to) = gap ≤ 1073741824
 IsWithinLimit (Simplify tolerance inner from to) = tolerance ≤ 1073741824
+IsWithinLimit (Sample side seed to) = side ≤ 400
 IsWithinLimit _ = ⊤
 
 -- the rule that a word names
@@ -84,6 +89,10 @@ abbrev pub files_with : (Text → Text → Operation) → Option Text → Option
 files_with operation (Some from) (Some to) = Some (operation from to)
 files_with operation _ _ = None
 
+-- the sample of the values that were found, where all are there
+abbrev pub sample_with : Option ℕ → Option ℕ → Option Text → Option Operation
+sample_with (Some side) (Some seed) (Some to) = Some (Sample side seed to)
+sample_with _ _ _ = None
 -- the location that the values name, where all are there
 abbrev pub locate_with : Option Text → Option Text → Option Text → Option Operation
 locate_with (Some from) (Some points) (Some to) = Some (Locate from points to)
@@ -113,6 +122,11 @@ node_in rows = files_with Node (text_at (codes "IN") rows) (text_at (codes "OUT"
 abbrev pub regions_in : List Row → Option Operation
 regions_in rows = files_with Regions (text_at (codes "IN") rows) (text_at (codes "OUT") rows)
 
+-- the sample that they name
+abbrev pub sample_in : List Row → Option Operation
+sample_in rows = sample_with (number_at (codes "N") rows) (number_at (codes "SEED") rows) (text_at (codes "OUT") rows)
+
+-- the location that they name
 abbrev pub locate_in : List Row → Option Operation
 locate_in rows = locate_with (text_at (codes "IN") rows) (text_at (codes "POINTS") rows) (text_at (codes "OUT") rows)
 
@@ -131,8 +145,9 @@ operation_by word words =
     else (if bytes_eq word (codes "union") then taken union_command union_in words
     else (if bytes_eq word (codes "node") then taken node_command node_in words
     else (if bytes_eq word (codes "regions") then taken regions_command regions_in words
+    else (if bytes_eq word (codes "sample") then taken sample_command sample_in words
     else (if bytes_eq word (codes "locate") then taken locate_command locate_in words
-    else None))))))
+    else None)))))))
 
 -- the operation that the words name, where they are accepted
 abbrev pub operation_of : List Text → Option Operation

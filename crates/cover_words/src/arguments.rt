@@ -1,6 +1,6 @@
 ghost use Rattle.std.specs.Prelude.{◌≡◌, false};
 ghost use Rattle.clap.specs.Walk.{rule_of};
-ghost use Rattle.cover_words.specs.Commands.{gap as gap_rule, inner as inner_rule, lengths as lengths_parser, name as name_rule, rule as rule_rule, tolerance as tolerance_rule};
+ghost use Rattle.cover_words.specs.Commands.{gap as gap_rule, inner as inner_rule, lengths as lengths_parser, name as name_rule, rule as rule_rule, seed as seed_rule, side as side_rule, tolerance as tolerance_rule};
 
 use clap::builder::ValueParser;
 use clap::{Arg, ArgAction, value_parser};
@@ -8,6 +8,9 @@ use std::alloc::Global;
 
 /// The greatest gap width and the greatest tolerance, in grid units.
 const MOST: i64 = 1_073_741_824;
+
+/// The greatest number of cells on a side of a sample.
+const LONGEST_SIDE: i64 = 400;
 
 // The numbers that a gap width and a tolerance may have.
 fn lengths<'a>() -> ValueParser<'a>
@@ -62,4 +65,24 @@ pub fn inner<'a>(alloc: Global) -> Arg<'a>
     Arg::new(alloc, "inner")
         .long("inner")
         .action(ArgAction::SetTrue)
+}
+
+/// `N`: a positional number of cells on a side, which has to be there.
+pub fn side<'a>(alloc: Global) -> Arg<'a>
+    ensures rule { rule_of result ≡ side_rule }
+    ensures local { result.global ≡ false }
+{
+    Arg::new(alloc, "N")
+        .required(true)
+        .value_parser(value_parser!(u32).range(1..=LONGEST_SIDE))
+}
+
+/// `SEED`: a positional number, which has to be there.
+pub fn seed<'a>(alloc: Global) -> Arg<'a>
+    ensures rule { rule_of result ≡ seed_rule }
+    ensures local { result.global ≡ false }
+{
+    Arg::new(alloc, "SEED")
+        .required(true)
+        .value_parser(value_parser!(u32))
 }

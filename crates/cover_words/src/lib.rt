@@ -18,6 +18,7 @@ mod node;
 mod operation;
 mod regions;
 mod rule_name;
+mod sample;
 mod simplify;
 mod union;
 mod validate;

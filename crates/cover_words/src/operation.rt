@@ -40,6 +40,12 @@ pub enum Operation<'a> {
         from: &'a str,
         to: &'a str,
     },
+    /// `side` in cells, 1 to 400.
+    Sample {
+        side: u32,
+        seed: u32,
+        to: &'a str,
+    },
     /// `points` names the file of points.
     Locate {
         from: &'a str,
@@ -74,6 +80,11 @@ impl<'a> Operation<'a> {
             Operation::Union { from, to: _ } => Inputs::One(from),
             Operation::Node { from, to: _ } => Inputs::One(from),
             Operation::Regions { from, to: _ } => Inputs::One(from),
+            Operation::Sample {
+                side: _,
+                seed: _,
+                to: _,
+            } => Inputs::Nothing,
             Operation::Locate {
                 from,
                 points,
@@ -107,6 +118,11 @@ impl<'a> Operation<'a> {
             Operation::Union { from: _, to } => to,
             Operation::Node { from: _, to } => to,
             Operation::Regions { from: _, to } => to,
+            Operation::Sample {
+                side: _,
+                seed: _,
+                to,
+            } => to,
             Operation::Locate {
                 from: _,
                 points: _,

@@ -25,7 +25,7 @@ fn names(alloc: Global, line: &str, wanted: Operation) -> Result<bool, NoMemory>
     Ok(operation_named(alloc, &words)? == Some(wanted))
 }
 
-static REFUSED: [&str; 22] = [
+static REFUSED: [&str; 29] = [
     "_",
     "measure a b",
     "clean",
@@ -48,6 +48,13 @@ static REFUSED: [&str; 22] = [
     "locate a b c --gap 3",
     "simplify a b --inner",
     "simplify a b --tolerance 8 --inner=true",
+    "sample 0 1 a",
+    "sample 401 1 a",
+    "sample 1 4294967296 a",
+    "sample 1 -1 a",
+    "sample 1 a",
+    "sample 1 1 a b",
+    "sample 1 1 a --gap 3",
 ];
 
 #[test]
@@ -124,6 +131,26 @@ fn lines_inside_alone(rt: HostRuntime) -> Result<(), Fail> {
         to,
     };
     assert!(rt; names(alloc, "simplify --inner a b --tolerance 8", inner)?);
+    Ok(())
+}
+
+#[test]
+fn samples_of_1_to_400_cells_on_a_side(rt: HostRuntime) -> Result<(), Fail> {
+    let alloc = rt.alloc();
+    let least = Operation::Sample {
+        side: 1,
+        seed: 0,
+        to: "a",
+    };
+    assert!(rt; names(alloc, "sample 1 0 a", least)?);
+    let most = Operation::Sample {
+        side: 400,
+        seed: 4_294_967_295,
+        to: "a",
+    };
+    assert!(rt; names(alloc, "sample 400 4294967295 a", most)?);
+    assert_eq!(rt; most.inputs(), Inputs::Nothing);
+    assert_eq!(rt; most.output(), "a");
     Ok(())
 }
 

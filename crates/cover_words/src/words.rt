@@ -9,6 +9,7 @@ use crate::locate::locate_named;
 use crate::node::node_named;
 use crate::operation::Operation;
 use crate::regions::regions_named;
+use crate::sample::sample_named;
 use crate::simplify::simplify_named;
 use crate::union::union_named;
 use crate::validate::validate_named;
@@ -40,6 +41,9 @@ fn operation_by<'a>(
     }
     if word == "regions" {
         return regions_named(alloc, words);
+    }
+    if word == "sample" {
+        return sample_named(alloc, words);
     }
     if word == "locate" {
         return locate_named(alloc, words);

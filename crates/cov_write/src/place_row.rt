@@ -1,7 +1,7 @@
 ghost use Rattle.std.specs.Prelude.{◌≡◌, ◌++◌, OnOk};
 ghost use Rattle.cov_write.specs.Places.{edge_row, member_row, none_row};
 
-use crate::written::append_number;
+use crate::number::append_number;
 use cov_types::NoMemory;
 
 /// Appends the row of a point on an edge. After an error some of it may be there. Takes constant time.

@@ -1,0 +1,12 @@
+pub mod Sums
+pub mod Exchanged
+pub mod Thinned
+pub mod Nodes
+pub mod KeptLines
+pub mod Nested
+pub mod Bent
+pub mod Beside
+pub mod Others
+pub mod LineSides
+pub mod Along
+pub mod Kept

@@ -10,7 +10,7 @@ use Rattle.cov_types.specs.Coord.{is_before, is_same_coord}
 use Rattle.cov_types.proofs.Equal.{Decides-same_coords}
 use Rattle.cov_types.proofs.Order.{same_from_neither}
 use Rattle.line_walk.specs.declared.edge_end.EdgeEnd.{EdgeEnd}
-use Rattle.line_walk.specs.Ends.{AreTogether, is_there, is_end_at, is_end_before, ends_at_vertex, IsPairAt, IsOtherEnd, IsOtherThere}
+use Rattle.line_walk.specs.Ends.{AreEndsGrouped, is_there, is_end_at, is_end_before, ends_at_vertex, IsPairAt, IsOtherEnd, IsOtherThere}
 
 counted : (d : EdgeEnd) (ds : List EdgeEnd) (v : Coord) → ends_at_vertex (d ∷ ds) v ≡ cond (is_same_coord d.vertex v) 1 0 + ends_at_vertex ds v
 counted d ds v = sum_by-cons (λ e. cond (is_same_coord e.vertex v) 1 0) d ds
@@ -82,7 +82,7 @@ or_not : (b : Bool) → (b ≡ true) ⊎ (b ≡ false)
 or_not true = inl refl
 or_not false = inr refl
 
-module _ (ends : List EdgeEnd) (together : AreTogether ends) (v : Coord) where
+module _ (ends : List EdgeEnd) (together : AreEndsGrouped ends) (v : Coord) where
   not_after : (i j : ℕ) (d e : EdgeEnd) → i < j → slice_get ends i ≡ Some d → slice_get ends j ≡ Some e → is_before e.vertex d.vertex ≡ false
   not_after i j d e less at_d at_e =
       let h = together i j d less (slice_get_within ends j e at_e) in
@@ -240,7 +240,7 @@ module _ (ends : List EdgeEnd) (together : AreTogether ends) (v : Coord) where
 
 -- ---- the same by what code reads
 
-module _ (ends : List EdgeEnd) (together : AreTogether ends) (i : ℕ) (d : EdgeEnd) (at : slice_get ends i ≡ Some d) where
+module _ (ends : List EdgeEnd) (together : AreEndsGrouped ends) (i : ℕ) (d : EdgeEnd) (at : slice_get ends i ≡ Some d) where
   itself : is_end_at ends d.vertex i ≡ true
   itself = is_there_at ends d.vertex i d at refl
 

@@ -20,8 +20,8 @@ use Rattle.greedy_run.specs.Lines.{degree}
 use Rattle.greedy_run.proofs.Threads.{no_loop}
 use Rattle.greedy_run.proofs.Trails.{contains_here, contains_there}
 use Rattle.line_walk.specs.declared.edge_end.EdgeEnd.{EdgeEnd}
-use Rattle.line_walk.specs.Ends.{AreTogether, ends_from, ends_at_vertex}
-use Rattle.line_walk.specs.Partners.{HasEnd}
+use Rattle.line_walk.specs.Ends.{AreEndsGrouped, ends_from, ends_at_vertex}
+use Rattle.line_walk.specs.Partners.{IsAtVertex}
 
 -- ---- one more edge
 
@@ -49,7 +49,7 @@ pub record IsEndOfEdge (k : ℕ) (es : List Seg) (d : EdgeEnd) : Type 0 where
   pub edge : Seg
   pub at : slice_get es place ≡ Some edge
   pub numbered : d.edge ≡ k + place
-  pub end : HasEnd edge d.vertex
+  pub end : IsAtVertex edge d.vertex
 
 later_end : (e : Seg) (k : ℕ) (es : List Seg) (d : EdgeEnd) → IsEndOfEdge (k + 1) es d → IsEndOfEdge k (e ∷ es) d
 later_end e k es d h = record { place = suc h.place; edge = h.edge; at = h.at; numbered = (let n = h.numbered in omega (arith, n)); end = h.end }
@@ -65,14 +65,14 @@ end_of_edge k (e ∷ es) (suc zero) d at =
 end_of_edge k (e ∷ es) (suc (suc i)) d at = later_end e k es d (end_of_edge (k + 1) es i d at)
 
 -- both ends of each edge are there
-pub has_ends : (k : ℕ) (es : List Seg) (i : ℕ) (e : Seg) → slice_get es i ≡ Some e → (v : Coord) → HasEnd e v → Contains (ends_from k es) (record { vertex = v; edge = k + i })
+pub has_ends : (k : ℕ) (es : List Seg) (i : ℕ) (e : Seg) → slice_get es i ≡ Some e → (v : Coord) → IsAtVertex e v → Contains (ends_from k es) (record { vertex = v; edge = k + i })
 has_ends k [] i e at v end = absurd (none-some e at)
-has_ends k (f ∷ es) zero e at v end = by (subst (λ g. HasEnd g v) (sym (same_Some f e at)) end)
+has_ends k (f ∷ es) zero e at v end = by (subst (λ g. IsAtVertex g v) (sym (same_Some f e at)) end)
   where
     z : k ≡ k + 0
     z = omega arith
 
-    by : HasEnd f v → Contains (ends_from k (f ∷ es)) (record { vertex = v; edge = k + 0 })
+    by : IsAtVertex f v → Contains (ends_from k (f ∷ es)) (record { vertex = v; edge = k + 0 })
     by (inl lo) = subst {A = EdgeEnd} (Contains (ends_from k (f ∷ es))) (λ i. record { vertex = lo i; edge = z i }) (contains_here (record { vertex = f.lo; edge = k }) (record { vertex = f.hi; edge = k } ∷ ends_from (k + 1) es))
     by (inr hi) = subst {A = EdgeEnd} (Contains (ends_from k (f ∷ es))) (λ i. record { vertex = hi i; edge = z i })
         (contains_there (record { vertex = f.lo; edge = k }) (record { vertex = f.hi; edge = k } ∷ ends_from (k + 1) es) (record { vertex = f.hi; edge = k }) (contains_here (record { vertex = f.hi; edge = k }) (ends_from (k + 1) es)))
@@ -189,6 +189,6 @@ one_place es ends moved v k i j at at_j =
 vertex_weak : IsStrictWeakOrder (λ (d e : EdgeEnd). is_lt (coord_cmp d.vertex e.vertex))
 vertex_weak = ranks_by coord_cmp_total (λ (d : EdgeEnd). d.vertex)
 
-pub together : (ends : List EdgeEnd) → IsSortedByKey (λ (d : EdgeEnd). d.vertex) coord_cmp ends → AreTogether ends
+pub together : (ends : List EdgeEnd) → IsSortedByKey (λ (d : EdgeEnd). d.vertex) coord_cmp ends → AreEndsGrouped ends
 together ends sorted i j d before within =
     sym (is_lt-coord_cmp (get_or ends j d).vertex (get_or ends i d).vertex) ∙ sorted_far (λ (a b : EdgeEnd). is_lt (coord_cmp a.vertex b.vertex)) vertex_weak ends sorted i j d (omega arith) within

@@ -27,7 +27,7 @@ use Rattle.arrangement.proofs.PointOrders.{points_total, points_same}
 use Rattle.greedy_run.specs.Lines.{IsLine, AreLines, PathsAscend}
 use Rattle.greedy_run.proofs.OneLine.{common_edge, covering}
 use Rattle.line_walk.specs.Line.{plain_lists, IsFirstOfLine, IsLineWith, AreLinesUnsorted, IsMarkedBy}
-use Rattle.line_walk.specs.Walk.{IsPlaced}
+use Rattle.line_walk.specs.Walk.{IsAtPlaces}
 use Rattle.line_walk.proofs.Walking.{places_apart}
 
 -- ---- one more element after all others
@@ -105,7 +105,7 @@ module _ (edges : List Seg) (ascending : IsAscending edges) (first : ℕ) (seen 
       on_it : (k : ℕ) (e : Seg) → slice_get edges k ≡ Some e → Contains (chain_edges points) e → Contains places k
       on_it k e at has = by ((line.passed e).0 has)
         where
-          by : IsPlaced edges places e → Contains places k
+          by : IsAtPlaces edges places e → Contains places k
           by (j, it) = elim (cases_order j k) [
             | inl same ↦ subst (Contains places) same it.0
             | inr apart ↦ absurd (places_apart edges ascending j k e e it.1 at (λ same. elim apart [ inl low ↦ omega (arith, same, low) | inr high ↦ omega (arith, same, high) ]) refl)

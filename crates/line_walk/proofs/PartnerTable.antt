@@ -13,7 +13,7 @@ use Rattle.cov_types.proofs.Equal.{Decides-same_coords}
 use Rattle.line_walk.specs.declared.edge_end.EdgeEnd.{EdgeEnd}
 use Rattle.line_walk.specs.declared.partners.Partners.{Partners}
 use Rattle.line_walk.specs.Ends.{ends_from, IsOtherThere}
-use Rattle.line_walk.specs.Partners.{HasEnd, HasEndAt, IsPartnerOrNone, partner_at, with_partner, ArePartners}
+use Rattle.line_walk.specs.Partners.{IsAtVertex, HasEndAt, IsPartnerOrNone, partner_at, with_partner, ArePartners}
 use Rattle.line_walk.proofs.EndsOf.{end_of_edge, has_ends, permuted-degree, one_place}
 
 -- the partners are right at the first so many ends
@@ -63,7 +63,7 @@ module _ (edges : List Seg) (ends : List EdgeEnd) (moved : IsPermutation (ends_f
           slice_get-get_or partners k p (omega (arith, length-set partners d.edge (with_partner e d.vertex other own)))
           ∙ ap Some (sym (get_or-set_other partners d.edge k (with_partner e d.vertex other own) p differs) ∙ get_or_from_slice_get now k p p at_k)
 
-      same_end : (v : Coord) → HasEnd e v → HasEnd e d.vertex → is_same_coord e.lo v ≡ is_same_coord e.lo d.vertex → v ≡ d.vertex
+      same_end : (v : Coord) → IsAtVertex e v → IsAtVertex e d.vertex → is_same_coord e.lo v ≡ is_same_coord e.lo d.vertex → v ≡ d.vertex
       same_end v (inl a) (inl b) same = sym a ∙ b
       same_end v (inr a) (inr b) same = sym a ∙ b
       same_end v (inl a) (inr b) same = sym a ∙ (Decides-same_coords e.lo d.vertex).0 (sym same ∙ (Decides-same_coords e.lo v).1 a)
@@ -91,7 +91,7 @@ module _ (edges : List Seg) (ends : List EdgeEnd) (moved : IsPermutation (ends_f
       same_or_not false true = inr false≢true
 
       -- at another end of the same edge, or at this one
-      at_edge : (v : Coord) → HasEnd e v → HasEnd e d.vertex → IsPartnerOrNone edges v d.edge (partner_at e v own) ⊎ (v ≡ d.vertex) → IsPartnerOrNone edges v d.edge (partner_at e v (with_partner e d.vertex other own))
+      at_edge : (v : Coord) → IsAtVertex e v → IsAtVertex e d.vertex → IsPartnerOrNone edges v d.edge (partner_at e v own) ⊎ (v ≡ d.vertex) → IsPartnerOrNone edges v d.edge (partner_at e v (with_partner e d.vertex other own))
       at_edge v end its either = by (same_or_not (is_same_coord e.lo v) (is_same_coord e.lo d.vertex)) either
         where
           by : (is_same_coord e.lo v ≡ is_same_coord e.lo d.vertex) ⊎ (is_same_coord e.lo v ≢ is_same_coord e.lo d.vertex) → IsPartnerOrNone edges v d.edge (partner_at e v own) ⊎ (v ≡ d.vertex)
@@ -105,8 +105,8 @@ module _ (edges : List Seg) (ends : List EdgeEnd) (moved : IsPermutation (ends_f
       at_one : (f : Seg) → slice_get edges d.edge ≡ Some f → f ≡ e
       at_one f at_f = same_Some f e (sym at_f ∙ is)
 
-      its_end : HasEnd e d.vertex
-      its_end = let own_edge = its_edge i d at in subst (λ f. HasEnd f d.vertex) (at_one own_edge.0 own_edge.1.0) own_edge.1.1
+      its_end : IsAtVertex e d.vertex
+      its_end = let own_edge = its_edge i d at in subst (λ f. IsAtVertex f d.vertex) (at_one own_edge.0 own_edge.1.0) own_edge.1.1
 
       later : (j : ℕ) (g : EdgeEnd) (f : Seg) (p : Partners) → j < i + 1 → slice_get ends j ≡ Some g → slice_get edges g.edge ≡ Some f → slice_get now g.edge ≡ Some p → IsPartnerOrNone edges g.vertex g.edge (partner_at f g.vertex p)
       later j g f p less at_g at_f at_p = elim (cases_order g.edge d.edge) [
@@ -114,7 +114,7 @@ module _ (edges : List Seg) (ends : List EdgeEnd) (moved : IsPermutation (ends_f
             let f_is : f ≡ e = at_one f (subst (λ k. slice_get edges k ≡ Some f) same at_f) in
             let p_is : p ≡ with_partner e d.vertex other own = same_Some p (with_partner e d.vertex other own) (sym (subst (λ k. slice_get now k ≡ Some p) same at_p) ∙ here) in
             let own_end = its_edge j g at_g in
-            let end : HasEnd e g.vertex = subst (λ s. HasEnd s g.vertex) (same_Some own_end.0 e (sym own_end.1.0 ∙ ap (slice_get edges) same ∙ is)) own_end.1.1 in
+            let end : IsAtVertex e g.vertex = subst (λ s. IsAtVertex s g.vertex) (same_Some own_end.0 e (sym own_end.1.0 ∙ ap (slice_get edges) same ∙ is)) own_end.1.1 in
             let right : IsPartnerOrNone edges g.vertex d.edge (partner_at e g.vertex own) ⊎ (g.vertex ≡ d.vertex) = elim (cases_order j i) [
               | inl one ↦ inr (ap (λ (x : EdgeEnd). x.vertex) (same_Some g d (sym at_g ∙ ap (slice_get ends) one ∙ at)))
               | inr rest ↦ elim rest [

@@ -19,8 +19,8 @@ use Rattle.greedy_run.proofs.Threads.{seg_turned, other_end, one_seg}
 use Rattle.greedy_run.proofs.Trails.{IsTrailBy, IsOnward, goes_on, longer, trail_bound, walk_at}
 use Rattle.greedy_run.proofs.Walks.{trail_in}
 use Rattle.line_walk.specs.declared.walk.Walk.{Walk}
-use Rattle.line_walk.specs.Partners.{HasEnd, HasEndAt, IsPartner}
-use Rattle.line_walk.specs.Walk.{IsEdgeWalk, IsPlaced}
+use Rattle.line_walk.specs.Partners.{IsAtVertex, HasEndAt, IsPartner}
+use Rattle.line_walk.specs.Walk.{IsEdgeWalk, IsAtPlaces}
 use Rattle.line_walk.proofs.Pushed.{push_before, push_last, slice_get_among}
 
 -- the edge at the place leads from one point to the other
@@ -113,7 +113,7 @@ module _ (edges : List Seg) (ascending : IsAscending edges) (from : Coord) (firs
     pub ends_at_to : HasEndAt edges last to
     ends_at_to = by last_edge
       where
-        side : (e : Seg) → IsSegBetween (f (n - 1)) (f n) e → HasEnd e to
+        side : (e : Seg) → IsSegBetween (f (n - 1)) (f n) e → IsAtVertex e to
         side e (inl s) = inr (s.1 ∙ h.to_is)
         side e (inr s) = inl (s.0 ∙ h.to_is)
 
@@ -200,10 +200,10 @@ module _ (edges : List Seg) (ascending : IsAscending edges) (from : Coord) (firs
   abbrev count : ℕ
   count = length w.edges.items
 
-  to_place : (e : Seg) → Contains (chain_edges (from_place p 0 count)) e → IsPlaced edges w.edges.items e
+  to_place : (e : Seg) → Contains (chain_edges (from_place p 0 count)) e → IsAtPlaces edges w.edges.items e
   to_place e has = by (step_of edges (from_place p 0 count) (walk edges count p h.trail.step h.trail.distinct) e has)
     where
-      by : IsStepOf edges (from_place p 0 count) e → IsPlaced edges w.edges.items e
+      by : IsStepOf edges (from_place p 0 count) e → IsAtPlaces edges w.edges.items e
       by s =
           let here = point_is edges count p h.trail.step h.trail.distinct s.k s.p s.at_p in
           let next = point_is edges count p h.trail.step h.trail.distinct (suc s.k) s.q s.at_q in
@@ -213,7 +213,7 @@ module _ (edges : List Seg) (ascending : IsAscending edges) (from : Coord) (firs
           let is = one_seg (p s.k) (p (suc s.k)) leads.1.0 e leads.1.1.1 between in
           (k, (slice_get_among w.edges.items s.k k leads.0, leads.1.1.0 ∙ ap Some is))
 
-  from_its_place : (e : Seg) → IsPlaced edges w.edges.items e → Contains (chain_edges (from_place p 0 count)) e
+  from_its_place : (e : Seg) → IsAtPlaces edges w.edges.items e → Contains (chain_edges (from_place p 0 count)) e
   from_its_place e (k, has) =
       let (j, inside, is) = has.0 in
       let (i, leads) = h.passed j inside in

@@ -23,7 +23,7 @@ use Rattle.greedy_run.proofs.Trails.{IsTrailBy}
 use Rattle.greedy_run.proofs.Walks.{trail_by}
 use Rattle.line_walk.specs.declared.walk.Walk.{Walk}
 use Rattle.line_walk.specs.Line.{IsFirstOfLine, IsLesserWay, IsWholeWalk}
-use Rattle.line_walk.specs.Walk.{IsEdgeWalk, IsPlaced}
+use Rattle.line_walk.specs.Walk.{IsEdgeWalk, IsAtPlaces}
 use Rattle.line_walk.proofs.LesserWays.{some_lesser}
 use Rattle.line_walk.proofs.Pushed.{slice_get_among}
 use Rattle.line_walk.proofs.Walking.{edges_apart, places_apart}
@@ -106,7 +106,7 @@ module _ (edges : List Seg) where
         by (inr is) = subst IsLineOver (sym is) (turned_line (subst (λ qs. IsTrue (is_le (points_cmp qs (reverse qs)))) is way.direction))
 
     -- so a walk along it is one along a whole line
-    pub whole_by : (points : List Coord) → ps ≡ points → (places : List ℕ) → ((e : Seg) → Contains (chain_edges points) e ↔ IsPlaced edges places e) → All (λ k. k < length edges) places → (first : ℕ) → Contains places first → IsWholeWalk edges first points places
+    pub whole_by : (points : List Coord) → ps ≡ points → (places : List ℕ) → ((e : Seg) → Contains (chain_edges points) e ↔ IsAtPlaces edges places e) → All (λ k. k < length edges) places → (first : ℕ) → Contains places first → IsWholeWalk edges first points places
     whole_by points is places passed within first has lesser way =
         let over = line_over lesser (subst (λ qs. IsLesserWay qs lesser) (sym is) way) in
         record {
@@ -215,7 +215,7 @@ module _ (edges : List Seg) (ascending : IsAscending edges) (from : Coord) (firs
   placed_at : (k : ℕ) (e : Seg) → slice_get edges k ≡ Some e → Contains (chain_edges points) e → Contains w.edges.items k
   placed_at k e at has = by ((h.passed e).0 has)
     where
-      by : IsPlaced edges w.edges.items e → Contains w.edges.items k
+      by : IsAtPlaces edges w.edges.items e → Contains w.edges.items k
       by (j, it) = elim (cases_order j k) [
         | inl same ↦ subst (Contains w.edges.items) same it.0
         | inr apart ↦ absurd (places_apart edges ascending j k e e it.1 at (λ same. elim apart [ inl low ↦ omega (arith, same, low) | inr high ↦ omega (arith, same, high) ]) refl)

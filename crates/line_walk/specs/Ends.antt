@@ -11,8 +11,8 @@ ends_from k [] = []
 ends_from k (e ∷ es) = record { vertex = e.lo; edge = k } ∷ record { vertex = e.hi; edge = k } ∷ ends_from (k + 1) es
 
 -- no end stands after one at a later vertex, so those at one vertex stand together
-abbrev pub AreTogether : List EdgeEnd → Type 0
-AreTogether ends = AllPairs (λ d e. is_before e.vertex d.vertex ≡ false) ends
+abbrev pub AreEndsGrouped : List EdgeEnd → Type 0
+AreEndsGrouped ends = AllPairs (λ d e. is_before e.vertex d.vertex ≡ false) ends
 
 -- the end, if there is one, is at the vertex
 abbrev pub is_there : Coord → Option EdgeEnd → Bool

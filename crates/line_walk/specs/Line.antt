@@ -7,7 +7,7 @@ use Rattle.cov_types.specs.declared.seg.Seg.{Seg}
 use Rattle.cov_types.specs.Coord.{points_cmp}
 use Rattle.plane.specs.Snapping.{chain_edges}
 use Rattle.greedy_run.specs.Lines.{IsLine}
-use Rattle.line_walk.specs.Walk.{IsPlaced}
+use Rattle.line_walk.specs.Walk.{IsAtPlaces}
 
 -- the lists of points
 abbrev pub plain_lists : List (Vec Coord) → List (List Coord)
@@ -26,7 +26,7 @@ pub record IsLesserWay (points lesser : List Coord) : Type 0 where
 -- a line, with the places of its edges, of which the first edge is one
 pub record IsLineWith (edges : List Seg) (first : ℕ) (points : List Coord) (places : List ℕ) : Type 0 where
   pub line : IsLine edges points
-  pub passed : (e : Seg) → Contains (chain_edges points) e ↔ IsPlaced edges places e
+  pub passed : (e : Seg) → Contains (chain_edges points) e ↔ IsAtPlaces edges places e
   pub within : All (λ k. k < length edges) places
   pub has_first : Contains places first
 

@@ -7,12 +7,12 @@ use Rattle.greedy_run.specs.Lines.{degree}
 use Rattle.line_walk.specs.declared.partners.Partners.{Partners}
 
 -- the edge ends at the vertex
-abbrev pub HasEnd : Seg → Coord → Type 0
-HasEnd e v = (e.lo ≡ v) ⊎ (e.hi ≡ v)
+abbrev pub IsAtVertex : Seg → Coord → Type 0
+IsAtVertex e v = (e.lo ≡ v) ⊎ (e.hi ≡ v)
 
 -- the edge at the place ends at the vertex
 abbrev pub HasEndAt : List Seg → ℕ → Coord → Type 0
-HasEndAt edges k v = (e : Seg) × ((slice_get edges k ≡ Some e) × HasEnd e v)
+HasEndAt edges k v = (e : Seg) × ((slice_get edges k ≡ Some e) × IsAtVertex e v)
 
 -- two edges meet at the vertex, and that at place j is not the one at place k
 pub record IsPartner (edges : List Seg) (v : Coord) (k j : ℕ) : Type 0 where
@@ -36,4 +36,4 @@ with_partner e v other p = cond (is_same_coord e.lo v) (record { at_lo = other; 
 -- the partners of each edge, at each of its ends
 pub record ArePartners (edges : List Seg) (partners : List Partners) : Type 0 where
   pub size : length partners ≡ length edges
-  pub each : (k : ℕ) (e : Seg) (p : Partners) (v : Coord) → slice_get edges k ≡ Some e → slice_get partners k ≡ Some p → HasEnd e v → IsPartnerOrNone edges v k (partner_at e v p)
+  pub each : (k : ℕ) (e : Seg) (p : Partners) (v : Coord) → slice_get edges k ≡ Some e → slice_get partners k ≡ Some p → IsAtVertex e v → IsPartnerOrNone edges v k (partner_at e v p)

@@ -8,8 +8,8 @@ use Rattle.line_walk.specs.Partners.{HasEndAt, IsPartner}
 use Rattle.line_walk.specs.declared.walk.Walk.{Walk}
 
 -- the edge is at one of the places
-abbrev pub IsPlaced : List Seg → List ℕ → Seg → Type 0
-IsPlaced edges places e = (k : ℕ) × (Contains places k × (slice_get edges k ≡ Some e))
+abbrev pub IsAtPlaces : List Seg → List ℕ → Seg → Type 0
+IsAtPlaces edges places e = (k : ℕ) × (Contains places k × (slice_get edges k ≡ Some e))
 
 -- a walk that came to a vertex along an edge goes on along the other edge there, and ends where other than two edges meet or where it began
 abbrev pub IsOnwardFrom : List Seg → Coord → Coord → ℕ → Option ℕ → Type 0
@@ -22,7 +22,7 @@ pub record IsEdgeWalk (edges : List Seg) (from : Coord) (first : ℕ) (w : Walk)
   pub begins : slice_get w.points.items 0 ≡ Some from
   pub ends : EndsAt w.points.items w.to
   pub done : (w.to ≡ from) ⊎ (degree edges w.to ≢ 2)
-  pub passed : (e : Seg) → Contains (chain_edges w.points.items) e ↔ IsPlaced edges w.edges.items e
+  pub passed : (e : Seg) → Contains (chain_edges w.points.items) e ↔ IsAtPlaces edges w.edges.items e
   pub within : All (λ k. k < length edges) w.edges.items
   pub along_first : (e : Seg) → slice_get edges first ≡ Some e → slice_get (chain_edges w.points.items) 0 ≡ Some e
   pub along_last : (e : Seg) → slice_get edges w.last ≡ Some e → slice_get (chain_edges w.points.items) (length w.points.items - 2) ≡ Some e

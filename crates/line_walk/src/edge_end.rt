@@ -1,5 +1,5 @@
 ghost use Rattle.std.specs.Prelude.{◌≡◌, ◌<◌, IfOk, IsPermutation, length};
-ghost use Rattle.line_walk.specs.Ends.{AreTogether, IsOtherOfTwo, IsPairAt, ends_from, is_end_at, is_end_before};
+ghost use Rattle.line_walk.specs.Ends.{AreEndsGrouped, IsOtherOfTwo, IsPairAt, ends_from, is_end_at, is_end_before};
 
 use cov_types::{Coord, NoMemory, Seg};
 use std::alloc::Global;
@@ -14,7 +14,7 @@ pub struct EdgeEnd {
 /// The ends of all edges, those at one vertex side by side. Takes n log n time, and memory in proportion to the edges.
 pub fn ends_by_vertex(alloc: Global, edges: &[Seg]) -> Result<Vec<EdgeEnd>, NoMemory>
     ensures all { IfOk result (λ ends. IsPermutation (ends_from 0 edges.now) ends.items) }
-    ensures together { IfOk result (λ ends. AreTogether ends.items) }
+    ensures together { IfOk result (λ ends. AreEndsGrouped ends.items) }
 {
     let mut ends = ends_of(alloc, edges)?;
     ends.sort_unstable_by_key(|end| end.vertex);
@@ -40,7 +40,7 @@ fn ends_of(alloc: Global, edges: &[Seg]) -> Result<Vec<EdgeEnd>, NoMemory>
 
 /// The edge of the other end at the vertex of this one, where just the two are there.
 pub fn other_of_two(ends: &[EdgeEnd], i: usize) -> Option<usize>
-    requires together { AreTogether ends.now }
+    requires together { AreEndsGrouped ends.now }
     requires within { i < length ends.now }
     ensures { IsOtherOfTwo ends.now i result }
 {

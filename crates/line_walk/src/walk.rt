@@ -1,7 +1,7 @@
 ghost use Rattle.std.specs.Prelude.{◌≡◌, IfOk};
 ghost use Rattle.arrangement.specs.Noding.{IsAscending};
 ghost use Rattle.cov_types.specs.Seg.{IsSegBetween};
-ghost use Rattle.line_walk.specs.Partners.{ArePartners, HasEnd, HasEndAt};
+ghost use Rattle.line_walk.specs.Partners.{ArePartners, IsAtVertex, HasEndAt};
 ghost use Rattle.line_walk.specs.Walk.{IsOnwardFrom, IsEdgeWalk};
 
 use crate::partners::Partners;
@@ -72,7 +72,7 @@ fn onward(
 }
 
 fn other_end(edge: Seg, vertex: Coord) -> Coord
-    requires { HasEnd edge vertex }
+    requires { IsAtVertex edge vertex }
     ensures { IsSegBetween vertex result edge }
 {
     if edge.lo == vertex { edge.hi } else { edge.lo }

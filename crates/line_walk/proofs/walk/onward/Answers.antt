@@ -4,7 +4,7 @@ use Rattle.std.proofs.lemmas.Option.{slice_get_read, slice_get_within, slice_get
 use Rattle.cov_types.specs.declared.coord.Coord.{Coord}
 use Rattle.cov_types.specs.declared.seg.Seg.{Seg}
 use Rattle.cov_types.proofs.Equal.{Decides-same_coords}
-use Rattle.line_walk.specs.Partners.{HasEnd, IsPartnerOrNone}
+use Rattle.line_walk.specs.Partners.{IsAtVertex, IsPartnerOrNone}
 use Rattle.line_walk.specs.Walk.{IsOnwardFrom}
 use Rattle.line_walk.proofs.walk.onward.Goals as goal
 
@@ -20,7 +20,7 @@ returns-else-eq c =
     let within = slice_get_within edges c.args.last e has.0 in
     let size = c.requires.partners.size in
     let read : slice_get edges c.args.last ≡ Some c.index-edges-last.result = slice_get_read edges (length edges) c.args.last c.index-edges-last.result refl within c.index-edges-last.is in
-    let end : HasEnd c.index-edges-last.result c.args.to = subst (λ s. HasEnd s c.args.to) (same_Some e c.index-edges-last.result (sym has.0 ∙ read)) has.1 in
+    let end : IsAtVertex c.index-edges-last.result c.args.to = subst (λ s. IsAtVertex s c.args.to) (same_Some e c.index-edges-last.result (sym has.0 ∙ read)) has.1 in
     let at = slice_get-get_or partners c.args.last _ (omega (arith, within, size)) in
     let apart : c.args.to ≢ c.args.from = λ same. false≢true (sym c.if-eq.false ∙ c.eq.ensures ∙ (Decides-same_coords c.args.to c.args.from).1 same) in
     goes_on edges c.args.from c.args.to c.args.last c.at.result apart

@@ -4,14 +4,14 @@ use Rattle.std.proofs.lemmas.Option.{slice_get_read, slice_get_within, same_Some
 use Rattle.cov_types.specs.declared.coord.Coord.{Coord}
 use Rattle.cov_types.specs.declared.seg.Seg.{Seg}
 use Rattle.greedy_run.specs.Lines.{degree}
-use Rattle.line_walk.specs.Partners.{HasEnd, HasEndAt}
+use Rattle.line_walk.specs.Partners.{IsAtVertex, HasEndAt}
 use Rattle.line_walk.specs.Walk.{IsOnwardFrom}
 use Rattle.line_walk.proofs.Walking.{IsWalking, walk_one, walk_more, walk_bound, walk_ended, ends_at_to}
 use Rattle.line_walk.proofs.walk.walk_from.Goals as goal
 
 -- the edge that is read has the end
-end_read : (edges : List Seg) (k : ℕ) (v : Coord) → HasEndAt edges k v → (e : Seg) → slice_get edges k ≡ Some e → HasEnd e v
-end_read edges k v (f, has) e at = subst (λ s. HasEnd s v) (same_Some f e (sym has.0 ∙ at)) has.1
+end_read : (edges : List Seg) (k : ℕ) (v : Coord) → HasEndAt edges k v → (e : Seg) → slice_get edges k ≡ Some e → IsAtVertex e v
+end_read edges k v (f, has) e at = subst (λ s. IsAtVertex s v) (same_Some f e (sym has.0 ∙ at)) has.1
 
 place_within : (edges : List Seg) (k : ℕ) (v : Coord) → HasEndAt edges k v → k < length edges
 place_within edges k v (e, has) = slice_get_within edges k e has.0

@@ -7,3 +7,4 @@ pub mod MemberCounts
 pub mod Marks
 pub mod Withouts
 pub mod Simplified
+pub mod KeptLines

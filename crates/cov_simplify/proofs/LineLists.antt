@@ -31,7 +31,7 @@ use Rattle.greedy_run.specs.Sides.{holder, left_from, right_from, beside_first, 
 use Rattle.line_walk.specs.Line.{plain_lists}
 use Rattle.owner_label.specs.Labelled.{Labelled, IsOverlay}
 use Rattle.cov_simplify.specs.declared.coverage_lines.Line.{Line}
-use Rattle.cov_simplify.specs.Lines.{points_of, IsSided, IsSidedLine, AreSidedLines, AreLinesOf}
+use Rattle.cov_simplify.specs.Lines.{line_points, IsSided, IsSidedLine, AreSidedLines, AreLinesOf}
 
 -- ---- the lists that are left
 
@@ -59,7 +59,7 @@ all_passed yielded (x ∷ rest) lists is none = absurd (omega arith)
 -- ---- one more line
 
 module _ (labelled : Labelled) (lists : List (Vec Coord)) (lines : List Line) (v : Vec Coord) (l : Line) (h : IsSidedLine labelled v.items l) where
-  pub points_more : points_of lines ≡ plain_lists lists → points_of (lines ++ l ∷ []) ≡ plain_lists (lists ++ v ∷ [])
+  pub points_more : line_points lines ≡ plain_lists lists → line_points (lines ++ l ∷ []) ≡ plain_lists (lists ++ v ∷ [])
   points_more same = map-append (λ (k : Line). k.points.items) lines (l ∷ []) ∙ (λ i. same i ++ h.points_are i ∷ []) ∙ sym (map-append (λ (x : Vec Coord). x.items) lists (v ∷ []))
 
   pub sided_more : All (λ (k : Line). IsSidedLine labelled k.points.items k) lines → All (λ (k : Line). IsSidedLine labelled k.points.items k) (lines ++ l ∷ [])

@@ -1,3 +1,4 @@
 pub mod Inner
+pub mod KeptLines
 pub mod Lines
 pub mod Without

@@ -13,8 +13,8 @@ use Rattle.owner_label.specs.Labelled.{Labelled, IsOverlay}
 use Rattle.cov_simplify.specs.declared.coverage_lines.Line.{Line}
 
 -- the points of each line
-abbrev pub points_of : List Line → List (List Coord)
-points_of lines = map (λ (l : Line). l.points.items) lines
+abbrev pub line_points : List Line → List (List Coord)
+line_points lines = map (λ (l : Line). l.points.items) lines
 
 -- the members beside the line are its left and its right member
 pub record IsSided (members : Members) (l : Line) : Type 0 where
@@ -26,7 +26,7 @@ pub record AreLinesOf (members : Members) (lines : List Line) : Type 0 where
   pub edges : List Seg
   pub odd : List OddUse
   pub are_edges : AreEdges (uses_of members) edges odd
-  pub are_lines : AreLines edges (points_of lines)
+  pub are_lines : AreLines edges (line_points lines)
   pub sided : All (IsSided members) lines
 
 -- the line has these points, and the members beside it by the overlay
@@ -37,5 +37,5 @@ pub record IsSidedLine (labelled : Labelled) (points : List Coord) (l : Line) : 
 
 -- the lines have these points, and the members beside them by the overlay
 pub record AreSidedLines (labelled : Labelled) (lists : List (List Coord)) (lines : List Line) : Type 0 where
-  pub points_are : points_of lines ≡ lists
+  pub points_are : line_points lines ≡ lists
   pub each : All (λ (l : Line). IsSidedLine labelled l.points.items l) lines

@@ -1,4 +1,5 @@
 ghost use Rattle.std.specs.Prelude.{◌≡◌, ◌≤◌, ◌^◌, IfOk};
+ghost use Rattle.cov_simplify.specs.KeptLines.{AreLinesKept, AreNodesKept};
 ghost use Rattle.cov_types.specs.Coverage.{AllInRange, IsFormed};
 ghost use Rattle.cov_types.specs.Uses.{uses_of};
 ghost use Rattle.greedy_run.specs.Run.{coverage_without, IsSimplified};
@@ -14,9 +15,9 @@ use std::alloc::Global;
 use visvalingam::removed_points;
 
 /// A valid coverage, simplified after Visvalingam and Whyatt: points go from its lines, the one with the smallest triangle first, so long
-/// as the coverage stays valid and no ring is lost. The tolerance is in grid units, at most 2^30: a point may go where its doubled
-/// triangle is at most twice the square of it. Where `inner` is set, only lines between two members lose points. Runs out of memory with
-/// the coverage lost.
+/// as the coverage stays valid and no ring is lost. Each line keeps its two ends and the members on its two sides. The tolerance is in
+/// grid units, at most 2^30: a point may go where its doubled triangle is at most twice the square of it. Where `inner` is set, only lines
+/// between two members lose points. Runs out of memory with the coverage lost.
 ///
 /// Takes memory in proportion to the points, and n log n time for n points where their triangles are small and apart.
 pub fn simplify(
@@ -29,6 +30,8 @@ pub fn simplify(
     ensures simplified { IfOk result (λ out. IsSimplified v tolerance inner out) }
     ensures valid { IfOk result (λ out. IsValid (uses_of out)) }
     ensures formed { IfOk result IsFormed }
+    ensures nodes { IfOk result (λ out. AreNodesKept v out) }
+    ensures lines { IfOk result (λ out. AreLinesKept v out) }
 {
     let removed = removed_from(alloc, v.coverage(), tolerance, inner)?;
     let simplified = coverage_without(alloc, v.into_coverage(), &removed)?;

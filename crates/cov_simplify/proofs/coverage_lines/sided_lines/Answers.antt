@@ -3,13 +3,13 @@ use Rattle.std.proofs.lemmas.List.Elements.{All-nil}
 use Rattle.std.specs.Prelude.{All}
 use Rattle.line_walk.specs.Line.{plain_lists}
 use Rattle.cov_simplify.specs.declared.coverage_lines.Line.{Line}
-use Rattle.cov_simplify.specs.Lines.{points_of, IsSidedLine}
+use Rattle.cov_simplify.specs.Lines.{line_points, IsSidedLine}
 use Rattle.cov_simplify.proofs.LineLists.{next_among, passed_on, all_passed, points_more, sided_more}
 use Rattle.cov_simplify.proofs.coverage_lines.sided_lines.Goals as goal
 
 pub loop-points-init : goal.loop-points-init
 loop-points-init c = record {
-  points_are = ap points_of c.new-lines.ensures.items;
+  points_are = ap line_points c.new-lines.ensures.items;
   each = subst (λ (ls : List Line). All (λ (line : Line). IsSidedLine c.args.labels.now line.points.items line) ls) (sym c.new-lines.ensures.items) (All-nil (λ (line : Line). IsSidedLine c.args.labels.now line.points.items line));
   left = c.into_iter-points-iterator.ensures.into_iter_gives.0;
 }
@@ -21,7 +21,7 @@ sided_line-requires-clause-line c =
 
 pub loop-points-preserved : goal.loop-points-preserved
 loop-points-preserved c = record {
-  points_are = ap points_of c.in_ok-push.ensures.items ∙ points_more c.args.labels.now c.loop-points.yielded c.loop-points.lines.items c.in-Some.points c.sided_line.result c.sided_line.ensures c.loop-points.invariant.points_are;
+  points_are = ap line_points c.in_ok-push.ensures.items ∙ points_more c.args.labels.now c.loop-points.yielded c.loop-points.lines.items c.in-Some.points c.sided_line.result c.sided_line.ensures c.loop-points.invariant.points_are;
   each = subst (λ (ls : List Line). All (λ (line : Line). IsSidedLine c.args.labels.now line.points.items line) ls) (sym c.in_ok-push.ensures.items)
       (sided_more c.args.labels.now c.loop-points.yielded c.loop-points.lines.items c.in-Some.points c.sided_line.result c.sided_line.ensures c.loop-points.invariant.each);
   left = passed_on c.loop-points.yielded _ c.loop-points.points-iterator.rest.items c.args.lists.items c.in-Some.points c.loop-points.invariant.left c.in-Some.ensures.steps.0;

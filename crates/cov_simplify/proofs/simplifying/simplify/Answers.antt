@@ -4,6 +4,8 @@ use Rattle.cov_types.specs.Uses.{uses_of}
 use Rattle.plane.specs.Validity.{IsValid}
 use Rattle.greedy_run.specs.Run.{IsSimplified}
 use Rattle.removal_laws.proofs.RunStates.{simplified_valid}
+use Rattle.cov_simplify.specs.KeptLines.{AreNodesKept, AreLinesKept}
+use Rattle.cov_simplify.proofs.KeptLines.{nodes_kept, lines_kept}
 use Rattle.cov_simplify.proofs.Simplified.{simplified_as, simplified_formed}
 use Rattle.cov_simplify.proofs.simplifying.simplify.Goals as goal
 
@@ -52,3 +54,19 @@ returns-clause-formed c =
     simplified_as c.args.v c.coverage.result.now c.into_coverage.result c.args.tolerance c.args.inner c.in_ok-removed.removed.items c.deref.result.now out c.coverage.ensures.coverage c.into_coverage.ensures.coverage c.deref.ensures.value
     c.in_ok-simplified.ensures c.in_ok-removed.ensures in
     subst IsFormed (sym c.known.ensures) (simplified_formed c.args.v c.args.tolerance c.args.inner out c.coverage.ensures.formed c.coverage.ensures.valid same)
+
+pub returns-clause-nodes : goal.returns-clause-nodes
+returns-clause-nodes c =
+    let out : Members = c.in_ok-simplified.simplified in
+    let same : IsSimplified c.args.v c.args.tolerance c.args.inner out =
+    simplified_as c.args.v c.coverage.result.now c.into_coverage.result c.args.tolerance c.args.inner c.in_ok-removed.removed.items c.deref.result.now out c.coverage.ensures.coverage c.into_coverage.ensures.coverage c.deref.ensures.value
+    c.in_ok-simplified.ensures c.in_ok-removed.ensures in
+    subst (AreNodesKept c.args.v) (sym c.known.ensures) (nodes_kept c.args.v c.args.tolerance c.args.inner out c.coverage.ensures.formed.in_range c.coverage.ensures.valid same)
+
+pub returns-clause-lines : goal.returns-clause-lines
+returns-clause-lines c =
+    let out : Members = c.in_ok-simplified.simplified in
+    let same : IsSimplified c.args.v c.args.tolerance c.args.inner out =
+    simplified_as c.args.v c.coverage.result.now c.into_coverage.result c.args.tolerance c.args.inner c.in_ok-removed.removed.items c.deref.result.now out c.coverage.ensures.coverage c.into_coverage.ensures.coverage c.deref.ensures.value
+    c.in_ok-simplified.ensures c.in_ok-removed.ensures in
+    subst (AreLinesKept c.args.v) (sym c.known.ensures) (lines_kept c.args.v c.args.tolerance c.args.inner out c.coverage.ensures.formed.in_range c.coverage.ensures.valid same)

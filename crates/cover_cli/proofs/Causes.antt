@@ -143,7 +143,7 @@ one_refusal (Simplify tolerance inner from to) inputs o p = of_both inputs _ _ (
 one_refusal (Union from to) inputs o p = of_both inputs _ _ (o ≡ p) (λ input. one_invalid_refusal from input o p)
 one_refusal (Node from to) inputs o p = of_both inputs _ _ (o ≡ p) (λ input. one_input_refusal from input o p)
 one_refusal (Regions from to) inputs o p = of_both inputs _ _ (o ≡ p) (λ input. one_input_refusal from input o p)
-one_refusal (Sample side seed to) inputs o p first second = absurd first
+one_refusal (Sample side seed to) inputs o p = λ first second. absurd first
 
 pub refuses_refusal : (operation : Operation) (inputs : List (List ℕ)) (o : Outcome) → Refuses operation inputs o → IsTrue (is_refusal o)
 refuses_refusal (Validate gap from to) inputs o = of_one inputs _ (IsTrue (is_refusal o)) (λ input. input_refusal from input o)
@@ -152,7 +152,7 @@ refuses_refusal (Simplify tolerance inner from to) inputs o = of_one inputs _ (I
 refuses_refusal (Union from to) inputs o = of_one inputs _ (IsTrue (is_refusal o)) (λ input. invalid_refusal from input o)
 refuses_refusal (Node from to) inputs o = of_one inputs _ (IsTrue (is_refusal o)) (λ input. input_refusal from input o)
 refuses_refusal (Regions from to) inputs o = of_one inputs _ (IsTrue (is_refusal o)) (λ input. input_refusal from input o)
-refuses_refusal (Sample side seed to) inputs o refuses = absurd refuses
+refuses_refusal (Sample side seed to) inputs o = λ refuses. absurd refuses
 
 -- of inputs that are refused no text is made
 pub not_both : (operation : Operation) (inputs : List (List ℕ)) (o p : Outcome) (text : List ℕ) → Makes operation inputs o text → Refuses operation inputs p → ⊥
@@ -162,7 +162,7 @@ not_both (Simplify tolerance inner from to) inputs o p text = of_both inputs _ _
 not_both (Union from to) inputs o p text = of_both inputs _ _ ⊥ (λ input. not_admitted_and_refused from input _ p (λ r uniting. uniting.admitted))
 not_both (Node from to) inputs o p text = of_both inputs _ _ ⊥ (λ input. not_read_and_refused from input _ p)
 not_both (Regions from to) inputs o p text = of_both inputs _ _ ⊥ (λ input. not_read_and_refused from input _ p)
-not_both (Sample side seed to) inputs o p text makes refuses = refuses
+not_both (Sample side seed to) inputs o p text = λ makes refuses. refuses
 
 marking_success : (edges : ℕ) → IsTrue (is_success (marking edges))
 marking_success zero = refl
@@ -176,7 +176,7 @@ makes_success (Simplify tolerance inner from to) inputs o text = of_one inputs _
 makes_success (Union from to) inputs o text = of_one inputs _ (IsTrue (is_success o)) (λ input makes. ap is_success makes.holds.done)
 makes_success (Node from to) inputs o text = of_one inputs _ (IsTrue (is_success o)) (λ input makes. ap is_success makes.holds.done)
 makes_success (Regions from to) inputs o text = of_one inputs _ (IsTrue (is_success o)) (λ input makes. ap is_success makes.holds.done)
-makes_success (Sample side seed to) inputs o text makes = ap is_success makes.counted
+makes_success (Sample side seed to) inputs o text = λ makes. ap is_success makes.counted
 
 -- only validate answers marks
 pub makes_marked : (operation : Operation) (inputs : List (List ℕ)) (o : Outcome) (text : List ℕ) → Makes operation inputs o text → IsTrue (is_marked o) → IsTrue (is_validate operation)
@@ -214,7 +214,7 @@ makes_sampled (Simplify tolerance inner from to) inputs o text = of_one inputs _
 makes_sampled (Union from to) inputs o text = of_one inputs _ (is_sampled o ≡ false) (λ input makes. ap is_sampled makes.holds.done)
 makes_sampled (Node from to) inputs o text = of_one inputs _ (is_sampled o ≡ false) (λ input makes. ap is_sampled makes.holds.done)
 makes_sampled (Regions from to) inputs o text = of_one inputs _ (is_sampled o ≡ false) (λ input makes. ap is_sampled makes.holds.done)
-makes_sampled (Sample side seed to) inputs o text makes = ap is_sampled makes.counted
+makes_sampled (Sample side seed to) inputs o text = λ makes. ap is_sampled makes.counted
 
 -- ---- the kinds of answers
 

@@ -6,4 +6,4 @@ pub loop-p-init : goal.loop-p-init
 loop-p-init c = no_places _ _ c.new-text.ensures.items
 
 pub loop-p-preserved : goal.loop-p-preserved
-loop-p-preserved c = places_more _ _ c.loop-p.p-index c.p-item.result c.at.result _ _ c.loop-p-test.true c.p-item.is c.loop-p.invariant c.at.ensures c.in_ok-append_place.ensures
+loop-p-preserved c = places_more _ _ c.loop-p.p-index c.at-arg-1.result c.at.result _ _ c.loop-p-test.true c.at-arg-1.is c.loop-p.invariant c.at.ensures c.in_ok-append_place.ensures

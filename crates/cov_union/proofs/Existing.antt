@@ -1,8 +1,8 @@
 -- Each list of uses has its distinct segments, ascending, with their odd pairs; so a valid coverage has an overlay.
 use mathlib.Core.List.{[], ◌∷◌}
-use Rattle.std.proofs.Common.{◌≡◌, ◌⊎◌, inl, inr, refl, sym, ◌∙◌, ap, subst, ℕ, suc, ◌+◌, ◌<◌, ◌≤◌, ◌%◌, ◌==◌, ◌↔◌, Bool, true, false, List, length, get_or, map, filter, IsTrue, Some, arith}
+use Rattle.std.proofs.Common.{◌≡◌, ◌⊎◌, inl, inr, sym, ◌∙◌, ap, subst, ℕ, suc, ◌%◌, ◌==◌, ◌↔◌, Bool, List, length, get_or, map, filter, IsTrue, Some, arith}
 use Rattle.std.specs.Prelude.{All, AllPairs, Contains, slice_get}
-use Rattle.std.proofs.lemmas.Bool.{cases_eq, cases_lt}
+use Rattle.std.proofs.lemmas.Bool.{cases_lt}
 use Rattle.std.proofs.lemmas.Bool.Decides.{Decides-eqb, nat_tests}
 use Rattle.std.proofs.lemmas.List.Elements.{All-contains, Contains-get_or}
 use Rattle.std.proofs.lemmas.List.Kept.{AllPairs-cons}
@@ -22,7 +22,7 @@ use Rattle.region_laws.proofs.Exists.{regions_exist}
 use Rattle.removal_laws.proofs.Counts.{times_has}
 use Rattle.sector_laws.specs.Sector.{IsPlanar}
 use Rattle.arrangement.specs.declared.odd_use.OddUse.{OddUse}
-use Rattle.arrangement.specs.Noding.{segments, IsAscending, IsOdd, is_odd_before, AreOddPairs, AreEdges, odd_uses}
+use Rattle.arrangement.specs.Noding.{segments, IsOdd, is_odd_before, AreEdges, odd_uses}
 use Rattle.arrangement.specs.Overlay.{Overlay, IsOverlayOf}
 use Rattle.arrangement.proofs.Labels.{mapped}
 use Rattle.arrangement.proofs.LiveOverlays.{kept, kept_is}

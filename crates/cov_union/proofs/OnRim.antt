@@ -1,24 +1,22 @@
 -- What is built of a valid coverage's segments as those of one member is built of the coverage: the edges with two members are within
 -- parts, and the regions between the others are the parts.
 use mathlib.Core.List.{[], ◌∷◌}
-use Rattle.std.proofs.Common.{◌≡◌, ◌⊎◌, inl, inr, refl, sym, ◌∙◌, ap, subst, ℕ, ◌<◌, ◌%◌, ◌==◌, ◌↔◌, Bool, true, false, not, cond, List, length, filter, get_or, IsTrue, Some, arith}
-use Rattle.std.specs.Prelude.{All, AllPairs, Contains, Option, slice_get}
+use Rattle.std.proofs.Common.{◌≡◌, ◌⊎◌, inl, inr, refl, sym, ◌∙◌, ap, subst, ℕ, ◌<◌, ◌%◌, ◌==◌, Bool, true, false, not, cond, List, length, filter, IsTrue, Some, arith}
+use Rattle.std.specs.Prelude.{All, Contains, Option}
 use Rattle.std.proofs.lemmas.Bool.{cases_lt, false≢true}
 use Rattle.std.proofs.lemmas.Bool.Decides.{Decides-eqb}
-use Rattle.std.proofs.lemmas.List.Elements.{All-contains, All-map, Contains-get_or}
+use Rattle.std.proofs.lemmas.List.Elements.{All-contains, Contains-get_or}
 use Rattle.std.proofs.lemmas.List.Kept.{AllPairs-filter}
-use Rattle.cov_types.specs.declared.coord.Coord.{Coord}
 use Rattle.cov_types.specs.declared.edge_use.EdgeUse.{EdgeUse}
 use Rattle.cov_types.specs.declared.seg.Seg.{Seg}
 use Rattle.cov_types.specs.Coverage.{Members, AllInRange}
 use Rattle.cov_types.specs.Range.{IsSegInRange}
 use Rattle.cov_types.specs.Seg.{is_seg_before}
-use Rattle.cov_types.specs.Uses.{uses_of, HasEvenEnds}
+use Rattle.cov_types.specs.Uses.{uses_of}
 use Rattle.cov_types.proofs.AllUses.{uses-members, uses-in_range}
 use Rattle.cov_types.proofs.EvenEnds.{even-ends}
 use Rattle.cov_types.proofs.SegOrder.{is_seg_before-asymm}
 use Rattle.plane.specs.Joined.{IsOff, Joined}
-use Rattle.plane.specs.Noded.{MeetInEnds}
 use Rattle.plane.specs.Parity.{member_holds}
 use Rattle.plane.specs.Point.{Point}
 use Rattle.plane.specs.Region.{IsRegionOf}
@@ -27,8 +25,6 @@ use Rattle.plane.specs.Validity.{IsValid}
 use Rattle.crossing_laws.specs.Across.{AllMeetInEnds, member_times}
 use Rattle.crossing_laws.proofs.Beside.{side_points_clear}
 use Rattle.crossing_laws.proofs.Changes.{member_holds-across}
-use Rattle.crossing_laws.proofs.Coverages.{uses_even}
-use Rattle.crossing_laws.proofs.Located.{one_region, region-joined, same_region}
 use Rattle.crossing_laws.proofs.Ways.{joined-sym, joined-trans, joined-fewer, joined_by_clear, joined_off}
 use Rattle.sector_laws.specs.Sector.{HalfEdge, left, twin, AreDistinct, IsPlanar}
 use Rattle.removal_laws.proofs.Counts.{has_times, repeated_of}
@@ -47,7 +43,7 @@ use Rattle.cleaned_laws.proofs.Cleaned.{ascending_distinct}
 use Rattle.cleaned_laws.proofs.Union.{planar}
 use Rattle.cov_union.specs.Rim.{merged}
 use Rattle.cov_union.proofs.Merged.{odd_or_even, times_merged, merged_segments, merged_below, merged_even, some_holder, only_holder, holder_merged}
-use Rattle.cov_union.proofs.Parts.{place_of, owned_held, held_owned, passes, tells, part, region_passes, passes_owned, up_down, down_up, regions_beside, ways_of, boundary_is, ways_filter, ways_agree}
+use Rattle.cov_union.proofs.Parts.{owned_held, held_owned, passes, tells, part, region_passes, passes_owned, up_down, down_up, regions_beside, ways_of, boundary_is, ways_filter, ways_agree}
 
 pub same_tests : (a b : Bool) → (a ≡ true → b ≡ true) → (b ≡ true → a ≡ true) → a ≡ b
 same_tests true b h k = sym (h refl)

@@ -1,6 +1,6 @@
 -- The part of a region that is owned for a label, as a test on half-edges, and which owned regions are beside one another.
 use mathlib.Core.List.{[], ◌∷◌}
-use Rattle.std.proofs.Common.{◌≡◌, refl, sym, ◌∙◌, ap, subst, ℕ, zero, suc, ◌+◌, ◌*◌, ◌<◌, Bool, true, false, true≢false, cond, ◌++◌, List, length, flat_map, filter, inl, inr, Some, None, arith}
+use Rattle.std.proofs.Common.{◌≡◌, refl, sym, ◌∙◌, ap, subst, ℕ, zero, suc, ◌+◌, ◌*◌, ◌<◌, Bool, true, false, true≢false, cond, ◌++◌, List, flat_map, filter, inl, inr, Some, arith}
 use Rattle.std.specs.Prelude.{Contains, Option, slice_get}
 use Rattle.std.specs.List.{enumerate_from}
 use Rattle.std.proofs.lemmas.Option.{none-some, same_Some, slice_get_within}
@@ -17,7 +17,7 @@ use Rattle.sector_laws.specs.Sector.{HalfEdge, left, AreDistinct}
 use Rattle.sector_laws.proofs.Numbers.{half_edge_side, forwards_number, back_number}
 use Rattle.region_laws.proofs.Balance.{first_or_later}
 use Rattle.arrangement.specs.Live.{IsLiveOverlay}
-use Rattle.arrangement.specs.Overlay.{Overlay, IsRegion, label_of, numbered_edges, region_above, region_below, AreBeside}
+use Rattle.arrangement.specs.Overlay.{Overlay, label_of, region_above, region_below, AreBeside}
 use Rattle.arrangement.proofs.LiveOverlays.{kept, kept_is, number_below, label_is}
 use Rattle.shell_laws.specs.Part.{IsPartTest}
 use Rattle.sound_polygons.specs.Parts.{LeadsWithin, InOnePart, IsPartOf, boundary, boundary_way}

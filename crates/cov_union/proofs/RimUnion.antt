@@ -1,11 +1,10 @@
 -- What is built between the edges of the rim is what is built of the coverage, so there is one union.
-use mathlib.Core.List.{[], ◌∷◌}
-use Rattle.std.proofs.Common.{◌≡◌, ◌⊎◌, inl, inr, refl, sym, ◌∙◌, ap, subst, ℕ, ◌<◌, ◌↔◌, Bool, true, false, List, length, get_or, flat_map, IsTrue, Some, arith}
-use Rattle.std.specs.Prelude.{All, AllPairs, Contains, Option, slice_get, slice_index}
+use Rattle.std.proofs.Common.{◌≡◌, inl, inr, sym, ◌∙◌, subst, ℕ, ◌<◌, true, List, length, get_or, flat_map, Some, arith}
+use Rattle.std.specs.Prelude.{All, Contains, Option, slice_get}
 use Rattle.std.specs.List.Sorted.{IsPermutation}
 use Rattle.std.proofs.lemmas.Bool.{cases_lt, false≢true}
 use Rattle.std.proofs.lemmas.List.Elements.{All-contains, Contains-get_or}
-use Rattle.std.proofs.lemmas.Option.{slice_get_within, get_or_from_slice_get, same_Some}
+use Rattle.std.proofs.lemmas.Option.{slice_get_within, get_or_from_slice_get}
 use Rattle.cov_types.specs.declared.coord.Coord.{Coord}
 use Rattle.cov_types.specs.declared.edge_use.EdgeUse.{EdgeUse}
 use Rattle.cov_types.specs.declared.seg.Seg.{Seg}
@@ -33,7 +32,7 @@ use Rattle.arrangement.specs.Overlay.{Overlay, IsOverlayOf, IsRegion, region_at}
 use Rattle.arrangement.proofs.Labels.{mapped, far_free}
 use Rattle.arrangement.proofs.PointOrders.{points_both_ways}
 use Rattle.sound_polygons.specs.Cleaned.{IsBuilt, IsSoundFor, IsOwned, IsPolyCanonical, ArePolygonsOf, shell_of, is_ring_before}
-use Rattle.sound_polygons.specs.Parts.{IsPartOf, InOnePart, IsSound, boundary}
+use Rattle.sound_polygons.specs.Parts.{InOnePart, IsSound}
 use Rattle.sound_polygons.proofs.OnePolygon.{one_polygon}
 use Rattle.sound_polygons.proofs.Reached.{part_exists}
 use Rattle.sound_polygons.proofs.SameParts.{part_equivalence}
@@ -41,7 +40,7 @@ use Rattle.cleaned_laws.specs.Owning.{AreUnionOwners}
 use Rattle.cleaned_laws.proofs.Built.{region_of}
 use Rattle.cov_union.specs.Rim.{merged}
 use Rattle.cov_union.proofs.OnRim.{same_tests, same_holders_rim, distinct, whole, rim, rim_listed, live, live_rim, held, owned_by, held_rim, owned_by_rim, kept_round, one_boundary}
-use Rattle.cov_union.proofs.Parts.{passes, region_passes, passes_owned}
+use Rattle.cov_union.proofs.Parts.{region_passes, passes_owned}
 
 abbrev Polygon : Type 0
 Polygon = List (List Coord)

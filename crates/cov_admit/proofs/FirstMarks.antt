@@ -1,5 +1,5 @@
 -- What the list of the marks of a coverage tells of it.
-use Rattle.std.proofs.Common.{◌≡◌, ◌∙◌, sym, ap, List, [], ◌∷◌, length, refl, arith}
+use Rattle.std.proofs.Common.{◌≡◌, ◌∙◌, sym, ap, List, [], ◌∷◌, refl, arith}
 use Rattle.std.specs.Prelude.{All, Contains, Some, MatchOption, slice_get}
 use Rattle.std.proofs.lemmas.Option.{slice_get-get_or, slice_get_within, get_or_from_slice_get, same_Some}
 use Rattle.cov_types.specs.Coverage.{Members, IsFormed}
@@ -9,6 +9,7 @@ use Rattle.cov_types.specs.declared.edge_use.EdgeUse.{EdgeUse}
 use Rattle.cov_types.proofs.AllUses.{uses-in_range}
 use Rattle.cov_types.proofs.EvenEnds.{even-ends}
 use Rattle.crossing_laws.proofs.Lists.{contains_here}
+use Rattle.cov_valid.specs.Corners.{AreCornersFaultless}
 use Rattle.cov_valid.specs.Kinds.{IsFaultOf}
 use Rattle.cov_valid.specs.Marks.{IsMarkBy, AreFaultMarks}
 use Rattle.cov_valid.specs.declared.mark.Mark.{Mark}
@@ -16,6 +17,7 @@ use Rattle.cov_valid.proofs.Unique.{AreFaultMarks-unique}
 use Rattle.plane.specs.Validity.{IsValid}
 use Rattle.cov_admit.specs.FirstMark.{IsFirstMark}
 use Rattle.cov_admit.proofs.Admitted.{faultless_valid}
+use Rattle.cov_admit.proofs.Corners.{corners_valid}
 use Rattle.cov_admit.proofs.Refused.{valid_faultless}
 
 module _ (members : Members) (formed : IsFormed members) where
@@ -24,6 +26,10 @@ module _ (members : Members) (formed : IsFormed members) where
 
   uses_in_range : All (λ (u : EdgeUse). IsSegInRange u.seg) uses
   uses_in_range = uses-in_range members formed.in_range
+
+  -- the coverage is valid where its corners tell
+  pub valid_by_corners : AreCornersFaultless uses → IsValid uses
+  valid_by_corners corners = corners_valid uses uses_in_range (even-ends members) corners
 
   -- without marks the coverage is valid
   valid_by_none : AreFaultMarks uses [] → IsValid uses

@@ -1,13 +1,12 @@
 -- Of valid uses none is at fault.
-use Rattle.std.proofs.Common.{◌≡◌, sym, ◌∙◌, ap, subst, ℕ, ◌%◌, ◌<◌, ◌≤◌, Bool, true, false, List, arith, inl, inr}
+use Rattle.std.proofs.Common.{◌≡◌, sym, ◌∙◌, subst, ℕ, true, false, List, arith, inl, inr}
 use Rattle.std.specs.Prelude.{All, Contains}
-use Rattle.std.proofs.lemmas.Bool.{cases_lt, cases_Bool, true_from_ne_false}
+use Rattle.std.proofs.lemmas.Bool.{cases_Bool}
 use Rattle.cov_types.specs.Range.{IsSegInRange}
 use Rattle.cov_types.specs.declared.edge_use.EdgeUse.{EdgeUse}
 use Rattle.cov_types.specs.declared.seg.Seg.{Seg}
 use Rattle.integer_laws.proofs.Ring.{lin}
 use Rattle.plane.specs.Joined.{IsOff}
-use Rattle.plane.specs.Noded.{MeetInEnds}
 use Rattle.plane.specs.Parity.{member_holds}
 use Rattle.plane.specs.Point.{Point, IsBetween}
 use Rattle.plane.specs.Segment.{IsOn, upper, lower}
@@ -15,17 +14,15 @@ use Rattle.plane.specs.Validity.{IsValid}
 use Rattle.plane.proofs.Points.{first_between, second_between}
 use Rattle.plane.proofs.Sides.{side_zero-on}
 use Rattle.plane.proofs.Sweeps.{rises-in_range}
-use Rattle.crossing_laws.specs.Across.{AllMeetInEnds, member_times}
+use Rattle.crossing_laws.specs.Across.{AllMeetInEnds}
 use Rattle.crossing_laws.proofs.Beside.{side-upper, side-lower, side_points_clear}
-use Rattle.crossing_laws.proofs.Changes.{member_holds-across}
 use Rattle.parity_laws.proofs.Middle.{member_holds-upper}
 use Rattle.arrangement.specs.Noding.{segments}
-use Rattle.arrangement.proofs.Labels.{mapped}
-use Rattle.removal_laws.proofs.Counts.{has_times, times_has, repeated_of}
 use Rattle.cov_valid.specs.Kinds.{HasBadContact, IsSameSide, IsInside, IsFaultOf, AreFaultless}
 use Rattle.cov_valid.specs.declared.mark.Kind.{Kind}
 use Rattle.cov_valid.specs.declared.mark.Kind.TheVariants.{Meets, Repeated, SameSide, Inside, NarrowGap}
 use Rattle.cov_admit.proofs.Segments.{use_by, use_in_range}
+use Rattle.cov_admit.proofs.Beside.{all_meet, user_below, guest_alike}
 
 -- ---- the side points of a segment
 
@@ -35,13 +32,6 @@ not_on_upper s range on = let up = rises-in_range s range in omega (arith, lin, 
 not_on_lower : (s : Seg) → IsSegInRange s → ¬ IsOn s (lower s)
 not_on_lower s range on = let up = rises-in_range s range in omega (arith, lin, side_zero-on s (lower s) on, side-lower s)
 
--- a test that does not answer alike on the two sides
-below_instead : (a b : Bool) → ¬ (a ≡ b) → b ≡ false → a ≡ true
-below_instead a b differ not_b = true_from_ne_false a (λ not_a. differ (not_a ∙ sym not_b))
-
-odd_once : (n : ℕ) → 1 ≤ n → n < 2 → ¬ (n % 2 ≡ 0)
-odd_once n some few even = omega arith
-
 module _ (uses : List EdgeUse) (in_range : All (λ u. IsSegInRange u.seg) uses) (valid : IsValid uses) where
   not_met : (u : EdgeUse) → Contains uses u → ¬ HasBadContact uses u.seg
   not_met u has bad = elim (valid.ends u bad.other has bad.listed) [
@@ -49,12 +39,12 @@ module _ (uses : List EdgeUse) (in_range : All (λ u. IsSegInRange u.seg) uses) 
     | inr ends ↦ bad.meets.1.1.1 (ends bad.meets.1.0 bad.meets.1.1.0)
   ]
 
-  all_meet : (u : EdgeUse) → Contains uses u → AllMeetInEnds u.seg (segments uses)
-  all_meet u has = mapped (λ (v : EdgeUse). v.seg) (λ f. IsSegInRange f × MeetInEnds u.seg f) uses (λ v i. (use_in_range uses in_range v i, valid.ends u v has i))
+  meets : (u : EdgeUse) → Contains uses u → AllMeetInEnds u.seg (segments uses)
+  meets = all_meet uses in_range valid.ends valid.once
 
   off_beside : (u : EdgeUse) → Contains uses u → (p : Point) → IsBetween p (lower u.seg) (upper u.seg) → ¬ IsOn u.seg p → IsOff (segments uses) p
   off_beside u has p between not_own f in_f on =
-      let meet = all_meet u has f in_f in
+      let meet = meets u has f in_f in
       elim meet.1 [
         | inl same ↦ not_own (subst (λ (s : Seg). IsOn s p) (sym same) on)
         | inr ends ↦ (side_points_clear u.seg f (use_in_range uses in_range u has) meet.0 ends).none p between on
@@ -67,26 +57,8 @@ module _ (uses : List EdgeUse) (in_range : All (λ u. IsSegInRange u.seg) uses) 
   one_below : (u : EdgeUse) → Contains uses u → (i j : ℕ) → member_holds uses i (lower u.seg) ≡ true → member_holds uses j (lower u.seg) ≡ true → i ≡ j
   one_below u has = valid.apart (lower u.seg) (off_beside u has (lower u.seg) (first_between (lower u.seg) (upper u.seg)) (not_on_lower u.seg (use_in_range uses in_range u has)))
 
-  -- a member holds one side of a segment that it has, and both or none of another
-  user_differs : (u : EdgeUse) → Contains uses u → ¬ (member_holds uses u.member (lower u.seg) ≡ member_holds uses u.member (upper u.seg))
-  user_differs u has same =
-      let few : member_times u.seg uses u.member < 2 = elim (cases_lt (member_times u.seg uses u.member) 2) [
-        | inl few ↦ few
-        | inr many ↦ absurd (valid.once u (repeated_of uses u.member u.seg many))
-      ] in
-      odd_once (member_times u.seg uses u.member) (has_times uses u.member u.seg has) few
-      ((member_holds-across u.seg uses u.member (use_in_range uses in_range u has) (all_meet u has)).0 same)
-
-  guest_alike : (u : EdgeUse) → Contains uses u → (member : ℕ) → ¬ Contains uses (use_by member u.seg) → member_holds uses member (lower u.seg) ≡ member_holds uses member (upper u.seg)
-  guest_alike u has member without =
-      let none : member_times u.seg uses member ≡ 0 = elim (cases_lt 0 (member_times u.seg uses member)) [
-        | inl some ↦ absurd (without (times_has uses member u.seg some))
-        | inr none ↦ omega (arith, none)
-      ] in
-      (member_holds-across u.seg uses member (use_in_range uses in_range u has) (all_meet u has)).1 (ap (λ n. n % 2) none)
-
-  user_below : (u : EdgeUse) → Contains uses u → member_holds uses u.member (upper u.seg) ≡ false → member_holds uses u.member (lower u.seg) ≡ true
-  user_below u has = below_instead _ _ (user_differs u has)
+  below_too : (u : EdgeUse) → Contains uses u → member_holds uses u.member (upper u.seg) ≡ false → member_holds uses u.member (lower u.seg) ≡ true
+  below_too = user_below uses in_range valid.ends valid.once
 
   not_alike : (u : EdgeUse) → Contains uses u → ¬ IsSameSide uses u
   not_alike u has w =
@@ -95,17 +67,17 @@ module _ (uses : List EdgeUse) (in_range : All (λ u. IsSegInRange u.seg) uses) 
       let has_too : Contains uses other = subst (Contains uses) same w.listed in
       elim (cases_Bool (member_holds uses u.member (upper u.seg))) [
         | inl above ↦ w.another (one_above u has w.other.member u.member (w.alike ∙ above) above)
-        | inr not_above ↦ w.another (one_below u has w.other.member u.member (user_below other has_too (w.alike ∙ not_above)) (user_below u has not_above))
+        | inr not_above ↦ w.another (one_below u has w.other.member u.member (below_too other has_too (w.alike ∙ not_above)) (below_too u has not_above))
       ]
 
   not_inside : (u : EdgeUse) → Contains uses u → ¬ IsInside uses u.seg
   not_inside u has w =
       let above : member_holds uses w.member (upper u.seg) ≡ true = member_holds-upper uses (use_in_range uses in_range) u.seg w.member ∙ w.held in
-      let below : member_holds uses w.member (lower u.seg) ≡ true = guest_alike u has w.member w.without ∙ above in
+      let below : member_holds uses w.member (lower u.seg) ≡ true = guest_alike uses in_range valid.ends valid.once u has w.member w.without ∙ above in
       let other : ¬ (w.member ≡ u.member) = λ same. w.without (subst (λ m. Contains uses (use_by m u.seg)) (sym same) has) in
       elim (cases_Bool (member_holds uses u.member (upper u.seg))) [
         | inl held ↦ other (one_above u has w.member u.member above held)
-        | inr not_held ↦ other (one_below u has w.member u.member below (user_below u has not_held))
+        | inr not_held ↦ other (one_below u has w.member u.member below (below_too u has not_held))
       ]
 
   none_at_fault : (u : EdgeUse) → Contains uses u → (kind : Kind) → ¬ IsFaultOf uses u kind

@@ -8,11 +8,11 @@ ghost use Rattle.plane.specs.Validity.{IsValid};
 use crate::error::AdmitError;
 use crate::valid_coverage::ValidCoverage;
 use cov_types::{Coverage, NoMemory};
-use cov_valid::{Mark, marks};
+use cov_valid::{Mark, are_corners_faultless, marks};
 use std::alloc::Global;
 
 /// Admits a coverage where none of its segments is at fault, and otherwise gives it back with its first mark. It takes the time and the
-/// memory of `cov_valid::marks`, and none for the coverage itself.
+/// memory of `cov_valid::are_corners_faultless`, and where that is not told those of `marks`; none for the coverage itself.
 pub fn admit(alloc: Global, c: Coverage) -> Result<ValidCoverage, AdmitError>
     requires { IsFormed c }
     ensures admitted { IfOk result (λ v. v ≡ c) }
@@ -26,11 +26,14 @@ pub fn admit(alloc: Global, c: Coverage) -> Result<ValidCoverage, AdmitError>
     }
 }
 
-// The first mark of a coverage; none where it is valid.
+// The first mark of a coverage; none where it is valid, as its corners tell.
 fn first_mark(alloc: Global, c: &Coverage) -> Result<Option<Mark>, NoMemory>
     requires { IsFormed c.now }
     ensures { IfOk result (λ found. MatchOption found (IsValid (uses_of c.now)) (λ m. IsFirstMark c.now m × ¬ IsValid (uses_of c.now))) }
 {
+    if are_corners_faultless(alloc, c)? {
+        return Ok(None);
+    }
     let marks = marks(alloc, c)?;
     Ok(marks.first().copied())
 }

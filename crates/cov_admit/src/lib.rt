@@ -6,8 +6,11 @@
 //!
 //! A crate above takes a lemma by `use Rattle.cov_admit.proofs.FILE.{NAME}` in its `proofs/`. The files, lowest first:
 //!
-//! - `Segments`: the segments of uses in range, and who has them. `Admitted`: uses of which none is at fault are valid
-//!   (`faultless_valid`). `Refused`: of valid uses none is at fault (`valid_faultless`).
+//! - `Segments`: the segments of uses in range, and who has them. `Contacts`: two that do not meet badly meet in ends alone. `Beside`: who
+//!   holds the points beside a segment.
+//! - `Corners`: uses whose corners are faultless are valid (`corners_valid`). A region that two members hold has a least vertex, and
+//!   there it is between two segments that begin at it, of which one is faultless. `Admitted`: so uses of which none is at fault are
+//!   valid (`faultless_valid`). `Refused`: of valid uses none is at fault (`valid_faultless`).
 //! - `FirstMarks`: what the list of the marks tells of its coverage.
 #![tactic(auto)]
 

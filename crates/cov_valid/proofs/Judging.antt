@@ -108,16 +108,16 @@ one_more : (n : ℕ) → n + 1 ≡ suc n
 one_more n = omega arith
 
 -- the group that has the entry at a place
-record HasGroup (groups : List Group) (j : ℕ) : Type 0 where
-  group : Group
-  listed : Contains groups group
-  low : group.from ≤ j
-  high : j < group.to
+pub record HasGroup (groups : List Group) (j : ℕ) : Type 0 where
+  pub group : Group
+  pub listed : Contains groups group
+  pub low : group.from ≤ j
+  pub high : j < group.to
 
 there : (g : Group) (groups : List Group) (h : Group) → (has : Contains groups h) → get_or (g ∷ groups) (has.0 + 1) h ≡ h
 there g groups h has = ap (λ (n : ℕ). get_or (g ∷ groups) n h) (one_more has.0) ∙ has.2
 
-group_of : (groups : List Group) (from to j : ℕ) → AreGroupsInRow from groups to → from ≤ j → j < to → HasGroup groups j
+pub group_of : (groups : List Group) (from to j : ℕ) → AreGroupsInRow from groups to → from ≤ j → j < to → HasGroup groups j
 group_of [] from to j row low high = absurd (omega (arith, row))
 group_of (g ∷ groups) from to j row low high =
     elim (cases_lt j g.to) [
@@ -129,16 +129,16 @@ group_of (g ∷ groups) from to j row low high =
     ]
 
 -- a group of the list
-group_is : (entries : List Entry) (groups : List Group) (g : Group) → AreGroups entries groups → Contains groups g → IsGroup entries g
+pub group_is : (entries : List Entry) (groups : List Group) (g : Group) → AreGroups entries groups → Contains groups g → IsGroup entries g
 group_is entries groups g are has = subst (IsGroup entries) has.2 (are.each has.0 g has.1)
 
 -- the segment of a group is that of a use
-record HasUse (uses : List EdgeUse) (s : Seg) : Type 0 where
-  found : EdgeUse
-  listed : Contains uses found
-  same : found.seg ≡ s
+pub record HasUse (uses : List EdgeUse) (s : Seg) : Type 0 where
+  pub found : EdgeUse
+  pub listed : Contains uses found
+  pub same : found.seg ≡ s
 
-group_use : (uses : List EdgeUse) (entries : List Entry) (g : Group) → AreEntries uses entries → IsGroup entries g → HasUse uses g.seg
+pub group_use : (uses : List EdgeUse) (entries : List Entry) (g : Group) → AreEntries uses entries → IsGroup entries g → HasUse uses g.seg
 group_use uses [] g are is = absurd (omega (arith, is.some, is.within))
 group_use uses (first ∷ entries) g are is =
     let e : Entry = get_or (first ∷ entries) g.from first in

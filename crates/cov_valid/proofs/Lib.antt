@@ -4,6 +4,7 @@ pub mod Peers
 pub mod Boxes
 pub mod Grouping
 pub mod Judging
+pub mod CornerFaults
 pub mod MarksSoFar
 pub mod Meeting
 pub mod Numbers

@@ -1,5 +1,5 @@
 -- Entries as they are made, and sorted.
-use Rattle.std.proofs.Common.{◌≡◌, refl, sym, ◌∙◌, ap, subst, ℕ, ◌+◌, ◌<◌, ◌≤◌, Bool, true, false, List, [], ◌∷◌, ◌++◌, length, get_or, map, All, Contains, IsSorted, arith, inl, inr, Some, nat_cmp, is_lt, is_gt, Ordering, Less, Equal, Greater, true≢false, cond, nat_lt, length-append, ◌==◌, eqb}
+use Rattle.std.proofs.Common.{◌≡◌, refl, sym, ◌∙◌, ap, subst, ℕ, ◌+◌, ◌<◌, ◌≤◌, Bool, true, false, List, [], ◌∷◌, ◌++◌, length, get_or, map, All, Contains, IsSorted, arith, inl, inr, Some, nat_cmp, is_lt, is_gt, Ordering, Less, Equal, Greater, true≢false, cond, nat_lt, length-append, ◌==◌, eqb, ◌&&◌, ◌||◌, not}
 use Rattle.std.specs.Prelude.{AllPairs, slice_get}
 use Rattle.std.specs.List.Sorted.{IsPermutation}
 use Rattle.std.specs.Cmp.{IsTotalOrder}
@@ -16,7 +16,11 @@ use Rattle.std.proofs.lemmas.Map.Made.{AllPairs-from_IsDistinct, IsDistinct-from
 use Rattle.std.proofs.lemmas.Option.{slice_get-get_or}
 use Rattle.std.proofs.Math.Seq.{get_or-append_seam}
 use Rattle.cov_types.proofs.SegOrder.{seg_cmp_total, is_lt-seg_cmp, is_gt-seg_cmp, is_seg_before-irrefl, same_segs_from_neither}
+use Rattle.box_tree.specs.Curve.{curve_of}
+use Rattle.cov_types.specs.Coord.{is_before}
 use Rattle.cov_types.specs.Seg.{seg_cmp, is_seg_before}
+use Rattle.cov_types.specs.declared.seg.Seg.{Seg}
+use Rattle.cov_types.proofs.Order.{same_from_neither}
 use Rattle.cov_types.specs.declared.edge_use.EdgeUse.{EdgeUse}
 use Rattle.cov_valid.specs.Entries.{curve_of_seg, IsEntry, ArePlaced, AreEntries, AreTogether, entry_cmp}
 use Rattle.cov_valid.specs.declared.entry.Entry.{Entry}
@@ -147,6 +151,14 @@ member_not_before a b h same_curve same_seg =
 same_curve : (uses : List EdgeUse) (a b : Entry) → IsEntry uses a → IsEntry uses b → a.seg ≡ b.seg → a.curve ≡ b.curve
 same_curve uses a b h k same = h.curve ∙ ap curve_of_seg same ∙ sym k.curve
 
+-- a segment that is not before another does not begin before it
+vertex_not_before : (s t : Seg) → is_seg_before s t ≡ false → is_before s.lo t.lo ≡ false
+vertex_not_before s t h = first_false (is_before s.lo t.lo) (not (is_before t.lo s.lo) && is_before s.hi t.hi) h
+  where
+    first_false : (a b : Bool) → (a || b) ≡ false → a ≡ false
+    first_false true b h = absurd (true≢false h)
+    first_false false b h = refl
+
 -- an entry between two of one segment is of that segment
 middle_seg : (uses : List EdgeUse) (a b c : Entry) → IsEntry uses a → IsEntry uses c → is_lt (entry_cmp b a) ≡ false → is_lt (entry_cmp c b) ≡ false → a.seg ≡ c.seg → b.seg ≡ a.seg
 middle_seg uses a b c h k after before same =
@@ -156,6 +168,17 @@ middle_seg uses a b c h k after before same =
     let first : b.curve ≡ a.curve = omega arith in
     let second : c.curve ≡ b.curve = omega arith in
     same_segs_from_neither b.seg a.seg (seg_not_before b a after first) (ap (λ s. is_seg_before s b.seg) same ∙ seg_not_before c b before second)
+
+-- of segments that begin at one vertex, so does each that none of the two is before
+middle_vertex : (uses : List EdgeUse) (a b c : Entry) → IsEntry uses a → IsEntry uses c → is_lt (entry_cmp b a) ≡ false → is_lt (entry_cmp c b) ≡ false → a.seg.lo ≡ c.seg.lo → b.seg.lo ≡ a.seg.lo
+middle_vertex uses a b c h k after before same =
+    let ends : a.curve ≡ c.curve = h.curve ∙ ap curve_of same ∙ sym k.curve in
+    let low = curve_not_before b a after in
+    let high = curve_not_before c b before in
+    let first : b.curve ≡ a.curve = omega arith in
+    let second : c.curve ≡ b.curve = omega arith in
+    same_from_neither b.seg.lo a.seg.lo (vertex_not_before b.seg a.seg (seg_not_before b a after first))
+    (ap (λ v. is_before v b.seg.lo) same ∙ vertex_not_before c.seg b.seg (seg_not_before c b before second))
 
 pub sorted_together : (uses : List EdgeUse) (made sorted : List Entry) → IsPermutation made sorted → IsSorted entry_cmp sorted → ArePlaced uses (length uses) made → AreTogether sorted
 sorted_together uses made sorted moved ordered placed =
@@ -168,4 +191,7 @@ sorted_together uses made sorted moved ordered placed =
       ascending = λ i j d low within same.
           member_not_before (get_or sorted j d) (get_or sorted i d) (far i j d low within)
           (same_curve uses (get_or sorted j d) (get_or sorted i d) (listed j d within) (listed i d (omega (arith, low, within))) (sym same)) (sym same);
+      from_vertex = λ i j k d low high within same.
+          middle_vertex uses (get_or sorted i d) (get_or sorted j d) (get_or sorted k d) (listed i d (omega (arith, low, high, within))) (listed k d within)
+          (far i j d low (omega (arith, high, within))) (far j k d high within) same;
     }

@@ -1,5 +1,6 @@
 pub mod Among
 pub mod Contacts
+pub mod Corners
 pub mod Entries
 pub mod Groups
 pub mod Holders

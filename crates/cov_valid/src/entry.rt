@@ -1,13 +1,13 @@
-ghost use Rattle.std.specs.Prelude.{◌≡◌, IfOk, All, length};
+ghost use Rattle.std.specs.Prelude.{IfOk, All, length};
 ghost use Rattle.cov_types.specs.Range.{IsSegInRange};
-ghost use Rattle.cov_valid.specs.Entries.{curve_of_seg, AreEntries, AreTogether, ArePlaced};
+ghost use Rattle.cov_valid.specs.Entries.{AreEntries, AreTogether, ArePlaced};
 
 use box_tree::curve;
-use cov_types::{Coord, EdgeUse, NoMemory, Seg};
+use cov_types::{EdgeUse, NoMemory, Seg};
 use std::alloc::Global;
 
-/// A use and its place among the uses, behind the place of its segment along a curve. In ascending order near segments are near,
-/// and equal ones side by side.
+/// A use and its place among the uses, behind the place of its segment's lesser end along a curve. In ascending order near segments are
+/// near, those that begin at one vertex stand together, and equal ones side by side.
 #[derive(Clone, Copy, PartialEq, Eq, PartialOrd, Ord)]
 pub struct Entry {
     pub curve: u64,
@@ -34,22 +34,11 @@ fn entries_of(alloc: Global, uses: &[EdgeUse]) -> Result<Vec<Entry>, NoMemory>
     let mut entries = Vec::with_capacity(alloc, uses.len())?;
     for (place, u) in uses.iter().enumerate() {
         entries.push(Entry {
-            curve: curve_of_seg(u.seg),
+            curve: curve(u.seg.lo),
             seg: u.seg,
             member: u.member,
             place,
         })?;
     }
     Ok(entries)
-}
-
-// The place of a segment's midpoint, taken twice, along the curve.
-fn curve_of_seg(s: Seg) -> u64
-    requires { IsSegInRange s }
-    ensures { result ≡ curve_of_seg s }
-{
-    curve(Coord {
-        x: s.lo.x + s.hi.x,
-        y: s.lo.y + s.hi.y,
-    })
 }

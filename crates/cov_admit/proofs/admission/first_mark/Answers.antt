@@ -5,8 +5,11 @@ use Rattle.cov_types.specs.Uses.{uses_of}
 use Rattle.cov_valid.specs.declared.mark.Mark.{Mark}
 use Rattle.plane.specs.Validity.{IsValid}
 use Rattle.cov_admit.specs.FirstMark.{IsFirstMark}
-use Rattle.cov_admit.proofs.FirstMarks.{first_or_valid}
+use Rattle.cov_admit.proofs.FirstMarks.{first_or_valid, valid_by_corners}
 use Rattle.cov_admit.proofs.admission.first_mark.Goals as goal
+
+pub returns-then-branch : goal.returns-then-branch
+returns-then-branch c = valid_by_corners c.args.c.now c.requires (c.in_ok-are_corners_faultless.ensures.faultless c.if-branch.true)
 
 pub returns : goal.returns
 returns c =

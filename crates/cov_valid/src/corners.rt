@@ -105,7 +105,14 @@ fn are_first_faultless(
         kinds: Vec::new(alloc),
     };
     for k in 1..groups.len() {
-        if !is_last_or_faultless(outline, &index, entries, groups[k - 1], groups[k], &mut room)? {
+        if !is_last_or_faultless(
+            outline,
+            &index,
+            entries,
+            groups[k - 1],
+            groups[k],
+            &mut room,
+        )? {
             return Ok(false);
         }
     }

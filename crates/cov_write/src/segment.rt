@@ -18,7 +18,11 @@ impl Written for Seg {
     }
 }
 
-fn append_segments_line(out: &mut Vec<u8>, segments: &[Seg], scale: Option<u8>) -> Result<(), NoMemory>
+fn append_segments_line(
+    out: &mut Vec<u8>,
+    segments: &[Seg],
+    scale: Option<u8>,
+) -> Result<(), NoMemory>
     requires { IsScale scale }
     ensures { OnOk result (out.new.items ≡ out.old.items ++ segments_line scale segments.now) }
 {

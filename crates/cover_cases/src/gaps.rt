@@ -124,7 +124,9 @@ fn validate_marks_the_sides_of_narrow_gaps(rt: HostRuntime) -> Result<(), test::
 // A square with sides of 4 and this least corner.
 fn four_by_four(alloc: Global, x: i32, y: i32) -> Result<String, NoMemory> {
     let (east, north) = (x + 4, y + 4);
-    Ok(format!(in alloc; "POLYGON (({x} {y}, {east} {y}, {east} {north}, {x} {north}, {x} {y}))\n")?)
+    Ok(format!(in alloc;
+        "POLYGON (({x} {y}, {east} {y}, {east} {north}, {x} {north}, {x} {y}))\n"
+    )?)
 }
 
 // A hundred squares round the square from (0, 0) to (100, 100), 25 at each side: the first lies below its least corner.
@@ -165,12 +167,34 @@ fn first_with_square(alloc: Global) -> Result<String, NoMemory> {
 }
 
 #[test]
-fn a_gap_with_a_hundred_neighbours_goes_to_the_least_of_them(rt: HostRuntime) -> Result<(), test::Fail> {
+fn a_gap_with_a_hundred_neighbours_goes_to_the_least_of_them(
+    rt: HostRuntime,
+) -> Result<(), test::Fail> {
     let alloc = rt.alloc();
     let apart = squares_round(alloc, &four_by_four(alloc, 0, -4)?)?;
     let filled = squares_round(alloc, &first_with_square(alloc)?)?;
-    let gap = [("a hundred borders of 4", apart.as_str(), Outcome::Done, filled.as_str())];
-    expect_answers(&rt, alloc, "clean in out --rule least-index --gap 101", &gap)?;
-    let wide = [("as wide as the gap width", apart.as_str(), Outcome::Done, apart.as_str())];
-    expect_answers(&rt, alloc, "clean in out --rule least-index --gap 100", &wide)
+    let gap = [(
+        "a hundred borders of 4",
+        apart.as_str(),
+        Outcome::Done,
+        filled.as_str(),
+    )];
+    expect_answers(
+        &rt,
+        alloc,
+        "clean in out --rule least-index --gap 101",
+        &gap,
+    )?;
+    let wide = [(
+        "as wide as the gap width",
+        apart.as_str(),
+        Outcome::Done,
+        apart.as_str(),
+    )];
+    expect_answers(
+        &rt,
+        alloc,
+        "clean in out --rule least-index --gap 100",
+        &wide,
+    )
 }

@@ -93,6 +93,7 @@ files_with operation _ _ = None
 abbrev pub sample_with : Option ℕ → Option ℕ → Option Text → Option Operation
 sample_with (Some side) (Some seed) (Some to) = Some (Sample side seed to)
 sample_with _ _ _ = None
+
 -- the location that the values name, where all are there
 abbrev pub locate_with : Option Text → Option Text → Option Text → Option Operation
 locate_with (Some from) (Some points) (Some to) = Some (Locate from points to)

@@ -123,46 +123,49 @@ fn validate_marks_the_sides_of_narrow_gaps(rt: HostRuntime) -> Result<(), test::
 
 // A square with sides of 4 and this least corner.
 fn four_by_four(alloc: Global, x: i32, y: i32) -> Result<String, NoMemory> {
+<<<<<<< HEAD
     let (east, north) = (x + 4, y + 4);
     Ok(format!(in alloc;
         "POLYGON (({x} {y}, {east} {y}, {east} {north}, {x} {north}, {x} {y}))\n"
     )?)
+=======
+    let east = x.wrapping_add(4);
+    let north = y.wrapping_add(4);
+    Ok(format!(in alloc; "POLYGON (({x} {y}, {east} {y}, {east} {north}, {x} {north}, {x} {y}))\n")?)
+>>>>>>> gap/gap
 }
 
 // A hundred squares round the square from (0, 0) to (100, 100), 25 at each side: the first lies below its least corner.
 fn squares_round(alloc: Global, first: &str) -> Result<String, NoMemory> {
     let mut text = String::from_str(alloc, first)?;
-    for at in 1i32..25 {
-        text.push_str(&four_by_four(alloc, 4 * at, -4)?)?;
+    for place in 1i32..25 {
+        text.push_str(&four_by_four(alloc, place.wrapping_mul(4), -4)?)?;
     }
-    for at in 0i32..25 {
-        text.push_str(&four_by_four(alloc, 100, 4 * at)?)?;
-    }
-    for at in 0i32..25 {
-        text.push_str(&four_by_four(alloc, 4 * at, 100)?)?;
-    }
-    for at in 0i32..25 {
-        text.push_str(&four_by_four(alloc, -4, 4 * at)?)?;
+    for place in 0i32..25 {
+        let at = place.wrapping_mul(4);
+        text.push_str(&four_by_four(alloc, 100, at)?)?;
+        text.push_str(&four_by_four(alloc, at, 100)?)?;
+        text.push_str(&four_by_four(alloc, -4, at)?)?;
     }
     Ok(text)
 }
 
 // The first of them with the square: below it, up its eastern side, back over its northern one and down its western one.
 fn first_with_square(alloc: Global) -> Result<String, NoMemory> {
-    let mut text = String::from_str(alloc, "POLYGON ((0 -4, 4 -4, ")?;
-    for at in 1i32..25 {
-        text.push_str(&format!(in alloc; "{} 0, ", 4 * at)?)?;
+    let mut text = String::from_str(alloc, "POLYGON ((0 -4, 4 -4")?;
+    for place in 1i32..25 {
+        text.push_str(&format!(in alloc; ", {} 0", place.wrapping_mul(4))?)?;
     }
-    for at in 0i32..25 {
-        text.push_str(&format!(in alloc; "100 {}, ", 4 * at)?)?;
+    for place in 0i32..25 {
+        text.push_str(&format!(in alloc; ", 100 {}", place.wrapping_mul(4))?)?;
     }
-    for at in 0i32..25 {
-        text.push_str(&format!(in alloc; "{} 100, ", 100 - 4 * at)?)?;
+    for place in 0i32..25 {
+        text.push_str(&format!(in alloc; ", {} 100", 100i32.wrapping_sub(place.wrapping_mul(4)))?)?;
     }
-    for at in 0i32..26 {
-        text.push_str(&format!(in alloc; "0 {}, ", 100 - 4 * at)?)?;
+    for place in 0i32..26 {
+        text.push_str(&format!(in alloc; ", 0 {}", 100i32.wrapping_sub(place.wrapping_mul(4)))?)?;
     }
-    text.push_str("0 -4))\n")?;
+    text.push_str(", 0 -4))\n")?;
     Ok(text)
 }
 

@@ -130,22 +130,26 @@ fn a_gap_as_wide_as_w_is_not_narrow_and_one_unit_narrower_is(rt: HostRuntime) ->
     Ok(())
 }
 
-// The square of a hundred edges of 4 units round the middle (50, 50), in order.
+/// The edge from a point over so many units.
+fn edge_from(x: i32, y: i32, across: i32, upwards: i32) -> (i32, i32, i32, i32) {
+    (x, y, x.wrapping_add(across), y.wrapping_add(upwards))
+}
+
+/// The square of a hundred edges of 4 units round the middle (50, 50), in order.
 fn square_of_a_hundred(alloc: Global) -> Result<Vec<(i32, i32, i32, i32)>, NoMemory> {
     let mut numbers = Vec::new(alloc);
-    for at in 0i32..25 {
-        numbers.push((0, 4 * at, 0, 4 * at + 4))?;
-        if at == 0 {
-            numbers.push((0, 0, 4, 0))?;
-        }
+    numbers.push(edge_from(0, 0, 0, 4))?;
+    numbers.push(edge_from(0, 0, 4, 0))?;
+    for place in 1i32..25 {
+        numbers.push(edge_from(0, place.wrapping_mul(4), 0, 4))?;
     }
-    numbers.push((0, 100, 4, 100))?;
-    for at in 1i32..25 {
-        numbers.push((4 * at, 0, 4 * at + 4, 0))?;
-        numbers.push((4 * at, 100, 4 * at + 4, 100))?;
+    numbers.push(edge_from(0, 100, 4, 0))?;
+    for place in 1i32..25 {
+        numbers.push(edge_from(place.wrapping_mul(4), 0, 4, 0))?;
+        numbers.push(edge_from(place.wrapping_mul(4), 100, 4, 0))?;
     }
-    for at in 0i32..25 {
-        numbers.push((100, 4 * at, 100, 4 * at + 4))?;
+    for place in 0i32..25 {
+        numbers.push(edge_from(100, place.wrapping_mul(4), 0, 4))?;
     }
     Ok(numbers)
 }
@@ -156,15 +160,16 @@ fn a_square_of_a_hundred_edges_is_as_wide_as_it_is_long(rt: HostRuntime) -> Resu
     expect_clearances(rt.alloc(), &rt, &numbers, &[(1, 100)])
 }
 
-// A sliver of slope 2 between two chains of so many edges, 8 units apart straight up, in order.
+/// A sliver of slope 2 between two chains of so many edges, 8 units apart straight up, in order.
 fn sliver(alloc: Global, count: i32) -> Result<Vec<(i32, i32, i32, i32)>, NoMemory> {
     let mut numbers = Vec::new(alloc);
-    numbers.push((0, 0, 0, 8))?;
-    for at in 0i32..count {
-        numbers.push((at, 2 * at, at + 1, 2 * at + 2))?;
-        numbers.push((at, 2 * at + 8, at + 1, 2 * at + 10))?;
+    numbers.push(edge_from(0, 0, 0, 8))?;
+    for x in 0..count {
+        let y = x.wrapping_mul(2);
+        numbers.push(edge_from(x, y, 1, 2))?;
+        numbers.push(edge_from(x, y.wrapping_add(8), 1, 2))?;
     }
-    numbers.push((count, 2 * count, count, 2 * count + 8))?;
+    numbers.push(edge_from(count, count.wrapping_mul(2), 0, 8))?;
     Ok(numbers)
 }
 

@@ -205,8 +205,8 @@ one_made (Node from to) s inputs o p text other =
 one_made (Regions from to) s inputs o p text other =
     of_inputs s from inputs (λ r. IsRegionList r.members o text) (λ r. IsRegionList r.members p other) (IsOne (Regions from to) s o p text other)
     (λ input r holds in_range reads v w. (let one = one_region_list r.members o p text other in_range v w in (one.0, λ determined. one.1)))
-one_made (Locate from points to) s inputs o p text other are =
-    of_both_two inputs _ _ (IsOne (Locate from points to) s o p text other) (λ input file v w. (let one = one_located from input file o p text other v w in (one.0, λ determined. one.1)))
+one_made (Locate from points to) s inputs o p text other =
+    λ are. of_both_two inputs _ _ (IsOne (Locate from points to) s o p text other) (λ input file v w. (let one = one_located from input file o p text other v w in (one.0, λ determined. one.1)))
 
 -- ---- what the files hold
 

@@ -19,13 +19,13 @@ pub fn read_inputs<F: Files>(
     names: Inputs,
 ) -> Result<Vec<Vec<u8>>, Outcome>
     ensures read { IfOk result (λ inputs. IsTrue (F.state files.old).tells_files
-        → AreInputs (F.state files.old) (names_in names) (map (λ i. i.items) inputs.items)) }
-    ensures count { IfOk result (λ inputs. length inputs.items ≡ length (names_in names)) }
+        → AreInputs (F.state files.old) (names_in names.entry) (map (λ i. i.items) inputs.items)) }
+    ensures count { IfOk result (λ inputs. length inputs.items ≡ length (names_in names.entry)) }
     ensures within { IfOk result (λ inputs. All (λ i. length i.items ≤ LONGEST_INPUT) inputs.items) }
-    ensures cause { IfErr result (λ o. IsUnread o (names_in names) (F.state files.old) (F.state files.new)) }
+    ensures cause { IfErr result (λ o. IsUnread o (names_in names.entry) (F.state files.old) (F.state files.new)) }
     ensures counted { OnOk result ((F.state files.new).read_faults ≡ (F.state files.old).read_faults) }
     ensures kept { KeepsOutput (F.state files.old) (F.state files.new) }
-    ensures promised { All (λ name. IsPromised name (F.state files.old)) (names_in names)
+    ensures promised { All (λ name. IsPromised name (F.state files.old)) (names_in names.entry)
         → result ≢ Err Outcome.ReadFault }
 {
     match names {

@@ -33,7 +33,8 @@ fn rows_of(alloc: Global, locator: &Locator, points: &[Coord]) -> Result<Vec<u8>
 {
     let mut text = Vec::new(alloc);
     for p in points {
-        append_place(&mut text, locator.at(*p))?;
+        let place = locator.at(*p);
+        append_place(&mut text, place)?;
     }
     Ok(text)
 }

@@ -123,16 +123,11 @@ fn validate_marks_the_sides_of_narrow_gaps(rt: HostRuntime) -> Result<(), test::
 
 // A square with sides of 4 and this least corner.
 fn four_by_four(alloc: Global, x: i32, y: i32) -> Result<String, NoMemory> {
-<<<<<<< HEAD
-    let (east, north) = (x + 4, y + 4);
+    let east = x.wrapping_add(4);
+    let north = y.wrapping_add(4);
     Ok(format!(in alloc;
         "POLYGON (({x} {y}, {east} {y}, {east} {north}, {x} {north}, {x} {y}))\n"
     )?)
-=======
-    let east = x.wrapping_add(4);
-    let north = y.wrapping_add(4);
-    Ok(format!(in alloc; "POLYGON (({x} {y}, {east} {y}, {east} {north}, {x} {north}, {x} {y}))\n")?)
->>>>>>> gap/gap
 }
 
 // A hundred squares round the square from (0, 0) to (100, 100), 25 at each side: the first lies below its least corner.

@@ -514,7 +514,7 @@ fn a_full_file_holds_the_first_bytes(rt: HostRuntime) -> Result<(), test::Fail> 
 }
 
 #[test]
-fn each_outcome_has_its_status_and_its_message(rt: HostRuntime) -> Result<(), test::Fail> {
+fn each_success_has_its_status_and_its_message(rt: HostRuntime) -> Result<(), test::Fail> {
     for (outcome, number, text) in [
         (Outcome::Done, 0, "done"),
         (Outcome::Marked { edges: 3 }, 1, "marked 3"),
@@ -526,6 +526,31 @@ fn each_outcome_has_its_status_and_its_message(rt: HostRuntime) -> Result<(), te
             "marked 18446744073709551615",
         ),
         (
+            Outcome::Sampled {
+                members: 3,
+                polygons: 2,
+                points: 10,
+            },
+            0,
+            "sampled: members 3, polygons 2, points 10",
+        ),
+    ] {
+        assert_eq!(rt; status(&outcome), number, "{text}");
+        let line = message(rt.alloc(), &outcome)?;
+        assert!(rt; line.as_str() == text, "{text}");
+    }
+    Ok(())
+}
+
+#[test]
+fn each_refusal_has_its_status_and_its_message(rt: HostRuntime) -> Result<(), test::Fail> {
+    for (outcome, number, text) in [
+        (
+            Outcome::Usage,
+            2,
+            "usage: cover validate|clean|simplify|union|node|regions|sample|locate",
+        ),
+        (
             Outcome::NotValid {
                 mark: Mark {
                     member: 0,
@@ -535,20 +560,6 @@ fn each_outcome_has_its_status_and_its_message(rt: HostRuntime) -> Result<(), te
             },
             3,
             "not valid: member 0 place 1 meets",
-        ),
-        (
-            Outcome::Usage,
-            2,
-            "usage: cover validate|clean|simplify|union|node|regions|sample|locate",
-        ),
-        (
-            Outcome::Sampled {
-                members: 3,
-                polygons: 2,
-                points: 10,
-            },
-            0,
-            "sampled: members 3, polygons 2, points 10",
         ),
         (NO_TEXT, 4, "text: syntax at 0"),
         (Outcome::TooLong, 6, "input is longer than 67108864 bytes"),

@@ -1,0 +1,4 @@
+pub mod Pairs
+pub mod Overlaid
+pub mod Joint
+pub mod Laws

@@ -47,11 +47,15 @@ pub record IsLeast (test : ℕ → Bool) (m : ℕ) : Type 0 where
   pub passes : test m ≡ true
   pub least : (k : ℕ) → test k ≡ true → m ≤ k
 
--- pair.a is the least member that holds p of the first coverage, which has n members, and pair.b the least one of the second
-pub record IsPairAt (n : ℕ) (uses : List EdgeUse) (pair : Pair) (p : Point) : Type 0 where
+-- pair.a is the least number that passes and is below n, and pair.b the least that passes after n is added
+pub record IsLeastPair (n : ℕ) (test : ℕ → Bool) (pair : Pair) : Type 0 where
   pub of_first : pair.a < n
-  pub first : IsLeast (λ i. member_holds uses i p) pair.a
-  pub second : IsLeast (λ j. member_holds uses (n + j) p) pair.b
+  pub first : IsLeast test pair.a
+  pub second : IsLeast (λ j. test (n + j)) pair.b
+
+-- of the first coverage, which has n members, pair.a is the least member that holds p, and of the second pair.b
+abbrev pub IsPairAt : ℕ → List EdgeUse → Pair → Point → Type 0
+IsPairAt n uses pair p = IsLeastPair n (λ m. member_holds uses m p) pair
 
 -- each point off the noded edges is held by the member of a pair exactly where this is the pair there, and by one member at most; no other pair is at a point, and no other member holds one
 pub record HoldsByPair (n : ℕ) (noded : List Seg) (snapped : List EdgeUse) (pairs : List Pair) (out : Members) : Type 0 where

@@ -6,3 +6,7 @@ pub mod SnappedLabels
 pub mod PairOwners
 pub mod Held
 pub mod OneOverlaid
+pub mod Computed
+pub mod Middle
+pub mod OverlapPairs
+pub mod OverlapBuilt

@@ -1,0 +1,12 @@
+pub mod Joint
+pub mod LeastPairs
+pub mod BelowPairs
+pub mod OnePairs
+pub mod SnappedLabels
+pub mod PairOwners
+pub mod Held
+pub mod OneOverlaid
+pub mod Computed
+pub mod Middle
+pub mod OverlapPairs
+pub mod OverlapBuilt

@@ -1,5 +1,5 @@
 -- The written form of coverages and of lists of segments, without a scale or at one: functions from them to bytes.
-use Rattle.std.specs.Prelude.{ℕ, zero, suc, ◌+◌, ◌/◌, ◌%◌, ◌^◌, ◌≤◌, if◌then◌else◌, ◌==◌, List, [], ◌∷◌, ◌++◌, take, codes, Option, Some, None, IfSome, ℤ, pos, negsuc, unsigned_abs}
+use Rattle.std.specs.Prelude.{ℕ, zero, suc, ◌+◌, ◌/◌, ◌%◌, ◌^◌, if◌then◌else◌, ◌==◌, List, [], ◌∷◌, ◌++◌, take, codes, Option, Some, None, ℤ, pos, negsuc, unsigned_abs}
 use Rattle.std.specs.List.{flat_map, list_all}
 use Rattle.std.specs.Fmt.{decimal, signed_decimal}
 use Rattle.cov_types.specs.declared.coord.Coord.{Coord}
@@ -13,10 +13,6 @@ separated text (x ∷ xs) = text x ++ flat_map (λ y. codes ", " ++ text y) xs
 -- a text in parentheses
 abbrev pub in_parentheses : List ℕ → List ℕ
 in_parentheses text = codes "(" ++ text ++ codes ")"
-
--- no scale, or one from 0 to 7
-abbrev pub IsScale : Option ℕ → Type 0
-IsScale scale = IfSome scale (λ k. k ≤ 7)
 
 -- `-` where a number is negative
 abbrev pub sign_text : ℤ → List ℕ

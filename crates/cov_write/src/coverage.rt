@@ -1,5 +1,6 @@
 ghost use Rattle.std.specs.Prelude.{◌≡◌, ◌++◌, take, OnOk, IfOk};
-ghost use Rattle.cov_write.specs.Written.{IsScale, separated, position_text, ring_text, polygon_text, member_line, coverage_text};
+ghost use Rattle.geo_text.specs.Decimal.{IsScale};
+ghost use Rattle.cov_write.specs.Written.{separated, position_text, ring_text, polygon_text, member_line, coverage_text};
 
 use crate::written::{Written, append_separated};
 use cov_types::{Coord, Coverage, Member, NoMemory, Poly, Ring};

@@ -1,5 +1,6 @@
 ghost use Rattle.std.specs.Prelude.{◌≡◌, ◌++◌, ◌<◌, ◌^◌, ◌≤◌, OnOk};
-ghost use Rattle.cov_write.specs.Written.{IsScale, number_text, sign_text, fraction_text};
+ghost use Rattle.geo_text.specs.Decimal.{IsScale};
+ghost use Rattle.cov_write.specs.Written.{number_text, sign_text, fraction_text};
 
 use cov_types::NoMemory;
 use itoa::{Buffer, Integer};

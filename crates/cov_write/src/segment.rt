@@ -1,5 +1,6 @@
 ghost use Rattle.std.specs.Prelude.{◌≡◌, ◌++◌, map, OnOk, IfOk};
-ghost use Rattle.cov_write.specs.Written.{IsScale, segment_text, segments_line, lines_text};
+ghost use Rattle.geo_text.specs.Decimal.{IsScale};
+ghost use Rattle.cov_write.specs.Written.{segment_text, segments_line, lines_text};
 
 use crate::written::{Written, append_separated};
 use cov_types::{NoMemory, Seg};

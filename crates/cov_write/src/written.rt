@@ -1,5 +1,6 @@
 ghost use Rattle.std.specs.Prelude.{◌≡◌, ℕ, List, ◌++◌, Option, OnOk};
-ghost use Rattle.cov_write.specs.Written.{IsScale, separated, position_text};
+ghost use Rattle.geo_text.specs.Decimal.{IsScale};
+ghost use Rattle.cov_write.specs.Written.{separated, position_text};
 
 use crate::number::append_coordinate;
 use cov_types::{Coord, NoMemory};

@@ -1,5 +1,5 @@
 -- Causes of refusals: each input has one cause at most, and none where a text is made of it.
-use Rattle.std.proofs.Common.{◌≡◌, ◌≢◌, ℕ, zero, suc, List, [], ◌∷◌, Bool, true, false, IsTrue, Some, None, refl, ap, subst, ◌∙◌, sym, inl, inr}
+use Rattle.std.proofs.Common.{◌≡◌, ◌≢◌, ℕ, zero, suc, List, [], ◌∷◌, Bool, true, false, IsTrue, Option, Some, None, refl, ap, subst, ◌∙◌, sym, inl, inr}
 use Rattle.cover_cli.specs.Answers.{is_validate, is_success, is_refusal, is_marked, touches_output, is_sample, is_sampled}
 use Rattle.cov_types.specs.Coverage.{Members}
 use Rattle.cov_types.specs.Uses.{uses_of}
@@ -33,61 +33,61 @@ use Rattle.cover_cli.specs.declared.outcome.Outcome.TheVariants.{Done, Marked, U
 -- ---- inputs with a fault
 
 -- an error of the reader is refused for its cause
-pub input_refused : (name input : List ℕ) (e : FileError) → IsError name input e → IsRefusedFor (RefusesInput name input) (outcome_of_file e)
-input_refused name input (Fault (Text fault)) is = inr is
-input_refused name input (Fault (Json fault)) is = inr is
-input_refused name input NoFileMemory is = inl refl
+pub input_refused : (name : List ℕ) (scale : Option ℕ) (input : List ℕ) (e : FileError) → IsError name scale input e → IsRefusedFor (RefusesInput name scale input) (outcome_of_file e)
+input_refused name scale input (Fault (Text fault)) is = inr is
+input_refused name scale input (Fault (Json fault)) is = inr is
+input_refused name scale input NoFileMemory is = inl refl
 
 -- an input is refused with one outcome
-one_input_refusal : (name input : List ℕ) (o p : Outcome) → RefusesInput name input o → RefusesInput name input p → o ≡ p
-one_input_refusal name input (BadText f) (BadText g) first second = (let same : Text f ≡ Text g = one_fault name input (Text f) (Text g) first second in cc)
-one_input_refusal name input (BadText f) (BadJson g) first second = (let same : Text f ≡ Json g = one_fault name input (Text f) (Json g) first second in absurd (cc))
-one_input_refusal name input (BadJson f) (BadText g) first second = (let same : Json f ≡ Text g = one_fault name input (Json f) (Text g) first second in absurd (cc))
-one_input_refusal name input (BadJson f) (BadJson g) first second = (let same : Json f ≡ Json g = one_fault name input (Json f) (Json g) first second in cc)
-one_input_refusal name input (BadText f) Done first second = absurd second
-one_input_refusal name input (BadText f) (Marked edges) first second = absurd second
-one_input_refusal name input (BadText f) (Sampled m p q) first second = absurd second
-one_input_refusal name input (BadText f) Usage first second = absurd second
-one_input_refusal name input (BadText f) ReadFault first second = absurd second
-one_input_refusal name input (BadText f) WriteFault first second = absurd second
-one_input_refusal name input (BadText f) TooLong first second = absurd second
-one_input_refusal name input (BadText f) NoMemory first second = absurd second
-one_input_refusal name input (BadText f) (NotValid mark) first second = absurd second
-one_input_refusal name input (BadText f) (BadPoints g) first second = absurd second
-one_input_refusal name input (BadJson f) Done first second = absurd second
-one_input_refusal name input (BadJson f) (Marked edges) first second = absurd second
-one_input_refusal name input (BadJson f) (Sampled m p q) first second = absurd second
-one_input_refusal name input (BadJson f) Usage first second = absurd second
-one_input_refusal name input (BadJson f) ReadFault first second = absurd second
-one_input_refusal name input (BadJson f) WriteFault first second = absurd second
-one_input_refusal name input (BadJson f) TooLong first second = absurd second
-one_input_refusal name input (BadJson f) NoMemory first second = absurd second
-one_input_refusal name input (BadJson f) (NotValid mark) first second = absurd second
-one_input_refusal name input (BadJson f) (BadPoints g) first second = absurd second
-one_input_refusal name input _ p first second = absurd first
+one_input_refusal : (name : List ℕ) (scale : Option ℕ) (input : List ℕ) (o p : Outcome) → RefusesInput name scale input o → RefusesInput name scale input p → o ≡ p
+one_input_refusal name scale input (BadText f) (BadText g) first second = (let same : Text f ≡ Text g = one_fault name scale input (Text f) (Text g) first second in cc)
+one_input_refusal name scale input (BadText f) (BadJson g) first second = (let same : Text f ≡ Json g = one_fault name scale input (Text f) (Json g) first second in absurd (cc))
+one_input_refusal name scale input (BadJson f) (BadText g) first second = (let same : Json f ≡ Text g = one_fault name scale input (Json f) (Text g) first second in absurd (cc))
+one_input_refusal name scale input (BadJson f) (BadJson g) first second = (let same : Json f ≡ Json g = one_fault name scale input (Json f) (Json g) first second in cc)
+one_input_refusal name scale input (BadText f) Done first second = absurd second
+one_input_refusal name scale input (BadText f) (Marked edges) first second = absurd second
+one_input_refusal name scale input (BadText f) (Sampled m p q) first second = absurd second
+one_input_refusal name scale input (BadText f) Usage first second = absurd second
+one_input_refusal name scale input (BadText f) ReadFault first second = absurd second
+one_input_refusal name scale input (BadText f) WriteFault first second = absurd second
+one_input_refusal name scale input (BadText f) TooLong first second = absurd second
+one_input_refusal name scale input (BadText f) NoMemory first second = absurd second
+one_input_refusal name scale input (BadText f) (NotValid mark) first second = absurd second
+one_input_refusal name scale input (BadText f) (BadPoints g) first second = absurd second
+one_input_refusal name scale input (BadJson f) Done first second = absurd second
+one_input_refusal name scale input (BadJson f) (Marked edges) first second = absurd second
+one_input_refusal name scale input (BadJson f) (Sampled m p q) first second = absurd second
+one_input_refusal name scale input (BadJson f) Usage first second = absurd second
+one_input_refusal name scale input (BadJson f) ReadFault first second = absurd second
+one_input_refusal name scale input (BadJson f) WriteFault first second = absurd second
+one_input_refusal name scale input (BadJson f) TooLong first second = absurd second
+one_input_refusal name scale input (BadJson f) NoMemory first second = absurd second
+one_input_refusal name scale input (BadJson f) (NotValid mark) first second = absurd second
+one_input_refusal name scale input (BadJson f) (BadPoints g) first second = absurd second
+one_input_refusal name scale input _ p first second = absurd first
 
-input_refusal : (name input : List ℕ) (o : Outcome) → RefusesInput name input o → IsTrue (is_refusal o)
-input_refusal name input (BadText f) refuses = refl
-input_refusal name input (BadJson f) refuses = refl
-input_refusal name input _ refuses = absurd refuses
+input_refusal : (name : List ℕ) (scale : Option ℕ) (input : List ℕ) (o : Outcome) → RefusesInput name scale input o → IsTrue (is_refusal o)
+input_refusal name scale input (BadText f) refuses = refl
+input_refusal name scale input (BadJson f) refuses = refl
+input_refusal name scale input _ refuses = absurd refuses
 
 -- an input that is read is not refused
-pub not_read_and_refused : (name input : List ℕ) (P : Reading → Type 0) (o : Outcome) → IsReadAnd name input P → RefusesInput name input o → ⊥
-not_read_and_refused name input P (BadText f) read refuses = read_faultless name input read.reading (Text f) read.reads refuses
-not_read_and_refused name input P (BadJson f) read refuses = read_faultless name input read.reading (Json f) read.reads refuses
-not_read_and_refused name input P _ read refuses = absurd refuses
+pub not_read_and_refused : (name : List ℕ) (scale : Option ℕ) (input : List ℕ) (P : Reading → Type 0) (o : Outcome) → IsReadAnd name scale input P → RefusesInput name scale input o → ⊥
+not_read_and_refused name scale input P (BadText f) read refuses = read_faultless name scale input read.reading (Text f) read.reads refuses
+not_read_and_refused name scale input P (BadJson f) read refuses = read_faultless name scale input read.reading (Json f) read.reads refuses
+not_read_and_refused name scale input P _ read refuses = absurd refuses
 
 -- ---- coverages that are not valid
 
 -- a coverage that is not admitted is refused for its cause
-pub admit_refused : (e : AdmitError) (name input : List ℕ) (r : Reading) → IsRead name input r → IsRefusal r.members e → IsRefusedFor (RefusesInvalid name input) (outcome_of_refusal e)
-admit_refused (NotAdmitted coverage mark) name input r reads refusal = inr (inr (record { reading = r; reads = reads; holds = (refusal.1, refusal.2) }))
-admit_refused (NoAdmitMemory coverage) name input r reads refusal = inl refl
+pub admit_refused : (e : AdmitError) (name : List ℕ) (scale : Option ℕ) (input : List ℕ) (r : Reading) → IsRead name scale input r → IsRefusal r.members e → IsRefusedFor (RefusesInvalid name scale input) (outcome_of_refusal e)
+admit_refused (NotAdmitted coverage mark) name scale input r reads refusal = inr (inr (record { reading = r; reads = reads; holds = (refusal.1, refusal.2) }))
+admit_refused (NoAdmitMemory coverage) name scale input r reads refusal = inl refl
 
 -- what refuses an input, refuses its union
-pub invalid_refused : (name input : List ℕ) (o : Outcome) → IsRefusedFor (RefusesInput name input) o → IsRefusedFor (RefusesInvalid name input) o
-invalid_refused name input o (inl none) = inl none
-invalid_refused name input o (inr refuses) = inr (inl refuses)
+pub invalid_refused : (name : List ℕ) (scale : Option ℕ) (input : List ℕ) (o : Outcome) → IsRefusedFor (RefusesInput name scale input) o → IsRefusedFor (RefusesInvalid name scale input) o
+invalid_refused name scale input o (inl none) = inl none
+invalid_refused name scale input o (inr refuses) = inr (inl refuses)
 
 -- a coverage tells one first mark
 one_mark : (members : Members) (o p : Outcome) → TellsMark members o → TellsMark members p → o ≡ p
@@ -105,42 +105,42 @@ one_mark members (NotValid m) (BadPoints f) first second = absurd second
 one_mark members (NotValid m) NoMemory first second = absurd second
 one_mark members _ p first second = absurd first
 
-one_invalid_refusal : (name input : List ℕ) (o p : Outcome) → RefusesInvalid name input o → RefusesInvalid name input p → o ≡ p
-one_invalid_refusal name input o p (inl first) (inl second) = one_input_refusal name input o p first second
-one_invalid_refusal name input o p (inl first) (inr read) = absurd (not_read_and_refused name input _ o read first)
-one_invalid_refusal name input o p (inr read) (inl second) = absurd (not_read_and_refused name input _ p read second)
-one_invalid_refusal name input o p (inr read) (inr other) =
-    let same : other.reading ≡ read.reading = one_reading name input other.reading read.reading other.reads read.reads in
+one_invalid_refusal : (name : List ℕ) (scale : Option ℕ) (input : List ℕ) (o p : Outcome) → RefusesInvalid name scale input o → RefusesInvalid name scale input p → o ≡ p
+one_invalid_refusal name scale input o p (inl first) (inl second) = one_input_refusal name scale input o p first second
+one_invalid_refusal name scale input o p (inl first) (inr read) = absurd (not_read_and_refused name scale input _ o read first)
+one_invalid_refusal name scale input o p (inr read) (inl second) = absurd (not_read_and_refused name scale input _ p read second)
+one_invalid_refusal name scale input o p (inr read) (inr other) =
+    let same : other.reading ≡ read.reading = one_reading name scale input other.reading read.reading other.reads read.reads in
     one_mark read.reading.members o p read.holds (subst (λ (r : Reading). TellsMark r.members p) same other.holds)
 
 mark_refusal : (members : Members) (o : Outcome) → TellsMark members o → IsTrue (is_refusal o)
 mark_refusal members (NotValid mark) tells = refl
 mark_refusal members _ tells = absurd tells
 
-invalid_refusal : (name input : List ℕ) (o : Outcome) → RefusesInvalid name input o → IsTrue (is_refusal o)
-invalid_refusal name input o (inl refuses) = input_refusal name input o refuses
-invalid_refusal name input o (inr read) = mark_refusal read.reading.members o read.holds
+invalid_refusal : (name : List ℕ) (scale : Option ℕ) (input : List ℕ) (o : Outcome) → RefusesInvalid name scale input o → IsTrue (is_refusal o)
+invalid_refusal name scale input o (inl refuses) = input_refusal name scale input o refuses
+invalid_refusal name scale input o (inr read) = mark_refusal read.reading.members o read.holds
 
 told_invalid : (members : Members) (o : Outcome) → TellsMark members o → ¬ IsValid (uses_of members)
 told_invalid members (NotValid mark) tells = tells.1
 told_invalid members _ tells = absurd tells
 
 -- a coverage that is admitted is valid, so it is not refused
-not_admitted_and_refused : (name input : List ℕ) (P : Reading → Type 0) (p : Outcome) → ((r : Reading) → P r → IsValid (uses_of r.members)) → IsReadAnd name input P → RefusesInvalid name input p → ⊥
-not_admitted_and_refused name input P p valid read (inl refuses) = not_read_and_refused name input _ p read refuses
-not_admitted_and_refused name input P p valid read (inr other) =
-    let same : other.reading ≡ read.reading = one_reading name input other.reading read.reading other.reads read.reads in
+not_admitted_and_refused : (name : List ℕ) (scale : Option ℕ) (input : List ℕ) (P : Reading → Type 0) (p : Outcome) → ((r : Reading) → P r → IsValid (uses_of r.members)) → IsReadAnd name scale input P → RefusesInvalid name scale input p → ⊥
+not_admitted_and_refused name scale input P p valid read (inl refuses) = not_read_and_refused name scale input _ p read refuses
+not_admitted_and_refused name scale input P p valid read (inr other) =
+    let same : other.reading ≡ read.reading = one_reading name scale input other.reading read.reading other.reads read.reads in
     told_invalid read.reading.members p (subst (λ (r : Reading). TellsMark r.members p) same other.holds) (valid read.reading read.holds)
 
 -- ---- points files with a fault
 
 -- points that are not read are refused for their cause
-pub points_refused : (e : PointsError) (name input file : List ℕ) (r : Reading) → IsRead name input r → IsFaultOf file e → IsRefusedFor (RefusesPoints name input file) (outcome_of_points e)
+pub points_refused : (e : PointsError) (name input file : List ℕ) (r : Reading) → IsRead name None input r → IsFaultOf file e → IsRefusedFor (RefusesPoints name input file) (outcome_of_points e)
 points_refused (points.Fault fault) name input file r reads is = inr (inr (record { reading = r; reads = reads; holds = is }))
 points_refused points.NoMemory name input file r reads is = inl refl
 
 -- what refuses an input, refuses it with points too
-pub input_with_points_refused : (name input file : List ℕ) (o : Outcome) → IsRefusedFor (RefusesInput name input) o → IsRefusedFor (RefusesPoints name input file) o
+pub input_with_points_refused : (name input file : List ℕ) (o : Outcome) → IsRefusedFor (RefusesInput name None input) o → IsRefusedFor (RefusesPoints name input file) o
 input_with_points_refused name input file o (inl none) = inl none
 input_with_points_refused name input file o (inr refuses) = inr (inl refuses)
 
@@ -151,9 +151,9 @@ told_fault file _ tells = absurd tells
 
 -- a points file is refused with one outcome
 one_points_refusal : (name input file : List ℕ) (o p : Outcome) → RefusesPoints name input file o → RefusesPoints name input file p → o ≡ p
-one_points_refusal name input file o p (inl first) (inl second) = one_input_refusal name input o p first second
-one_points_refusal name input file o p (inl first) (inr read) = absurd (not_read_and_refused name input _ o read first)
-one_points_refusal name input file o p (inr read) (inl second) = absurd (not_read_and_refused name input _ p read second)
+one_points_refusal name input file o p (inl first) (inl second) = one_input_refusal name None input o p first second
+one_points_refusal name input file o p (inl first) (inr read) = absurd (not_read_and_refused name None input _ o read first)
+one_points_refusal name input file o p (inr read) (inl second) = absurd (not_read_and_refused name None input _ p read second)
 one_points_refusal name input file o p (inr read) (inr other) =
     let first = told_fault file o read.holds in
     let second = told_fault file p other.holds in
@@ -161,12 +161,12 @@ one_points_refusal name input file o p (inr read) (inr other) =
     first.1.0 ∙ cc same ∙ sym second.1.0
 
 points_refusal : (name input file : List ℕ) (o : Outcome) → RefusesPoints name input file o → IsTrue (is_refusal o)
-points_refusal name input file o (inl refuses) = input_refusal name input o refuses
+points_refusal name input file o (inl refuses) = input_refusal name None input o refuses
 points_refusal name input file o (inr read) = ap is_refusal (told_fault file o read.holds).1.0
 
 -- an input that is read, with points that are listed, is not refused
-pub not_listed_and_refused : (name input file : List ℕ) (P : Reading → Type 0) (list : List Coord) (p : Outcome) → ArePoints file list → IsReadAnd name input P → RefusesPoints name input file p → ⊥
-not_listed_and_refused name input file P list p are read (inl refuses) = not_read_and_refused name input P p read refuses
+pub not_listed_and_refused : (name input file : List ℕ) (P : Reading → Type 0) (list : List Coord) (p : Outcome) → ArePoints file list → IsReadAnd name None input P → RefusesPoints name input file p → ⊥
+not_listed_and_refused name input file P list p are read (inl refuses) = not_read_and_refused name None input P p read refuses
 not_listed_and_refused name input file P list p are read (inr other) =
     let fault = told_fault file p other.holds in
     let none : None ≡ Some fault.0 = sym are.faultless ∙ fault.1.1 in
@@ -199,33 +199,33 @@ of_both_two (input ∷ file ∷ []) P Q C follows first second = follows input f
 of_both_two (input ∷ file ∷ more ∷ rest) P Q C follows first second = absurd first
 
 pub one_refusal : (operation : Operation) (inputs : List (List ℕ)) (o p : Outcome) → Refuses operation inputs o → Refuses operation inputs p → o ≡ p
-one_refusal (Validate gap from to) inputs o p = of_both inputs _ _ (o ≡ p) (λ input. one_input_refusal from input o p)
-one_refusal (Clean rule gap from to) inputs o p = of_both inputs _ _ (o ≡ p) (λ input. one_input_refusal from input o p)
-one_refusal (Simplify tolerance inner from to) inputs o p = of_both inputs _ _ (o ≡ p) (λ input. one_invalid_refusal from input o p)
-one_refusal (Union from to) inputs o p = of_both inputs _ _ (o ≡ p) (λ input. one_invalid_refusal from input o p)
-one_refusal (Node from to) inputs o p = of_both inputs _ _ (o ≡ p) (λ input. one_input_refusal from input o p)
-one_refusal (Regions from to) inputs o p = of_both inputs _ _ (o ≡ p) (λ input. one_input_refusal from input o p)
+one_refusal (Validate gap scale from to) inputs o p = of_both inputs _ _ (o ≡ p) (λ input. one_input_refusal from scale input o p)
+one_refusal (Clean rule gap scale from to) inputs o p = of_both inputs _ _ (o ≡ p) (λ input. one_input_refusal from scale input o p)
+one_refusal (Simplify tolerance inner scale from to) inputs o p = of_both inputs _ _ (o ≡ p) (λ input. one_invalid_refusal from scale input o p)
+one_refusal (Union scale from to) inputs o p = of_both inputs _ _ (o ≡ p) (λ input. one_invalid_refusal from scale input o p)
+one_refusal (Node scale from to) inputs o p = of_both inputs _ _ (o ≡ p) (λ input. one_input_refusal from scale input o p)
+one_refusal (Regions scale from to) inputs o p = of_both inputs _ _ (o ≡ p) (λ input. one_input_refusal from scale input o p)
 one_refusal (Sample side seed to) inputs o p = λ first second. absurd first
 one_refusal (Locate from points to) inputs o p = of_both_two inputs _ _ (o ≡ p) (λ input file. one_points_refusal from input file o p)
 
 pub refuses_refusal : (operation : Operation) (inputs : List (List ℕ)) (o : Outcome) → Refuses operation inputs o → IsTrue (is_refusal o)
-refuses_refusal (Validate gap from to) inputs o = of_one inputs _ (IsTrue (is_refusal o)) (λ input. input_refusal from input o)
-refuses_refusal (Clean rule gap from to) inputs o = of_one inputs _ (IsTrue (is_refusal o)) (λ input. input_refusal from input o)
-refuses_refusal (Simplify tolerance inner from to) inputs o = of_one inputs _ (IsTrue (is_refusal o)) (λ input. invalid_refusal from input o)
-refuses_refusal (Union from to) inputs o = of_one inputs _ (IsTrue (is_refusal o)) (λ input. invalid_refusal from input o)
-refuses_refusal (Node from to) inputs o = of_one inputs _ (IsTrue (is_refusal o)) (λ input. input_refusal from input o)
-refuses_refusal (Regions from to) inputs o = of_one inputs _ (IsTrue (is_refusal o)) (λ input. input_refusal from input o)
+refuses_refusal (Validate gap scale from to) inputs o = of_one inputs _ (IsTrue (is_refusal o)) (λ input. input_refusal from scale input o)
+refuses_refusal (Clean rule gap scale from to) inputs o = of_one inputs _ (IsTrue (is_refusal o)) (λ input. input_refusal from scale input o)
+refuses_refusal (Simplify tolerance inner scale from to) inputs o = of_one inputs _ (IsTrue (is_refusal o)) (λ input. invalid_refusal from scale input o)
+refuses_refusal (Union scale from to) inputs o = of_one inputs _ (IsTrue (is_refusal o)) (λ input. invalid_refusal from scale input o)
+refuses_refusal (Node scale from to) inputs o = of_one inputs _ (IsTrue (is_refusal o)) (λ input. input_refusal from scale input o)
+refuses_refusal (Regions scale from to) inputs o = of_one inputs _ (IsTrue (is_refusal o)) (λ input. input_refusal from scale input o)
 refuses_refusal (Sample side seed to) inputs o = λ refuses. absurd refuses
 refuses_refusal (Locate from points to) inputs o = of_two inputs _ (IsTrue (is_refusal o)) (λ input file. points_refusal from input file o)
 
 -- of inputs that are refused no text is made
 pub not_both : (operation : Operation) (inputs : List (List ℕ)) (o p : Outcome) (text : List ℕ) → Makes operation inputs o text → Refuses operation inputs p → ⊥
-not_both (Validate gap from to) inputs o p text = of_both inputs _ _ ⊥ (λ input. not_read_and_refused from input _ p)
-not_both (Clean rule gap from to) inputs o p text = of_both inputs _ _ ⊥ (λ input. not_read_and_refused from input _ p)
-not_both (Simplify tolerance inner from to) inputs o p text = of_both inputs _ _ ⊥ (λ input. not_admitted_and_refused from input _ p (λ r simplifying. simplifying.admitted))
-not_both (Union from to) inputs o p text = of_both inputs _ _ ⊥ (λ input. not_admitted_and_refused from input _ p (λ r uniting. uniting.admitted))
-not_both (Node from to) inputs o p text = of_both inputs _ _ ⊥ (λ input. not_read_and_refused from input _ p)
-not_both (Regions from to) inputs o p text = of_both inputs _ _ ⊥ (λ input. not_read_and_refused from input _ p)
+not_both (Validate gap scale from to) inputs o p text = of_both inputs _ _ ⊥ (λ input. not_read_and_refused from scale input _ p)
+not_both (Clean rule gap scale from to) inputs o p text = of_both inputs _ _ ⊥ (λ input. not_read_and_refused from scale input _ p)
+not_both (Simplify tolerance inner scale from to) inputs o p text = of_both inputs _ _ ⊥ (λ input. not_admitted_and_refused from scale input _ p (λ r simplifying. simplifying.admitted))
+not_both (Union scale from to) inputs o p text = of_both inputs _ _ ⊥ (λ input. not_admitted_and_refused from scale input _ p (λ r uniting. uniting.admitted))
+not_both (Node scale from to) inputs o p text = of_both inputs _ _ ⊥ (λ input. not_read_and_refused from scale input _ p)
+not_both (Regions scale from to) inputs o p text = of_both inputs _ _ ⊥ (λ input. not_read_and_refused from scale input _ p)
 not_both (Sample side seed to) inputs o p text = λ makes refuses. refuses
 not_both (Locate from points to) inputs o p text = of_both_two inputs _ _ ⊥ (λ input file made. not_listed_and_refused from input file _ made.holds.points p made.holds.points_are made)
 
@@ -235,23 +235,23 @@ marking_success (suc edges) = refl
 
 -- what an operation answers with a text is a success
 pub makes_success : (operation : Operation) (inputs : List (List ℕ)) (o : Outcome) (text : List ℕ) → Makes operation inputs o text → IsTrue (is_success o)
-makes_success (Validate gap from to) inputs o text = of_one inputs _ (IsTrue (is_success o)) (λ input makes. ap is_success makes.holds.counted ∙ marking_success _)
-makes_success (Clean rule gap from to) inputs o text = of_one inputs _ (IsTrue (is_success o)) (λ input makes. ap is_success makes.holds.done)
-makes_success (Simplify tolerance inner from to) inputs o text = of_one inputs _ (IsTrue (is_success o)) (λ input makes. ap is_success makes.holds.done)
-makes_success (Union from to) inputs o text = of_one inputs _ (IsTrue (is_success o)) (λ input makes. ap is_success makes.holds.done)
-makes_success (Node from to) inputs o text = of_one inputs _ (IsTrue (is_success o)) (λ input makes. ap is_success makes.holds.done)
-makes_success (Regions from to) inputs o text = of_one inputs _ (IsTrue (is_success o)) (λ input makes. ap is_success makes.holds.done)
+makes_success (Validate gap scale from to) inputs o text = of_one inputs _ (IsTrue (is_success o)) (λ input makes. ap is_success makes.holds.counted ∙ marking_success _)
+makes_success (Clean rule gap scale from to) inputs o text = of_one inputs _ (IsTrue (is_success o)) (λ input makes. ap is_success makes.holds.done)
+makes_success (Simplify tolerance inner scale from to) inputs o text = of_one inputs _ (IsTrue (is_success o)) (λ input makes. ap is_success makes.holds.done)
+makes_success (Union scale from to) inputs o text = of_one inputs _ (IsTrue (is_success o)) (λ input makes. ap is_success makes.holds.done)
+makes_success (Node scale from to) inputs o text = of_one inputs _ (IsTrue (is_success o)) (λ input makes. ap is_success makes.holds.done)
+makes_success (Regions scale from to) inputs o text = of_one inputs _ (IsTrue (is_success o)) (λ input makes. ap is_success makes.holds.done)
 makes_success (Sample side seed to) inputs o text = λ makes. ap is_success makes.counted
 makes_success (Locate from points to) inputs o text = of_two inputs _ (IsTrue (is_success o)) (λ input file makes. ap is_success makes.holds.done)
 
 -- only validate answers marks
 pub makes_marked : (operation : Operation) (inputs : List (List ℕ)) (o : Outcome) (text : List ℕ) → Makes operation inputs o text → IsTrue (is_marked o) → IsTrue (is_validate operation)
-makes_marked (Validate gap from to) inputs o text makes marks = refl
-makes_marked (Clean rule gap from to) inputs o text makes marks = of_one inputs _ (IsTrue false) (λ input cleaning. sym (ap is_marked cleaning.holds.done) ∙ marks) makes
-makes_marked (Simplify tolerance inner from to) inputs o text makes marks = of_one inputs _ (IsTrue false) (λ input simplifying. sym (ap is_marked simplifying.holds.done) ∙ marks) makes
-makes_marked (Union from to) inputs o text makes marks = of_one inputs _ (IsTrue false) (λ input uniting. sym (ap is_marked uniting.holds.done) ∙ marks) makes
-makes_marked (Node from to) inputs o text makes marks = of_one inputs _ (IsTrue false) (λ input noding. sym (ap is_marked noding.holds.done) ∙ marks) makes
-makes_marked (Regions from to) inputs o text makes marks = of_one inputs _ (IsTrue false) (λ input listing. sym (ap is_marked listing.holds.done) ∙ marks) makes
+makes_marked (Validate gap scale from to) inputs o text makes marks = refl
+makes_marked (Clean rule gap scale from to) inputs o text makes marks = of_one inputs _ (IsTrue false) (λ input cleaning. sym (ap is_marked cleaning.holds.done) ∙ marks) makes
+makes_marked (Simplify tolerance inner scale from to) inputs o text makes marks = of_one inputs _ (IsTrue false) (λ input simplifying. sym (ap is_marked simplifying.holds.done) ∙ marks) makes
+makes_marked (Union scale from to) inputs o text makes marks = of_one inputs _ (IsTrue false) (λ input uniting. sym (ap is_marked uniting.holds.done) ∙ marks) makes
+makes_marked (Node scale from to) inputs o text makes marks = of_one inputs _ (IsTrue false) (λ input noding. sym (ap is_marked noding.holds.done) ∙ marks) makes
+makes_marked (Regions scale from to) inputs o text makes marks = of_one inputs _ (IsTrue false) (λ input listing. sym (ap is_marked listing.holds.done) ∙ marks) makes
 makes_marked (Sample side seed to) inputs o text makes marks = sym (ap is_marked makes.counted) ∙ marks
 makes_marked (Locate from points to) inputs o text makes marks = of_two inputs _ (IsTrue false) (λ input file locating. sym (ap is_marked locating.holds.done) ∙ marks) makes
 
@@ -261,12 +261,12 @@ marking_some (suc edges) h = cc
 
 -- and none answers that no segments are marked
 pub makes_some : (operation : Operation) (inputs : List (List ℕ)) (o : Outcome) (text : List ℕ) → Makes operation inputs o text → o ≢ Marked 0
-makes_some (Validate gap from to) inputs o text makes h = of_one inputs _ ⊥ (λ input valid. marking_some _ (sym valid.holds.counted ∙ h)) makes
-makes_some (Clean rule gap from to) inputs o text makes h = of_one inputs _ ⊥ (λ input cleaning. (let e : Done ≡ Marked 0 = sym cleaning.holds.done ∙ h in cc)) makes
-makes_some (Simplify tolerance inner from to) inputs o text makes h = of_one inputs _ ⊥ (λ input simplifying. (let e : Done ≡ Marked 0 = sym simplifying.holds.done ∙ h in cc)) makes
-makes_some (Union from to) inputs o text makes h = of_one inputs _ ⊥ (λ input uniting. (let e : Done ≡ Marked 0 = sym uniting.holds.done ∙ h in cc)) makes
-makes_some (Node from to) inputs o text makes h = of_one inputs _ ⊥ (λ input noding. (let e : Done ≡ Marked 0 = sym noding.holds.done ∙ h in cc)) makes
-makes_some (Regions from to) inputs o text makes h = of_one inputs _ ⊥ (λ input listing. (let e : Done ≡ Marked 0 = sym listing.holds.done ∙ h in cc)) makes
+makes_some (Validate gap scale from to) inputs o text makes h = of_one inputs _ ⊥ (λ input valid. marking_some _ (sym valid.holds.counted ∙ h)) makes
+makes_some (Clean rule gap scale from to) inputs o text makes h = of_one inputs _ ⊥ (λ input cleaning. (let e : Done ≡ Marked 0 = sym cleaning.holds.done ∙ h in cc)) makes
+makes_some (Simplify tolerance inner scale from to) inputs o text makes h = of_one inputs _ ⊥ (λ input simplifying. (let e : Done ≡ Marked 0 = sym simplifying.holds.done ∙ h in cc)) makes
+makes_some (Union scale from to) inputs o text makes h = of_one inputs _ ⊥ (λ input uniting. (let e : Done ≡ Marked 0 = sym uniting.holds.done ∙ h in cc)) makes
+makes_some (Node scale from to) inputs o text makes h = of_one inputs _ ⊥ (λ input noding. (let e : Done ≡ Marked 0 = sym noding.holds.done ∙ h in cc)) makes
+makes_some (Regions scale from to) inputs o text makes h = of_one inputs _ ⊥ (λ input listing. (let e : Done ≡ Marked 0 = sym listing.holds.done ∙ h in cc)) makes
 makes_some (Sample side seed to) inputs o text makes h = (let e : true ≡ false = sym (ap is_sampled makes.counted) ∙ ap is_sampled h in cc)
 makes_some (Locate from points to) inputs o text makes h = of_two inputs _ ⊥ (λ input file locating. (let e : Done ≡ Marked 0 = sym locating.holds.done ∙ h in cc)) makes
 
@@ -276,12 +276,12 @@ marking_none_sampled (suc edges) = refl
 
 -- sample answers counts, and no other operation does
 pub makes_sampled : (operation : Operation) (inputs : List (List ℕ)) (o : Outcome) (text : List ℕ) → Makes operation inputs o text → is_sampled o ≡ is_sample operation
-makes_sampled (Validate gap from to) inputs o text = of_one inputs _ (is_sampled o ≡ false) (λ input makes. ap is_sampled makes.holds.counted ∙ marking_none_sampled _)
-makes_sampled (Clean rule gap from to) inputs o text = of_one inputs _ (is_sampled o ≡ false) (λ input makes. ap is_sampled makes.holds.done)
-makes_sampled (Simplify tolerance inner from to) inputs o text = of_one inputs _ (is_sampled o ≡ false) (λ input makes. ap is_sampled makes.holds.done)
-makes_sampled (Union from to) inputs o text = of_one inputs _ (is_sampled o ≡ false) (λ input makes. ap is_sampled makes.holds.done)
-makes_sampled (Node from to) inputs o text = of_one inputs _ (is_sampled o ≡ false) (λ input makes. ap is_sampled makes.holds.done)
-makes_sampled (Regions from to) inputs o text = of_one inputs _ (is_sampled o ≡ false) (λ input makes. ap is_sampled makes.holds.done)
+makes_sampled (Validate gap scale from to) inputs o text = of_one inputs _ (is_sampled o ≡ false) (λ input makes. ap is_sampled makes.holds.counted ∙ marking_none_sampled _)
+makes_sampled (Clean rule gap scale from to) inputs o text = of_one inputs _ (is_sampled o ≡ false) (λ input makes. ap is_sampled makes.holds.done)
+makes_sampled (Simplify tolerance inner scale from to) inputs o text = of_one inputs _ (is_sampled o ≡ false) (λ input makes. ap is_sampled makes.holds.done)
+makes_sampled (Union scale from to) inputs o text = of_one inputs _ (is_sampled o ≡ false) (λ input makes. ap is_sampled makes.holds.done)
+makes_sampled (Node scale from to) inputs o text = of_one inputs _ (is_sampled o ≡ false) (λ input makes. ap is_sampled makes.holds.done)
+makes_sampled (Regions scale from to) inputs o text = of_one inputs _ (is_sampled o ≡ false) (λ input makes. ap is_sampled makes.holds.done)
 makes_sampled (Sample side seed to) inputs o text = λ makes. ap is_sampled makes.counted
 makes_sampled (Locate from points to) inputs o text = of_two inputs _ (is_sampled o ≡ false) (λ input file locating. ap is_sampled locating.holds.done)
 

@@ -1,5 +1,5 @@
 -- For every file in the grammar and range clean writes a valid coverage.
-use Rattle.std.proofs.Common.{◌≡◌, ℕ, ◌≤◌, List, [], ◌∷◌, length, Some, IsTrue, refl, inl, inr, subst}
+use Rattle.std.proofs.Common.{◌≡◌, ℕ, ◌≤◌, List, [], ◌∷◌, length, Option, Some, IsTrue, refl, inl, inr, subst}
 use Rattle.std.specs.Prelude.{◌⊎◌}
 use Rattle.cov_types.specs.Coverage.{IsFormed}
 use Rattle.region_owners.specs.Owner.{IsLawful}
@@ -34,8 +34,8 @@ rule_lawful LeastArea = lawful.least
 rule_lawful LongestBorder = lawful.longest
 
 -- what clean writes of a coverage that was read is a clean text
-clean_text : (rule : RuleName) (gap : ℕ) (to : List ℕ) (r : Reading) (outcome : Outcome) (text : List ℕ) → IsFormed r.members → IsCleaning rule gap to r outcome text → IsCleanText rule gap to r text
-clean_text rule gap to r outcome text formed cleaning = record {
+clean_text : (rule : RuleName) (gap : ℕ) (scale : Option ℕ) (to : List ℕ) (r : Reading) (outcome : Outcome) (text : List ℕ) → IsFormed r.members → IsCleaning rule gap scale to r outcome text → IsCleanText rule gap scale to r text
+clean_text rule gap scale to r outcome text formed cleaning = record {
   out = cleaning.out;
   written = cleaning.written;
   formed = cleaning.formed;
@@ -44,35 +44,35 @@ clean_text rule gap to r outcome text formed cleaning = record {
   held = λ edges odd noded p off. held_by_label r.members formed.in_range (rule_of rule) (rule_lawful rule) no_state gap cleaning.out cleaning.cleaned edges odd noded p off;
 }
 
-module _ (rule : RuleName) (gap : ℕ) (from to input : List ℕ) (r : Reading) (old new : State) (answer : Outcome) (told : IsTrue old.tells_files)
-    (file : old.files from ≡ Some input) (within : length input ≤ LONGEST_INPUT) (reads : IsRead from input r)
-    (a : IsAnswer (Clean rule gap from to) old new answer) where
+module _ (rule : RuleName) (gap : ℕ) (scale : Option ℕ) (from to input : List ℕ) (r : Reading) (old new : State) (answer : Outcome) (told : IsTrue old.tells_files)
+    (file : old.files from ≡ Some input) (within : length input ≤ LONGEST_INPUT) (reads : IsRead from scale input r)
+    (a : IsAnswer (Clean rule gap scale from to) old new answer) where
   formed : IsFormed r.members
-  formed = read_formed from input r within reads
+  formed = read_formed from scale input r within reads
 
   read : AreInputs old (from ∷ []) (input ∷ [])
   read = (record { file = file; within = within }, tt)
 
-  no_cause : HoldsNoCause (Clean rule gap from to) old
-  no_cause = record { inputs = input ∷ []; read = read; none = λ refusal refuses. not_read_and_refused from input (λ s. s ≡ r) refusal (record { reading = r; reads = reads; holds = refl }) refuses }
+  no_cause : HoldsNoCause (Clean rule gap scale from to) old
+  no_cause = record { inputs = input ∷ []; read = read; none = λ refusal refuses. not_read_and_refused from scale input (λ s. s ≡ r) refusal (record { reading = r; reads = reads; holds = refl }) refuses }
 
   -- what is written was made of the input
-  made : (h : HoldsText (Clean rule gap from to) old new answer) → IsReadAnd from input (λ s. IsCleaning rule gap to s answer h.text)
+  made : (h : HoldsText (Clean rule gap scale from to) old new answer) → IsReadAnd from scale input (λ s. IsCleaning rule gap scale to s answer h.text)
   made h =
       let same = same_inputs old (from ∷ []) h.writes.inputs (input ∷ []) h.writes.read read in
-      subst (λ inputs. Makes (Clean rule gap from to) inputs answer h.text) same h.writes.makes
+      subst (λ inputs. Makes (Clean rule gap scale from to) inputs answer h.text) same h.writes.makes
 
-  done : IsTrue (is_success answer) → (answer ≡ Done) × HoldsCleanText rule gap r to old new
+  done : IsTrue (is_success answer) → (answer ≡ Done) × HoldsCleanText rule gap scale r to old new
   done ok =
       let h = a.written told ok in
       let m = made h in
-      let same = one_reading from input m.reading r m.reads reads in
-      let cleaning = subst (λ s. IsCleaning rule gap to s answer h.text) same m.holds in
-      (cleaning.done, record { text = h.text; is_clean = clean_text rule gap to r answer h.text formed cleaning; held = h.held })
+      let same = one_reading from scale input m.reading r m.reads reads in
+      let cleaning = subst (λ s. IsCleaning rule gap scale to s answer h.text) same m.holds in
+      (cleaning.done, record { text = h.text; is_clean = clean_text rule gap scale to r answer h.text formed cleaning; held = h.held })
 
-  by_cases : IsSuccessUnlessFault answer → ((answer ≡ Done) × HoldsCleanText rule gap r to old new) ⊎ IsFileFault answer
+  by_cases : IsSuccessUnlessFault answer → ((answer ≡ Done) × HoldsCleanText rule gap scale r to old new) ⊎ IsFileFault answer
   by_cases (inl ok) = inl (done ok)
   by_cases (inr fault) = inr fault
 
-  pub headline : ((answer ≡ Done) × HoldsCleanText rule gap r to old new) ⊎ IsFileFault answer
+  pub headline : ((answer ≡ Done) × HoldsCleanText rule gap scale r to old new) ⊎ IsFileFault answer
   headline = by_cases (a.good told no_cause)

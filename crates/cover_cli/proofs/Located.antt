@@ -1,5 +1,5 @@
 -- For every file in the grammar and range and every points file without a fault locate tells where each point lies.
-use Rattle.std.proofs.Common.{◌≡◌, ℕ, List, [], ◌∷◌, IsTrue, refl, sym, ◌∙◌, inl, inr, subst}
+use Rattle.std.proofs.Common.{◌≡◌, ℕ, List, [], ◌∷◌, None, IsTrue, refl, sym, ◌∙◌, inl, inr, subst}
 use Rattle.std.specs.Prelude.{◌⊎◌}
 use Rattle.cov_io.specs.State.{State}
 use Rattle.cov_locate.specs.Points.{ArePoints}
@@ -22,7 +22,7 @@ use Rattle.cover_cli.specs.declared.outcome.Outcome.{Outcome}
 use Rattle.cover_cli.specs.declared.outcome.Outcome.TheVariants.{Done}
 
 module _ (from points to input file : List ℕ) (r : Reading) (list : List Coord) (old new : State) (answer : Outcome) (told : IsTrue old.tells_files)
-    (held : Holds old from input) (reads : IsRead from input r) (points_held : Holds old points file) (are : ArePoints file list)
+    (held : Holds old from input) (reads : IsRead from None input r) (points_held : Holds old points file) (are : ArePoints file list)
     (a : IsAnswer (Locate from points to) old new answer) where
   read : AreInputs old (from ∷ points ∷ []) (input ∷ file ∷ [])
   read = (held, (points_held, tt))
@@ -35,7 +35,7 @@ module _ (from points to input file : List ℕ) (r : Reading) (list : List Coord
   }
 
   -- what is written was made of the input and the points
-  made : (h : HoldsText (Locate from points to) old new answer) → IsReadAnd from input (λ s. IsLocating s.members file answer h.text)
+  made : (h : HoldsText (Locate from points to) old new answer) → IsReadAnd from None input (λ s. IsLocating s.members file answer h.text)
   made h =
       let same = same_inputs old (from ∷ points ∷ []) h.writes.inputs (input ∷ file ∷ []) h.writes.read read in
       subst (λ inputs. Makes (Locate from points to) inputs answer h.text) same h.writes.makes
@@ -44,7 +44,7 @@ module _ (from points to input file : List ℕ) (r : Reading) (list : List Coord
   done ok =
       let h = a.written told ok in
       let m = made h in
-      let same = one_reading from input m.reading r m.reads reads in
+      let same = one_reading from None input m.reading r m.reads reads in
       let locating = subst (λ s. IsLocating s.members file answer h.text) same m.holds in
       let listed : locating.points ≡ list = locating.points_are.are ∙ sym are.are in
       (locating.done, record { text = h.text; rows = subst (λ (ps : List Coord). ArePlaceRows (uses_of r.members) ps h.text) listed locating.rows; held = h.held })

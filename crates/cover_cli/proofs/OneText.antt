@@ -28,7 +28,7 @@ use Rattle.sound_polygons.proofs.OneCleaned.{one_cleaned}
 use Rattle.feature_files.proofs.Files.{one_reading, read_formed}
 use Rattle.feature_files.proofs.Forms.{one_form, one_text_form, bare_exact}
 use Rattle.feature_files.specs.Form.{IsWrittenAs, HasNoFloat}
-use Rattle.feature_files.specs.Name.{is_json}
+use Rattle.file_form.specs.Name.{is_json}
 use Rattle.feature_files.specs.Reading.{bare, with_members, IsReadBy, IsRead}
 use Rattle.geo_json.specs.Reading.{Reading}
 use Rattle.cover_cli.proofs.Causes.{of_both_two, one_refusal, not_both}
@@ -58,48 +58,48 @@ use Rattle.merge_rule.specs.RuleState.{no_state}
 
 -- ---- what is made of a coverage
 
-one_validation : (gap : ℕ) (members : List (List (List (List Coord)))) (o p : Outcome) (text other : List ℕ) → IsValidation gap members o text → IsValidation gap members p other → (o ≡ p) × (text ≡ other)
-one_validation gap members o p text other v w =
+one_validation : (gap : ℕ) (scale : Option ℕ) (members : List (List (List (List Coord)))) (o p : Outcome) (text other : List ℕ) → IsValidation gap scale members o text → IsValidation gap scale members p other → (o ≡ p) × (text ≡ other)
+one_validation gap scale members o p text other v w =
     let same : v.marks ≡ w.marks = one_marks (uses_of members) (length members) gap v.marks w.marks v.marked w.marked in
-    let listing : List Mark → List ℕ = λ marks. lines_text None (member_lists (marked_uses (uses_of members) marks) members) in
+    let listing : List Mark → List ℕ = λ marks. lines_text scale (member_lists (marked_uses (uses_of members) marks) members) in
     (v.counted ∙ ap (λ (marks : List Mark). marking (length marks)) same ∙ sym w.counted, v.lines ∙ ap listing same ∙ sym w.lines)
 
-one_node : (members : List (List (List (List Coord)))) (o p : Outcome) (text other : List ℕ) → AllInRange members → IsNoding members o text → IsNoding members p other → (o ≡ p) × (text ≡ other)
-one_node members o p text other in_range v w =
+one_node : (scale : Option ℕ) (members : List (List (List (List Coord)))) (o p : Outcome) (text other : List ℕ) → AllInRange members → IsNoding scale members o text → IsNoding scale members p other → (o ≡ p) × (text ≡ other)
+one_node scale members o p text other in_range v w =
     let same = one_noding (uses_of members) (uses-in_range members in_range) v.edges w.edges v.odd w.odd v.noded w.noded in
-    let listing : List Seg → List OddUse → List ℕ = λ edges odd. lines_text None (edges ∷ member_lists (odd_uses edges odd) members) in
+    let listing : List Seg → List OddUse → List ℕ = λ edges odd. lines_text scale (edges ∷ member_lists (odd_uses edges odd) members) in
     (v.done ∙ sym w.done, v.lines ∙ (λ i. listing (same.0 i) (same.1 i)) ∙ sym w.lines)
 
 -- the form of features beside these members has determined bytes: it is text, or no float is kept
 abbrev IsExactAs : List ℕ → Reading → Type 0
 IsExactAs to r = (is_json to ≡ false) ⊎ HasNoFloat r
 
-one_as : (to : List ℕ) (r : Reading) (v w : Members) (text other : List ℕ) → v ≡ w → IsWrittenAs to (with_members r v) text → IsWrittenAs to (with_members r w) other → IsExactAs to r → text ≡ other
-one_as to r v w text other same written again (inl is_text) = one_text_form to (with_members r w) text other is_text (subst (λ (ms : Members). IsWrittenAs to (with_members r ms) text) same written) again
-one_as to r v w text other same written again (inr free) =
-    one_form to (with_members r w) text other (record { properties = free.properties; ids = free.ids }) (subst (λ (ms : Members). IsWrittenAs to (with_members r ms) text) same written) again
+one_as : (scale : Option ℕ) (to : List ℕ) (r : Reading) (v w : Members) (text other : List ℕ) → v ≡ w → IsWrittenAs to scale (with_members r v) text → IsWrittenAs to scale (with_members r w) other → IsExactAs to r → text ≡ other
+one_as scale to r v w text other same written again (inl is_text) = one_text_form to scale (with_members r w) text other is_text (subst (λ (ms : Members). IsWrittenAs to scale (with_members r ms) text) same written) again
+one_as scale to r v w text other same written again (inr free) =
+    one_form to scale (with_members r w) text other (record { properties = free.properties; ids = free.ids }) (subst (λ (ms : Members). IsWrittenAs to scale (with_members r ms) text) same written) again
 
-one_cleaning : (rule : RuleName) (gap : ℕ) (to : List ℕ) (r : Reading) (o p : Outcome) (text other : List ℕ) → AllInRange r.members → IsCleaning rule gap to r o text → IsCleaning rule gap to r p other
+one_cleaning : (rule : RuleName) (gap : ℕ) (scale : Option ℕ) (to : List ℕ) (r : Reading) (o p : Outcome) (text other : List ℕ) → AllInRange r.members → IsCleaning rule gap scale to r o text → IsCleaning rule gap scale to r p other
     → (o ≡ p) × (IsExactAs to r → text ≡ other)
-one_cleaning rule gap to r o p text other in_range v w =
+one_cleaning rule gap scale to r o p text other in_range v w =
     let same : v.out ≡ w.out = one_cleaned r.members in_range (rule_of rule) no_state gap v.out w.out v.cleaned w.cleaned in
-    (v.done ∙ sym w.done, one_as to r v.out w.out text other same v.written w.written)
+    (v.done ∙ sym w.done, one_as scale to r v.out w.out text other same v.written w.written)
 
-one_simplifying : (tolerance : ℕ) (inner : Bool) (to : List ℕ) (r : Reading) (o p : Outcome) (text other : List ℕ) → IsSimplifying tolerance inner to r o text → IsSimplifying tolerance inner to r p other
+one_simplifying : (tolerance : ℕ) (inner : Bool) (scale : Option ℕ) (to : List ℕ) (r : Reading) (o p : Outcome) (text other : List ℕ) → IsSimplifying tolerance inner scale to r o text → IsSimplifying tolerance inner scale to r p other
     → (o ≡ p) × (IsExactAs to r → text ≡ other)
-one_simplifying tolerance inner to r o p text other v w =
+one_simplifying tolerance inner scale to r o p text other v w =
     let same : v.out ≡ w.out = one_simplified r.members tolerance inner v.out w.out v.simplified w.simplified in
-    (v.done ∙ sym w.done, one_as to r v.out w.out text other same v.written w.written)
+    (v.done ∙ sym w.done, one_as scale to r v.out w.out text other same v.written w.written)
 
-one_uniting : (to : List ℕ) (members : List (List (List (List Coord)))) (o p : Outcome) (text other : List ℕ) → AllInRange members → IsUniting to members o text → IsUniting to members p other → (o ≡ p) × (text ≡ other)
-one_uniting to members o p text other in_range v w =
+one_uniting : (scale : Option ℕ) (to : List ℕ) (members : List (List (List (List Coord)))) (o p : Outcome) (text other : List ℕ) → AllInRange members → IsUniting scale to members o text → IsUniting scale to members p other → (o ≡ p) × (text ≡ other)
+one_uniting scale to members o p text other in_range v w =
     let same : v.out ≡ w.out = one_united members in_range v.admitted v.out w.out v.united w.united in
-    (v.done ∙ sym w.done, one_form to (bare w.out) text other (bare_exact w.out) (subst (λ (ms : Members). IsWrittenAs to (bare ms) text) same v.written) w.written)
+    (v.done ∙ sym w.done, one_form to scale (bare w.out) text other (bare_exact w.out) (subst (λ (ms : Members). IsWrittenAs to scale (bare ms) text) same v.written) w.written)
 
 one_sampling : (side seed : ℕ) (to : List ℕ) (o p : Outcome) (text other : List ℕ) → IsSampling side seed to o text → IsSampling side seed to p other → (o ≡ p) × (text ≡ other)
 one_sampling side seed to o p text other v w =
     let same : v.out ≡ w.out = one_cleaned (cells side seed) v.grid.in_range (rule_of LongestBorder) no_state 8 v.out w.out v.sample w.sample in
-    (v.counted ∙ ap sampled same ∙ sym w.counted, one_form to (bare w.out) text other (bare_exact w.out) (subst (λ (ms : Members). IsWrittenAs to (bare ms) text) same v.written) w.written)
+    (v.counted ∙ ap sampled same ∙ sym w.counted, one_form to None (bare w.out) text other (bare_exact w.out) (subst (λ (ms : Members). IsWrittenAs to None (bare ms) text) same v.written) w.written)
 
 -- a region has one clearance to tell
 one_told : (o : Overlay) (r : ℕ) (first second : Option ℕ) → IsClearanceTold o r first → IsClearanceTold o r second → first ≡ second
@@ -150,43 +150,43 @@ one_locating members file o p text other v w =
 -- ---- properties and ids that are kept
 
 -- what is read of text has no float
-text_exact : (name input : List ℕ) (r : Reading) → is_json name ≡ false → IsRead name input r → HasNoFloat r
-text_exact name input r is_text reads =
-    let read = subst (λ (json : Bool). IsReadBy json input r) is_text reads in
+text_exact : (name : List ℕ) (scale : Option ℕ) (input : List ℕ) (r : Reading) → is_json name ≡ false → IsRead name scale input r → HasNoFloat r
+text_exact name scale input r is_text reads =
+    let read = subst (λ (json : Bool). IsReadBy json scale input r) is_text reads in
     subst HasNoFloat (sym read.is_bare) (bare_exact r.members)
 
 -- properties and ids of GeoJSON that are not kept as GeoJSON
-exact_by : (from to input : List ℕ) (r : Reading) (first second : Bool) → is_json from ≡ first → is_json to ≡ second → IsRead from input r → (first && second) ≡ false → IsExactAs to r
-exact_by from to input r false second is_from is_to reads not = inr (text_exact from input r is_from reads)
-exact_by from to input r true false is_from is_to reads not = inl is_to
-exact_by from to input r true true is_from is_to reads not = absurd (cc)
+exact_by : (scale : Option ℕ) (from to input : List ℕ) (r : Reading) (first second : Bool) → is_json from ≡ first → is_json to ≡ second → IsRead from scale input r → (first && second) ≡ false → IsExactAs to r
+exact_by scale from to input r false second is_from is_to reads not = inr (text_exact from scale input r is_from reads)
+exact_by scale from to input r true false is_from is_to reads not = inl is_to
+exact_by scale from to input r true true is_from is_to reads not = absurd (cc)
 
 -- where all bytes are determined, so are those of the features
-exact_as : (s : State) (from to input : List ℕ) (r : Reading) → Holds s from input → IsRead from input r → ((is_json from && is_json to) ≡ false) ⊎ All (HoldsNoFloat s) (from ∷ []) → IsExactAs to r
-exact_as s from to input r holds reads (inl not) = exact_by from to input r (is_json from) (is_json to) refl refl reads not
-exact_as s from to input r holds reads (inr all) = inr (All-head (HoldsNoFloat s) from [] all input r holds.file reads)
+exact_as : (s : State) (scale : Option ℕ) (from to input : List ℕ) (r : Reading) → Holds s from input → IsRead from scale input r → ((is_json from && is_json to) ≡ false) ⊎ All (HoldsNoFloat s scale) (from ∷ []) → IsExactAs to r
+exact_as s scale from to input r holds reads (inl not) = exact_by scale from to input r (is_json from) (is_json to) refl refl reads not
+exact_as s scale from to input r holds reads (inr all) = inr (All-head (HoldsNoFloat s scale) from [] all input r holds.file reads)
 
 -- ---- what is made of inputs
 
 -- what follows for one reading, follows for an input that is read as one
-of_reading : (name : List ℕ) (P Q : Reading → Type 0) (C : Type 0) (input : List ℕ) → ((r : Reading) → AllInRange r.members → IsRead name input r → P r → Q r → C)
-    → length input ≤ LONGEST_INPUT → IsReadAnd name input P → IsReadAnd name input Q → C
-of_reading name P Q C input follows within first second =
-    let same : first.reading ≡ second.reading = one_reading name input first.reading second.reading first.reads second.reads in
-    let formed = read_formed name input second.reading within second.reads in
+of_reading : (name : List ℕ) (scale : Option ℕ) (P Q : Reading → Type 0) (C : Type 0) (input : List ℕ) → ((r : Reading) → AllInRange r.members → IsRead name scale input r → P r → Q r → C)
+    → length input ≤ LONGEST_INPUT → IsReadAnd name scale input P → IsReadAnd name scale input Q → C
+of_reading name scale P Q C input follows within first second =
+    let same : first.reading ≡ second.reading = one_reading name scale input first.reading second.reading first.reads second.reads in
+    let formed = read_formed name scale input second.reading within second.reads in
     follows second.reading formed.in_range second.reads (subst P same first.holds) second.holds
 
 -- what follows for one input, follows for the inputs where there is one
-of_inputs : (s : State) (name : List ℕ) (inputs : List (List ℕ)) (P Q : Reading → Type 0) (C : Type 0) → ((input : List ℕ) (r : Reading) → Holds s name input → AllInRange r.members → IsRead name input r → P r → Q r → C)
-    → AreInputs s (name ∷ []) inputs → IsOneAnd inputs (λ input. IsReadAnd name input P) → IsOneAnd inputs (λ input. IsReadAnd name input Q) → C
-of_inputs s name [] P Q C follows are first second = absurd first
-of_inputs s name (input ∷ []) P Q C follows are first second = of_reading name P Q C input (λ r. follows input r are.0) are.0.within first second
-of_inputs s name (input ∷ more ∷ rest) P Q C follows are first second = absurd first
+of_inputs : (s : State) (name : List ℕ) (scale : Option ℕ) (inputs : List (List ℕ)) (P Q : Reading → Type 0) (C : Type 0) → ((input : List ℕ) (r : Reading) → Holds s name input → AllInRange r.members → IsRead name scale input r → P r → Q r → C)
+    → AreInputs s (name ∷ []) inputs → IsOneAnd inputs (λ input. IsReadAnd name scale input P) → IsOneAnd inputs (λ input. IsReadAnd name scale input Q) → C
+of_inputs s name scale [] P Q C follows are first second = absurd first
+of_inputs s name scale (input ∷ []) P Q C follows are first second = of_reading name scale P Q C input (λ r. follows input r are.0) are.0.within first second
+of_inputs s name scale (input ∷ more ∷ rest) P Q C follows are first second = absurd first
 
 -- an input and a points file give one text
-one_located : (name input file : List ℕ) (o p : Outcome) (text other : List ℕ) → IsReadAnd name input (λ r. IsLocating r.members file o text) → IsReadAnd name input (λ r. IsLocating r.members file p other) → (o ≡ p) × (text ≡ other)
+one_located : (name input file : List ℕ) (o p : Outcome) (text other : List ℕ) → IsReadAnd name None input (λ r. IsLocating r.members file o text) → IsReadAnd name None input (λ r. IsLocating r.members file p other) → (o ≡ p) × (text ≡ other)
 one_located name input file o p text other first second =
-    let same : first.reading ≡ second.reading = one_reading name input first.reading second.reading first.reads second.reads in
+    let same : first.reading ≡ second.reading = one_reading name None input first.reading second.reading first.reads second.reads in
     one_locating second.reading.members file o p text other (subst (λ (r : Reading). IsLocating r.members file o text) same first.holds) second.holds
 
 -- one success, and one text where it is determined
@@ -195,23 +195,23 @@ IsOne operation s o p text other = (o ≡ p) × (HasOneText operation s → text
 
 one_made : (operation : Operation) (s : State) (inputs : List (List ℕ)) (o p : Outcome) (text other : List ℕ) → AreInputs s (inputs_of operation) inputs
     → Makes operation inputs o text → Makes operation inputs p other → IsOne operation s o p text other
-one_made (Validate gap from to) s inputs o p text other =
-    of_inputs s from inputs (λ r. IsValidation gap r.members o text) (λ r. IsValidation gap r.members p other) (IsOne (Validate gap from to) s o p text other)
-    (λ input r holds in_range reads v w. (let one = one_validation gap r.members o p text other v w in (one.0, λ determined. one.1)))
-one_made (Clean rule gap from to) s inputs o p text other =
-    of_inputs s from inputs (λ r. IsCleaning rule gap to r o text) (λ r. IsCleaning rule gap to r p other) (IsOne (Clean rule gap from to) s o p text other)
-    (λ input r holds in_range reads v w. (let one = one_cleaning rule gap to r o p text other in_range v w in (one.0, λ determined. one.1 (exact_as s from to input r holds reads determined))))
-one_made (Simplify tolerance inner from to) s inputs o p text other =
-    of_inputs s from inputs (λ r. IsSimplifying tolerance inner to r o text) (λ r. IsSimplifying tolerance inner to r p other) (IsOne (Simplify tolerance inner from to) s o p text other)
-    (λ input r holds in_range reads v w. (let one = one_simplifying tolerance inner to r o p text other v w in (one.0, λ determined. one.1 (exact_as s from to input r holds reads determined))))
-one_made (Union from to) s inputs o p text other =
-    of_inputs s from inputs (λ r. IsUniting to r.members o text) (λ r. IsUniting to r.members p other) (IsOne (Union from to) s o p text other)
-    (λ input r holds in_range reads v w. (let one = one_uniting to r.members o p text other in_range v w in (one.0, λ determined. one.1)))
-one_made (Node from to) s inputs o p text other =
-    of_inputs s from inputs (λ r. IsNoding r.members o text) (λ r. IsNoding r.members p other) (IsOne (Node from to) s o p text other)
-    (λ input r holds in_range reads v w. (let one = one_node r.members o p text other in_range v w in (one.0, λ determined. one.1)))
-one_made (Regions from to) s inputs o p text other =
-    of_inputs s from inputs (λ r. IsRegionList r.members o text) (λ r. IsRegionList r.members p other) (IsOne (Regions from to) s o p text other)
+one_made (Validate gap scale from to) s inputs o p text other =
+    of_inputs s from scale inputs (λ r. IsValidation gap scale r.members o text) (λ r. IsValidation gap scale r.members p other) (IsOne (Validate gap scale from to) s o p text other)
+    (λ input r holds in_range reads v w. (let one = one_validation gap scale r.members o p text other v w in (one.0, λ determined. one.1)))
+one_made (Clean rule gap scale from to) s inputs o p text other =
+    of_inputs s from scale inputs (λ r. IsCleaning rule gap scale to r o text) (λ r. IsCleaning rule gap scale to r p other) (IsOne (Clean rule gap scale from to) s o p text other)
+    (λ input r holds in_range reads v w. (let one = one_cleaning rule gap scale to r o p text other in_range v w in (one.0, λ determined. one.1 (exact_as s scale from to input r holds reads determined))))
+one_made (Simplify tolerance inner scale from to) s inputs o p text other =
+    of_inputs s from scale inputs (λ r. IsSimplifying tolerance inner scale to r o text) (λ r. IsSimplifying tolerance inner scale to r p other) (IsOne (Simplify tolerance inner scale from to) s o p text other)
+    (λ input r holds in_range reads v w. (let one = one_simplifying tolerance inner scale to r o p text other v w in (one.0, λ determined. one.1 (exact_as s scale from to input r holds reads determined))))
+one_made (Union scale from to) s inputs o p text other =
+    of_inputs s from scale inputs (λ r. IsUniting scale to r.members o text) (λ r. IsUniting scale to r.members p other) (IsOne (Union scale from to) s o p text other)
+    (λ input r holds in_range reads v w. (let one = one_uniting scale to r.members o p text other in_range v w in (one.0, λ determined. one.1)))
+one_made (Node scale from to) s inputs o p text other =
+    of_inputs s from scale inputs (λ r. IsNoding scale r.members o text) (λ r. IsNoding scale r.members p other) (IsOne (Node scale from to) s o p text other)
+    (λ input r holds in_range reads v w. (let one = one_node scale r.members o p text other in_range v w in (one.0, λ determined. one.1)))
+one_made (Regions scale from to) s inputs o p text other =
+    of_inputs s from scale inputs (λ r. IsRegionList r.members o text) (λ r. IsRegionList r.members p other) (IsOne (Regions scale from to) s o p text other)
     (λ input r holds in_range reads v w. (let one = one_region_list r.members o p text other in_range v w in (one.0, λ determined. one.1)))
 one_made (Sample side seed to) s inputs o p text other = λ read v w. (let one = one_sampling side seed to o p text other v w in (one.0, λ determined. one.1))
 one_made (Locate from points to) s inputs o p text other =

@@ -1,5 +1,5 @@
 -- When the answers of `cover` come, and what they leave.
-use Rattle.std.specs.Prelude.{◌≡◌, ◌≢◌, ℕ, ◌≤◌, Bool, true, false, ◌&&◌, List, length, Some, IsTrue, ◌⊎◌, All, Any}
+use Rattle.std.specs.Prelude.{◌≡◌, ◌≢◌, ℕ, ◌≤◌, Bool, true, false, ◌&&◌, List, length, Option, Some, IsTrue, ◌⊎◌, All, Any}
 use Rattle.cov_io.specs.Calls.{IsPromised}
 use Rattle.cov_io.specs.Contents.{SameFiles, HoldsNow, HoldsPrefix}
 use Rattle.cov_io.specs.Count.{Rose}
@@ -8,15 +8,15 @@ use Rattle.cover_cli.specs.declared.outcome.Outcome.{Outcome}
 use Rattle.cover_cli.specs.declared.outcome.Outcome.TheVariants.{Done, Marked, Usage, ReadFault, WriteFault, TooLong, BadText, BadJson, BadPoints, NotValid, NoMemory, Sampled}
 use Rattle.cover_cli.specs.Input.{HoldsTooMuch, AreInputs}
 use Rattle.cover_cli.specs.Made.{Makes, Refuses}
-use Rattle.cover_words.specs.Words.{Operation, Validate, Clean, Simplify, Sample, inputs_of, output_of}
+use Rattle.cover_words.specs.Words.{Operation, Validate, Clean, Simplify, Sample, inputs_of, output_of, scale_of}
 use Rattle.feature_files.specs.Form.{HasNoFloat}
-use Rattle.feature_files.specs.Name.{is_json}
+use Rattle.file_form.specs.Name.{is_json}
 use Rattle.feature_files.specs.Reading.{IsRead}
 use Rattle.geo_json.specs.Reading.{Reading}
 
 -- whether the operation looks for segments at fault
 abbrev pub is_validate : Operation → Bool
-is_validate (Validate gap from to) = true
+is_validate (Validate gap scale from to) = true
 is_validate _ = false
 
 -- whether the operation makes a coverage of its own
@@ -66,17 +66,17 @@ pub record MayWrite (operation : Operation) (s : State) (outcome : Outcome) (tex
 
 -- the operation writes the properties and ids that it read: clean and simplify, from GeoJSON to GeoJSON
 abbrev pub keeps_properties : Operation → Bool
-keeps_properties (Clean rule gap from to) = is_json from && is_json to
-keeps_properties (Simplify tolerance inner from to) = is_json from && is_json to
+keeps_properties (Clean rule gap scale from to) = is_json from && is_json to
+keeps_properties (Simplify tolerance inner scale from to) = is_json from && is_json to
 keeps_properties _ = false
 
--- no property and no id that is read of this file has a number that serde_json holds as a float
-abbrev pub HoldsNoFloat : State → List ℕ → Type 0
-HoldsNoFloat s name = (input : List ℕ) (r : Reading) → s.files name ≡ Some input → IsRead name input r → HasNoFloat r
+-- no property and no id that is read of this file at the scale has a number that serde_json holds as a float
+abbrev pub HoldsNoFloat : State → Option ℕ → List ℕ → Type 0
+HoldsNoFloat s scale name = (input : List ℕ) (r : Reading) → s.files name ≡ Some input → IsRead name scale input r → HasNoFloat r
 
 -- each byte that the operation may write is determined: it writes no properties and ids that it read, or they have no float
 abbrev pub HasOneText : Operation → State → Type 0
-HasOneText operation s = (keeps_properties operation ≡ false) ⊎ All (HoldsNoFloat s) (inputs_of operation)
+HasOneText operation s = (keeps_properties operation ≡ false) ⊎ All (HoldsNoFloat s (scale_of operation)) (inputs_of operation)
 
 -- no other success may be answered on what the files hold, and no other text written but for the digits of floats
 abbrev pub IsOnlyText : Operation → State → Outcome → List ℕ → Type 0

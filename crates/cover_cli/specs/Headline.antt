@@ -1,5 +1,5 @@
 -- The headline: for every file in the grammar and range clean writes a valid coverage, and each point lies in the member that the definitions say.
-use Rattle.std.specs.Prelude.{◌≡◌, ◌⊎◌, ℕ, ◌≤◌, List, length, Some, IsTrue}
+use Rattle.std.specs.Prelude.{◌≡◌, ◌⊎◌, ℕ, ◌≤◌, List, length, Option, Some, IsTrue}
 use Rattle.cov_types.specs.declared.seg.Seg.{Seg}
 use Rattle.cov_types.specs.Coverage.{Members, IsFormed}
 use Rattle.cov_types.specs.Uses.{uses_of}
@@ -25,12 +25,12 @@ use Rattle.cover_cli.specs.Clean.{rule_of}
 use Rattle.geo_text.specs.declared.reader.TheConstants.{LONGEST_INPUT}
 use Rattle.cover_words.specs.Words.{Clean}
 
--- the text is the written form, by the name of the output, of a valid coverage with the properties and ids that were read, the members cleaned by the rule at the gap width: each point off the noded edges lies in the one snapped
+-- the text is the written form, by the name of the output and at the scale, of a valid coverage with the properties and ids that were read, the members cleaned by the rule at the gap width: each point off the noded edges lies in the one snapped
 -- member that holds it, where several do in the one that the rule picks, and where none does in none or, within a narrow gap, in the neighbour of
 -- longest border
-pub record IsCleanText (rule : RuleName) (gap : ℕ) (to : List ℕ) (r : Reading) (text : List ℕ) : Type 0 where
+pub record IsCleanText (rule : RuleName) (gap : ℕ) (scale : Option ℕ) (to : List ℕ) (r : Reading) (text : List ℕ) : Type 0 where
   pub out : Members
-  pub written : IsWrittenAs to (with_members r out) text
+  pub written : IsWrittenAs to scale (with_members r out) text
   pub formed : IsFormed out
   pub valid : IsValid (uses_of out)
   pub cleaned : IsCleaned r.members (rule_of rule) no_state gap out
@@ -38,17 +38,18 @@ pub record IsCleanText (rule : RuleName) (gap : ℕ) (to : List ℕ) (r : Readin
       → IsHeldByLabel (rule_of rule) no_state cleaned.overlay gap out (label_at noded.snapped (length r.members) p) p
 
 -- the output is a clean text, and every other file is as it was
-pub record HoldsCleanText (rule : RuleName) (gap : ℕ) (r : Reading) (to : List ℕ) (old new : State) : Type 0 where
+pub record HoldsCleanText (rule : RuleName) (gap : ℕ) (scale : Option ℕ) (r : Reading) (to : List ℕ) (old new : State) : Type 0 where
   pub text : List ℕ
-  pub is_clean : IsCleanText rule gap to r text
+  pub is_clean : IsCleanText rule gap scale to r text
   pub held : HoldsNow to text old.files new.files
 
 -- a call on a file failed, or memory ran out
 abbrev pub IsFileFault : Outcome → Type 0
 IsFileFault answer = (answer ≡ ReadFault) ⊎ ((answer ≡ WriteFault) ⊎ (answer ≡ NoMemory))
 
--- for every file in the grammar and range of its name clean is done and the output is a clean text, want of memory and faults of files aside
+-- for every file in the grammar and range of its name, at the scale of the words, clean is done and the output is a clean text at that scale,
+-- want of memory and faults of files aside
 abbrev pub HeadlineLaw : Type 0
-HeadlineLaw = (rule : RuleName) (gap : ℕ) (from to input : List ℕ) (r : Reading) (old new : State) (answer : Outcome) → IsTrue old.tells_files
-    → old.files from ≡ Some input → length input ≤ LONGEST_INPUT → IsRead from input r
-    → IsAnswer (Clean rule gap from to) old new answer → ((answer ≡ Done) × HoldsCleanText rule gap r to old new) ⊎ IsFileFault answer
+HeadlineLaw = (rule : RuleName) (gap : ℕ) (scale : Option ℕ) (from to input : List ℕ) (r : Reading) (old new : State) (answer : Outcome) → IsTrue old.tells_files
+    → old.files from ≡ Some input → length input ≤ LONGEST_INPUT → IsRead from scale input r
+    → IsAnswer (Clean rule gap scale from to) old new answer → ((answer ≡ Done) × HoldsCleanText rule gap scale r to old new) ⊎ IsFileFault answer

@@ -1,5 +1,5 @@
 -- When an operation on valid coverages refuses its input.
-use Rattle.std.specs.Prelude.{◌⊎◌, ℕ, List}
+use Rattle.std.specs.Prelude.{◌⊎◌, ℕ, List, Option}
 use Rattle.cov_types.specs.Coverage.{Members}
 use Rattle.cov_types.specs.Uses.{uses_of}
 use Rattle.plane.specs.Validity.{IsValid}
@@ -13,6 +13,6 @@ abbrev pub TellsMark : Members → Outcome → Type 0
 TellsMark members (NotValid mark) = IsFirstMark members mark × ¬ IsValid (uses_of members)
 TellsMark members outcome = ⊥
 
--- the input of this name has a fault, or it is read as a coverage that is not valid
-abbrev pub RefusesInvalid : List ℕ → List ℕ → Outcome → Type 0
-RefusesInvalid name input outcome = RefusesInput name input outcome ⊎ IsReadAnd name input (λ r. TellsMark r.members outcome)
+-- the input of this name has a fault at the scale, or it is read as a coverage that is not valid
+abbrev pub RefusesInvalid : List ℕ → Option ℕ → List ℕ → Outcome → Type 0
+RefusesInvalid name scale input outcome = RefusesInput name scale input outcome ⊎ IsReadAnd name scale input (λ r. TellsMark r.members outcome)

@@ -1,5 +1,5 @@
 -- What locating points in a coverage answers and writes.
-use Rattle.std.specs.Prelude.{◌≡◌, ◌⊎◌, ℕ, List, flat_map}
+use Rattle.std.specs.Prelude.{◌≡◌, ◌⊎◌, ℕ, List, None, flat_map}
 use Rattle.std.specs.List.{AllZip}
 use Rattle.cov_locate.specs.Points.{ArePoints, IsFaultOf}
 use Rattle.cov_locate.specs.Where.{IsWhere}
@@ -39,6 +39,6 @@ abbrev pub TellsPointsFault : List ℕ → Outcome → Type 0
 TellsPointsFault file (BadPoints fault) = IsFaultOf file (Fault fault)
 TellsPointsFault file outcome = ⊥
 
--- the input of this name has a fault; or it has none, and the points file has one
+-- the input of this name has a fault, without a scale; or it has none, and the points file has one
 abbrev pub RefusesPoints : List ℕ → List ℕ → List ℕ → Outcome → Type 0
-RefusesPoints name input file outcome = RefusesInput name input outcome ⊎ IsReadAnd name input (λ r. TellsPointsFault file outcome)
+RefusesPoints name input file outcome = RefusesInput name None input outcome ⊎ IsReadAnd name None input (λ r. TellsPointsFault file outcome)

@@ -1,5 +1,5 @@
 -- The promise of locate: each point is on an edge, else in the least member that holds it, else in none.
-use Rattle.std.specs.Prelude.{◌≡◌, ◌⊎◌, ℕ, List, IsTrue}
+use Rattle.std.specs.Prelude.{◌≡◌, ◌⊎◌, ℕ, List, None, IsTrue}
 use Rattle.cov_io.specs.Contents.{HoldsNow}
 use Rattle.cov_io.specs.State.{State}
 use Rattle.cov_locate.specs.Points.{ArePoints}
@@ -25,5 +25,5 @@ pub record HoldsPlaces (r : Reading) (list : List Coord) (to : List ℕ) (old ne
 -- point lies, want of memory and faults of files aside
 abbrev pub LocateLaw : Type 0
 LocateLaw = (from points to input file : List ℕ) (r : Reading) (list : List Coord) (old new : State) (answer : Outcome) → IsTrue old.tells_files
-    → Holds old from input → IsRead from input r → Holds old points file → ArePoints file list
+    → Holds old from input → IsRead from None input r → Holds old points file → ArePoints file list
     → IsAnswer (Locate from points to) old new answer → ((answer ≡ Done) × HoldsPlaces r list to old new) ⊎ IsFileFault answer

@@ -1,5 +1,5 @@
 -- What an operation makes of the inputs that it read.
-use Rattle.std.specs.Prelude.{ℕ, List, [], ◌∷◌}
+use Rattle.std.specs.Prelude.{ℕ, List, [], ◌∷◌, None}
 use Rattle.cover_cli.specs.Clean.{IsCleaning}
 use Rattle.cover_cli.specs.Locate.{IsLocating, RefusesPoints}
 use Rattle.cover_cli.specs.Node.{IsNoding}
@@ -28,22 +28,22 @@ IsTwoAnd (first ∷ second ∷ more ∷ rest) P = ⊥
 
 -- of these inputs the operation makes this text, and answers this success once it is written
 abbrev pub Makes : Operation → List (List ℕ) → Outcome → List ℕ → Type 0
-Makes (Validate gap from to) inputs outcome text = IsOneAnd inputs (λ input. IsReadAnd from input (λ r. IsValidation gap r.members outcome text))
-Makes (Clean rule gap from to) inputs outcome text = IsOneAnd inputs (λ input. IsReadAnd from input (λ r. IsCleaning rule gap to r outcome text))
-Makes (Simplify tolerance inner from to) inputs outcome text = IsOneAnd inputs (λ input. IsReadAnd from input (λ r. IsSimplifying tolerance inner to r outcome text))
-Makes (Union from to) inputs outcome text = IsOneAnd inputs (λ input. IsReadAnd from input (λ r. IsUniting to r.members outcome text))
-Makes (Node from to) inputs outcome text = IsOneAnd inputs (λ input. IsReadAnd from input (λ r. IsNoding r.members outcome text))
-Makes (Regions from to) inputs outcome text = IsOneAnd inputs (λ input. IsReadAnd from input (λ r. IsRegionList r.members outcome text))
+Makes (Validate gap scale from to) inputs outcome text = IsOneAnd inputs (λ input. IsReadAnd from scale input (λ r. IsValidation gap scale r.members outcome text))
+Makes (Clean rule gap scale from to) inputs outcome text = IsOneAnd inputs (λ input. IsReadAnd from scale input (λ r. IsCleaning rule gap scale to r outcome text))
+Makes (Simplify tolerance inner scale from to) inputs outcome text = IsOneAnd inputs (λ input. IsReadAnd from scale input (λ r. IsSimplifying tolerance inner scale to r outcome text))
+Makes (Union scale from to) inputs outcome text = IsOneAnd inputs (λ input. IsReadAnd from scale input (λ r. IsUniting scale to r.members outcome text))
+Makes (Node scale from to) inputs outcome text = IsOneAnd inputs (λ input. IsReadAnd from scale input (λ r. IsNoding scale r.members outcome text))
+Makes (Regions scale from to) inputs outcome text = IsOneAnd inputs (λ input. IsReadAnd from scale input (λ r. IsRegionList r.members outcome text))
 Makes (Sample side seed to) inputs outcome text = IsSampling side seed to outcome text
-Makes (Locate from points to) inputs outcome text = IsTwoAnd inputs (λ input file. IsReadAnd from input (λ r. IsLocating r.members file outcome text))
+Makes (Locate from points to) inputs outcome text = IsTwoAnd inputs (λ input file. IsReadAnd from None input (λ r. IsLocating r.members file outcome text))
 
 -- these inputs are a cause for the operation to refuse them with this outcome
 abbrev pub Refuses : Operation → List (List ℕ) → Outcome → Type 0
-Refuses (Validate gap from to) inputs outcome = IsOneAnd inputs (λ input. RefusesInput from input outcome)
-Refuses (Clean rule gap from to) inputs outcome = IsOneAnd inputs (λ input. RefusesInput from input outcome)
-Refuses (Simplify tolerance inner from to) inputs outcome = IsOneAnd inputs (λ input. RefusesInvalid from input outcome)
-Refuses (Union from to) inputs outcome = IsOneAnd inputs (λ input. RefusesInvalid from input outcome)
-Refuses (Node from to) inputs outcome = IsOneAnd inputs (λ input. RefusesInput from input outcome)
-Refuses (Regions from to) inputs outcome = IsOneAnd inputs (λ input. RefusesInput from input outcome)
+Refuses (Validate gap scale from to) inputs outcome = IsOneAnd inputs (λ input. RefusesInput from scale input outcome)
+Refuses (Clean rule gap scale from to) inputs outcome = IsOneAnd inputs (λ input. RefusesInput from scale input outcome)
+Refuses (Simplify tolerance inner scale from to) inputs outcome = IsOneAnd inputs (λ input. RefusesInvalid from scale input outcome)
+Refuses (Union scale from to) inputs outcome = IsOneAnd inputs (λ input. RefusesInvalid from scale input outcome)
+Refuses (Node scale from to) inputs outcome = IsOneAnd inputs (λ input. RefusesInput from scale input outcome)
+Refuses (Regions scale from to) inputs outcome = IsOneAnd inputs (λ input. RefusesInput from scale input outcome)
 Refuses (Sample side seed to) inputs outcome = ⊥
 Refuses (Locate from points to) inputs outcome = IsTwoAnd inputs (λ input file. RefusesPoints from input file outcome)

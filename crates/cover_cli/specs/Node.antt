@@ -1,5 +1,5 @@
 -- What noding a coverage answers and writes.
-use Rattle.std.specs.Prelude.{◌≡◌, ℕ, List, ◌∷◌, None}
+use Rattle.std.specs.Prelude.{◌≡◌, ℕ, List, ◌∷◌, Option}
 use Rattle.arrangement.specs.Noding.{IsNoded, odd_uses}
 use Rattle.arrangement.specs.declared.odd_use.OddUse.{OddUse}
 use Rattle.cov_types.specs.declared.coord.Coord.{Coord}
@@ -10,10 +10,10 @@ use Rattle.cover_cli.specs.Lines.{member_lists}
 use Rattle.cover_cli.specs.declared.outcome.Outcome.{Outcome}
 use Rattle.cover_cli.specs.declared.outcome.Outcome.TheVariants.{Done}
 
--- it is done, and the text lists all noded edges of the coverage and then for each member its odd edges
-pub record IsNoding (members : List (List (List (List Coord)))) (outcome : Outcome) (text : List ℕ) : Type 0 where
+-- it is done, and the text lists all noded edges of the coverage and then for each member its odd edges, at the scale
+pub record IsNoding (scale : Option ℕ) (members : List (List (List (List Coord)))) (outcome : Outcome) (text : List ℕ) : Type 0 where
   pub done : outcome ≡ Done
   pub edges : List Seg
   pub odd : List OddUse
   pub noded : IsNoded (uses_of members) edges odd
-  pub lines : text ≡ lines_text None (edges ∷ member_lists (odd_uses edges odd) members)
+  pub lines : text ≡ lines_text scale (edges ∷ member_lists (odd_uses edges odd) members)

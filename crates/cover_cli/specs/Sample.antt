@@ -1,5 +1,5 @@
 -- What a sample answers and writes.
-use Rattle.std.specs.Prelude.{◌≡◌, ℕ, List, length, sum_by}
+use Rattle.std.specs.Prelude.{◌≡◌, ℕ, List, None, length, sum_by}
 use Rattle.cov_types.specs.Coverage.{Members, IsFormed}
 use Rattle.cov_types.specs.declared.coord.Coord.{Coord}
 use Rattle.feature_files.specs.Form.{IsWrittenAs}
@@ -48,4 +48,4 @@ pub record IsSampling (side seed : ℕ) (to : List ℕ) (outcome : Outcome) (tex
   pub sample : IsSample side seed out
   pub formed : IsFormed out
   pub counted : outcome ≡ sampled out
-  pub written : IsWrittenAs to (bare out) text
+  pub written : IsWrittenAs to None (bare out) text

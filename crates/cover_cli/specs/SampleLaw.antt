@@ -1,5 +1,5 @@
 -- What `cover sample` leaves: the output holds the sample, and the answer has its counts.
-use Rattle.std.specs.Prelude.{◌≡◌, ◌⊎◌, ℕ, ◌*◌, List, length, IsTrue}
+use Rattle.std.specs.Prelude.{◌≡◌, ◌⊎◌, ℕ, ◌*◌, List, None, length, IsTrue}
 use Rattle.cov_io.specs.Contents.{HoldsNow}
 use Rattle.cov_io.specs.Count.{Rose}
 use Rattle.cov_io.specs.State.{State}
@@ -24,7 +24,7 @@ pub record HoldsSample (side seed : ℕ) (to : List ℕ) (old new : State) (answ
   pub members : length out ≡ side * side
   pub counted : answer ≡ sampled out
   pub text : List ℕ
-  pub written : IsWrittenAs to (bare out) text
+  pub written : IsWrittenAs to None (bare out) text
   pub held : HoldsNow to text old.files new.files
 
 -- a sample is written and counted, unless a write fault was counted or memory ran out: it reads no file

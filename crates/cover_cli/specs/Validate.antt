@@ -1,5 +1,5 @@
 -- What validating a coverage answers and writes.
-use Rattle.std.specs.Prelude.{◌≡◌, ℕ, zero, suc, List, length, None}
+use Rattle.std.specs.Prelude.{◌≡◌, ℕ, zero, suc, List, length, Option}
 use Rattle.cov_types.specs.declared.coord.Coord.{Coord}
 use Rattle.cov_types.specs.Uses.{uses_of}
 use Rattle.cov_valid.specs.declared.mark.Mark.{Mark}
@@ -14,9 +14,9 @@ abbrev pub marking : ℕ → Outcome
 marking zero = Done
 marking (suc edges) = Marked (suc edges)
 
--- the outcome tells how many segments of the coverage are marked at the gap width, and the text lists them for each member
-pub record IsValidation (gap : ℕ) (members : List (List (List (List Coord)))) (outcome : Outcome) (text : List ℕ) : Type 0 where
+-- the outcome tells how many segments of the coverage are marked at the gap width, and the text lists them for each member, at the scale
+pub record IsValidation (gap : ℕ) (scale : Option ℕ) (members : List (List (List (List Coord)))) (outcome : Outcome) (text : List ℕ) : Type 0 where
   pub marks : List Mark
   pub marked : AreMarks (uses_of members) (length members) gap marks
   pub counted : outcome ≡ marking (length marks)
-  pub lines : text ≡ lines_text None (member_lists (marked_uses (uses_of members) marks) members)
+  pub lines : text ≡ lines_text scale (member_lists (marked_uses (uses_of members) marks) members)

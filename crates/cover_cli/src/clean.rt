@@ -4,6 +4,7 @@ ghost use Rattle.merge_rule.specs.RuleState.{no_state};
 ghost use Rattle.sound_polygons.specs.Cleaned.{IsCleaned};
 ghost use Rattle.cover_cli.specs.Clean.{rule_of, IsCleaning};
 ghost use Rattle.geo_json.specs.Reading.{held};
+ghost use Rattle.geo_text.specs.Decimal.{IsScale};
 ghost use Rattle.geo_text.specs.declared.reader.TheConstants.{LONGEST_INPUT};
 ghost use Rattle.cover_cli.specs.Refusal.{IsRefusedFor};
 ghost use Rattle.cover_cli.specs.Text.{IsReadAnd, RefusesInput};
@@ -34,17 +35,19 @@ pub fn cleaned(alloc: Global, c: &Coverage, rule: RuleName, gap: u32) -> Result<
     }
 }
 
-// The text of the cleaned features, for an output of this name.
+// The text of the cleaned features, for an output of this name, at the scale.
 fn cleaning(
     alloc: Global,
     f: Features,
     rule: RuleName,
     gap: u32,
+    scale: Option<u8>,
     to: &str,
 ) -> Result<Made, NoMemory>
     requires in_range { AllInRange f.coverage }
     requires gap { gap ≤ 2 ^ 30 }
-    ensures { IfOk result (λ made. IsCleaning rule gap to.now (held f) made.outcome made.text.items) }
+    requires scale { IsScale scale }
+    ensures { IfOk result (λ made. IsCleaning rule gap scale to.now (held f) made.outcome made.text.items) }
 {
     let coverage = cleaned(alloc, &f.coverage, rule, gap)?;
     let features = Features {
@@ -52,7 +55,7 @@ fn cleaning(
         properties: f.properties,
         ids: f.ids,
     };
-    let text = text_for(alloc, to, &features)?;
+    let text = text_for(alloc, to, scale, &features)?;
     Ok(Made {
         outcome: Outcome::Done,
         text,
@@ -60,21 +63,23 @@ fn cleaning(
 }
 
 /// Cleans the features that the input is read as, by the rule of the name at the gap width, in grid units. The names of the
-/// input and of the output say which of the two is GeoJSON.
+/// input and of the output say which of the two is GeoJSON; the numbers of text are read and written at the scale.
 pub fn make(
     alloc: Global,
     rule: RuleName,
     gap: u32,
+    scale: Option<u8>,
     from: &str,
     to: &str,
     input: Vec<u8>,
 ) -> Result<Made, Outcome>
     requires length { length input.items ≤ LONGEST_INPUT }
     requires gap { gap ≤ 2 ^ 30 }
+    requires scale { IsScale scale }
     ensures made { IfOk result (λ made.
-        IsReadAnd from.now input.items (λ r. IsCleaning rule gap to.now r made.outcome made.text.items)) }
-    ensures refused { IfErr result (IsRefusedFor (RefusesInput from.now input.items)) }
+        IsReadAnd from.now scale input.items (λ r. IsCleaning rule gap scale to.now r made.outcome made.text.items)) }
+    ensures refused { IfErr result (IsRefusedFor (RefusesInput from.now scale input.items)) }
 {
-    let features = features_of(alloc, from, input)?;
-    Ok(cleaning(alloc, features, rule, gap, to)?)
+    let features = features_of(alloc, from, scale, input)?;
+    Ok(cleaning(alloc, features, rule, gap, scale, to)?)
 }

@@ -1,4 +1,4 @@
-ghost use Rattle.std.specs.Prelude.{◌≡◌, ◌≤◌, ◌++◌, All, length, IfOk, IfErr, OnOk};
+ghost use Rattle.std.specs.Prelude.{◌≡◌, ◌≤◌, ◌++◌, All, length, None, IfOk, IfErr, OnOk};
 ghost use Rattle.cov_types.specs.Coverage.{AllInRange};
 ghost use Rattle.cov_types.specs.Range.{IsInRange};
 ghost use Rattle.cov_types.specs.Uses.{uses_of};
@@ -55,10 +55,10 @@ pub fn make(alloc: Global, from: &str, input: Vec<u8>, file: Vec<u8>) -> Result<
     requires input { length input.items ≤ LONGEST_INPUT }
     requires file { length file.items ≤ LONGEST_INPUT }
     ensures made { IfOk result (λ made.
-        IsReadAnd from.now input.items (λ r. IsLocating r.members file.items made.outcome made.text.items)) }
+        IsReadAnd from.now None input.items (λ r. IsLocating r.members file.items made.outcome made.text.items)) }
     ensures refused { IfErr result (IsRefusedFor (RefusesPoints from.now input.items file.items)) }
 {
-    let features = features_of(alloc, from, input)?;
+    let features = features_of(alloc, from, None, input)?;
     let points = read_points(alloc, &file)?;
     Ok(Made {
         outcome: Outcome::Done,

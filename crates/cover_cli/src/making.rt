@@ -28,27 +28,48 @@ pub fn make(alloc: Global, operation: &Operation, mut inputs: Vec<Vec<u8>>) -> R
         (IsRefusedFor (Refuses (named operation.now) (map (λ i. i.items) inputs.items))) }
 {
     match operation {
-        Operation::Validate { gap, from, .. } => validate::make(
-            alloc,
-            *gap,
+        Operation::Validate {
+            gap,
+            scale,
             from,
-            inputs.remove(0),
-        ),
+            ..
+        } => validate::make(alloc, *gap, *scale, from, inputs.remove(0)),
         Operation::Clean {
             rule,
             gap,
+            scale,
             from,
             to,
-        } => clean::make(alloc, *rule, *gap, from, to, inputs.remove(0)),
+        } => clean::make(alloc, *rule, *gap, *scale, from, to, inputs.remove(0)),
         Operation::Simplify {
             tolerance,
             inner,
+            scale,
             from,
             to,
-        } => simplify::make(alloc, *tolerance, *inner, from, to, inputs.remove(0)),
-        Operation::Union { from, to } => union::make(alloc, from, to, inputs.remove(0)),
-        Operation::Node { from, .. } => node::make(alloc, from, inputs.remove(0)),
-        Operation::Regions { from, .. } => regions::make(alloc, from, inputs.remove(0)),
+        } => simplify::make(
+            alloc,
+            *tolerance,
+            *inner,
+            *scale,
+            from,
+            to,
+            inputs.remove(0),
+        ),
+        Operation::Union { scale, from, to } => union::make(
+            alloc,
+            *scale,
+            from,
+            to,
+            inputs.remove(0),
+        ),
+        Operation::Node { scale, from, .. } => node::make(alloc, *scale, from, inputs.remove(0)),
+        Operation::Regions { scale, from, .. } => regions::make(
+            alloc,
+            *scale,
+            from,
+            inputs.remove(0),
+        ),
         Operation::Sample { side, seed, to } => Ok(sample::make(alloc, *side, *seed, to)?),
         Operation::Locate { from, .. } => {
             let file = inputs.remove(1);

@@ -1,6 +1,7 @@
 ghost use Rattle.std.specs.Prelude.{◌≡◌, ◌≤◌, ◌++◌, ℕ, List, length, IfOk, IfErr, OnOk};
 ghost use Rattle.arrangement.specs.Overlay.{Overlay, region_numbers, IsRegion, label_of};
 ghost use Rattle.cov_types.specs.Coverage.{AllInRange};
+ghost use Rattle.geo_text.specs.Decimal.{IsScale};
 ghost use Rattle.geo_text.specs.declared.reader.TheConstants.{LONGEST_INPUT};
 ghost use Rattle.cover_cli.specs.Refusal.{IsRefusedFor};
 ghost use Rattle.cover_cli.specs.Regions.{IsClearanceTold, IsRow, AreRows, IsRegionList};
@@ -97,13 +98,15 @@ fn region_list(alloc: Global, c: &Coverage) -> Result<Made, NoMemory>
     })
 }
 
-/// Lists the regions of the coverage that the input of this name is read as.
-pub fn make(alloc: Global, from: &str, input: Vec<u8>) -> Result<Made, Outcome>
-    requires { length input.items ≤ LONGEST_INPUT }
+/// Lists the regions of the coverage that the input of this name is read as, text at the scale; areas and clearances are in
+/// grid units.
+pub fn make(alloc: Global, scale: Option<u8>, from: &str, input: Vec<u8>) -> Result<Made, Outcome>
+    requires scale { IsScale scale }
+    requires length { length input.items ≤ LONGEST_INPUT }
     ensures made { IfOk result (λ made.
-        IsReadAnd from.now input.items (λ r. IsRegionList r.members made.outcome made.text.items)) }
-    ensures refused { IfErr result (IsRefusedFor (RefusesInput from.now input.items)) }
+        IsReadAnd from.now scale input.items (λ r. IsRegionList r.members made.outcome made.text.items)) }
+    ensures refused { IfErr result (IsRefusedFor (RefusesInput from.now scale input.items)) }
 {
-    let features = features_of(alloc, from, input)?;
+    let features = features_of(alloc, from, scale, input)?;
     Ok(region_list(alloc, &features.coverage)?)
 }

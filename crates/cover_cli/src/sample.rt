@@ -28,6 +28,6 @@ pub fn make(alloc: Global, side: u32, seed: u32, to: &str) -> Result<Made, NoMem
         points: points_of(&coverage)?,
     };
     let features = bare_features(alloc, coverage)?;
-    let text = text_for(alloc, to, &features)?;
+    let text = text_for(alloc, to, None, &features)?;
     Ok(Made { outcome, text })
 }

@@ -1,7 +1,8 @@
 -- The words that a command takes have the values that its operation needs.
-use Rattle.std.proofs.Common.{◌≡◌, ◌∙◌, ◌&&◌, ◌||◌, ◌<◌, ◌≤◌, ◌^◌, pos, ℕ, Bool, cond, codes, true, false, not, refl, ap, sym, subst, arith, List, [], ◌∷◌, length, find, Option, Some, None, is_some, option_and_then, unwrap_or, true≢false}
+use Rattle.std.proofs.Common.{◌≡◌, ◌∙◌, ◌&&◌, ◌||◌, ◌+◌, ◌<◌, ◌≤◌, ◌^◌, pos, ℕ, Bool, cond, codes, true, false, not, refl, ap, sym, subst, arith, lit<, List, [], ◌∷◌, length, find, Option, Some, None, is_some, option_and_then, unwrap_or, true≢false}
 use Rattle.std.specs.Prelude.{⊤, nat_lt}
 use Rattle.std.specs.List.{list_all, list_any}
+use Rattle.std.specs.Option.{option_map_or}
 use Rattle.std.specs.Str.{bytes_eq}
 use Rattle.std.specs.Str.Parse.{ParsesUnsigned, digits_value, without_leading_plus}
 use Rattle.clap.specs.Lexer.{without_minus}
@@ -18,11 +19,11 @@ use Rattle.clap.specs.declared.builder.value_parser.ValueParser.TheVariants as v
 use Rattle.clap.proofs.CallerReads.{signed_reads}
 use Rattle.clap.proofs.ValueTestLemmas.{accepts-Accepts, Accepts-accepts}
 use Rattle.clap.proofs.WalkLemmas.{both}
-use Rattle.cover_words.specs.Accepted.{AcceptedLaw, has_a_rule, is_accepted_by}
+use Rattle.cover_words.specs.Accepted.{AcceptedLaw, has_a_rule, is_accepted_by, suits_files, suits_input}
 use Rattle.cover_words.specs.Commands.{lengths, validate_command, clean_command, simplify_command, union_command, node_command, regions_command, locate_command, sample_command}
-use Rattle.cover_words.specs.Values.{flag_at, number_at, number_of, text_at, truth_of}
+use Rattle.cover_words.specs.Values.{flag_at, number_at, number_up_to, text_at, truth_of}
 use Rattle.cover_words.specs.declared.rule_name.RuleName.{RuleName}
-use Rattle.cover_words.specs.Words.{Operation, Union, Node, Regions, clean_in, clean_with, files_with, locate_in, locate_with, node_in, operation_by, regions_in, simplify_in, simplify_with, taken, union_in, validate_in, validate_with, sample_in, sample_with}
+use Rattle.cover_words.specs.Words.{Operation, Validate, Clean, Simplify, Union, Node, Regions, clean_in, clean_with, locate_in, locate_with, node_in, node_with, operation_by, regions_in, regions_with, simplify_in, simplify_with, suits, taken, union_in, union_with, validate_in, validate_with, sample_in, sample_with}
 use Rattle.cover_words.proofs.SoundRows.{AllOwn, AllSound, Present, defaults_have, defaults_sound, given_has, present, settled_sound, walk_sound}
 
 -- ---- the values of a command that takes the words
@@ -66,6 +67,16 @@ abbrev pub is_sure : Rule → Bool
 is_sure r = r.required || nat_lt 0 (length r.defaults)
 
 module _ (s : Shape) (names : Names) (ws : List Text) (has : Bool) (own : AllOwn s.rules s.rules) (kept : s.subcommand_negates_reqs ≡ false) where
+  -- the values at the end have passed their arguments' parsers
+  level_sound : level_passes s names nothing_held ws has ≡ true → AllSound s.rules (finished s.rules (walk s.rules names nothing_held ws).held)
+  level_sound level =
+      let end = (walk s.rules names nothing_held ws).held in
+      let walks = both (walk_passes s names (walk_from nothing_held) ws) _ level in
+      let settles = both (settle_passes s.rules s.args_override_self end) _ walks.1 in
+      let defaults = both (list_all default_passes s.rules) (is_valid s (finished s.rules end) has) settles.1 in
+      defaults_sound s.rules s.rules (settled s.rules end).rows own defaults.0
+      (settled_sound s.rules s.args_override_self own end settles.0 (walk_sound s names own (walk_from nothing_held) ws walks.0 tt))
+
   level_present : level_passes s names nothing_held ws has ≡ true → (r : Rule) → arg_by_id s.rules r.id ≡ Some r → is_sure r ≡ true
       → Present r (finished s.rules (walk s.rules names nothing_held ws).held)
   level_present level r known sure =
@@ -74,9 +85,7 @@ module _ (s : Shape) (names : Names) (ws : List Text) (has : Bool) (own : AllOwn
       let walks = both (walk_passes s names (walk_from nothing_held) ws) _ level in
       let settles = both (settle_passes s.rules s.args_override_self end) _ walks.1 in
       let defaults = both (list_all default_passes s.rules) (is_valid s rows has) settles.1 in
-      let sound : AllSound s.rules rows = defaults_sound s.rules s.rules (settled s.rules end).rows own defaults.0
-      (settled_sound s.rules s.args_override_self own end settles.0 (walk_sound s names own (walk_from nothing_held) ws walks.0 tt)) in
-      present s.rules r rows known sound (go r.required refl sure (valid_required s rows has kept defaults.1))
+      present s.rules r rows known (level_sound level) (go r.required refl sure (valid_required s rows has kept defaults.1))
     where
       go : (t : Bool) → r.required ≡ t → (t || nat_lt 0 (length r.defaults)) ≡ true
           → list_all (λ x. not x.required || is_given x.id (finished s.rules (walk s.rules names nothing_held ws).held)) s.rules ≡ true
@@ -84,37 +93,50 @@ module _ (s : Shape) (names : Names) (ws : List Text) (has : Bool) (own : AllOwn
       go true is e all = given_has r.id _ (required_each _ _ s.rules r known all is)
       go false is e all = defaults_have _ s.rules (settled s.rules (walk s.rules names nothing_held ws).held).rows r known (ltb-true _ _ e)
 
--- an argument that is required or has a default has a value in words that the command takes
-pub taken_present : (a : App) (words : List Text) → AllOwn (built a).top.rules (built a).top.rules → (built a).top.subcommand_negates_reqs ≡ false → takes a words ≡ true
-    → (r : Rule) → arg_by_id (built a).top.rules r.id ≡ Some r → is_sure r ≡ true → Present r (matches_of a words)
-taken_present a words own kept taken_by =
-    let stop = (walk (built a).top.rules (names_of (built a)) nothing_held (argument_words a words)).stopped in
-    let level = (both (entered_passes (built a) stop) _ (both (is_simple a) _ taken_by).1).1 in
-    level_present (built a).top (names_of (built a)) (argument_words a words) (is_some (entered (built a) stop)) own kept level
+module _ (a : App) (words : List Text) (own : AllOwn (built a).top.rules (built a).top.rules) (kept : (built a).top.subcommand_negates_reqs ≡ false) (by : takes a words ≡ true) where
+  level : level_passes (built a).top (names_of (built a)) nothing_held (argument_words a words)
+      (is_some (entered (built a) (walk (built a).top.rules (names_of (built a)) nothing_held (argument_words a words)).stopped)) ≡ true
+  level =
+      let stop = (walk (built a).top.rules (names_of (built a)) nothing_held (argument_words a words)).stopped in
+      (both (entered_passes (built a) stop) _ (both (is_simple a) _ by).1).1
+
+  -- an argument that is required or has a default has a value in words that the command takes
+  pub taken_present : (r : Rule) → arg_by_id (built a).top.rules r.id ≡ Some r → is_sure r ≡ true → Present r (matches_of a words)
+  taken_present = level_present (built a).top (names_of (built a)) (argument_words a words) _ own kept level
+
+  -- an argument that is there has a value
+  pub taken_held : (r : Rule) → arg_by_id (built a).top.rules r.id ≡ Some r → has_row r.id (matches_of a words) ≡ true → Present r (matches_of a words)
+  taken_held r known has = present (built a).top.rules r (matches_of a words) known
+      (level_sound (built a).top (names_of (built a)) (argument_words a words) _ own kept level) has
 
 -- ---- numbers and flags
 
-pub number_reads : (t : Text) → ReadsOne {T = ℕ} {E = ⊤} (λ u x. ParsesUnsigned 32 10 u x) t (number_of t)
-number_reads t = go (is_unsigned_in 0 4294967295 t) refl
-  where
-    go : (b : Bool) → is_unsigned_in 0 4294967295 t ≡ b → ReadsOne {T = ℕ} {E = ⊤} (λ u x. ParsesUnsigned 32 10 u x) t (cond b (Some (digits_value 10 (without_leading_plus t))) None)
-    go true e =
-        let fits = accepts-Accepts false (vp.Unsigned 0 4294967295) t e in
-        let most : digits_value 10 (without_leading_plus t) ≤ 4294967295 = fits.3 in
-        ((fits.0, omega arith), refl)
-    go false e = (
-      tt,
-      λ h.
-          let small : digits_value 10 (without_leading_plus t) < 2 ^ 32 = h.1 in
-          let fits = Accepts-accepts false (vp.Unsigned 0 4294967295) t (h.0, omega arith, omega arith, omega arith) in
-          true≢false (sym fits ∙ e),
-    )
+module _ (bits most : ℕ) (end : most + 1 ≡ 2 ^ bits) (long : most < 2 ^ 64) where
+  pub number_reads : (t : Text) → ReadsOne {T = ℕ} {E = ⊤} (λ u x. ParsesUnsigned bits 10 u x) t (number_up_to most t)
+  number_reads t = go (is_unsigned_in 0 most t) refl
+    where
+      go : (b : Bool) → is_unsigned_in 0 most t ≡ b → ReadsOne {T = ℕ} {E = ⊤} (λ u x. ParsesUnsigned bits 10 u x) t (cond b (Some (digits_value 10 (without_leading_plus t))) None)
+      go true e =
+          let fits = accepts-Accepts false (vp.Unsigned 0 most) t e in
+          let within : digits_value 10 (without_leading_plus t) ≤ most = fits.3 in
+          ((fits.0, omega arith), refl)
+      go false e = (
+        tt,
+        λ h.
+            let small : digits_value 10 (without_leading_plus t) < 2 ^ bits = h.1 in
+            let fits = Accepts-accepts false (vp.Unsigned 0 most) t (h.0, omega arith, omega arith, omega arith) in
+            true≢false (sym fits ∙ e),
+      )
 
-number_some : (low high : ℕ) (t : Text) → high < 2 ^ 32 → accepts false (vp.Signed (pos low) (pos high)) t ≡ true → is_some (number_of (without_minus t)) ≡ true
-number_some low high t small e =
-    let h = signed_reads ⊤ (λ u x. ParsesUnsigned 32 10 u x) 32 low high t (number_of (without_minus t)) (number_reads (without_minus t)) (λ u x g. g) small
-    (accepts-Accepts false (vp.Signed (pos low) (pos high)) t e) in
-    ap is_some h.1
+  -- a text that passed a range with no negative number is read as a number in it
+  pub number_ranged : (low high : ℕ) (t : Text) → high < 2 ^ bits → accepts false (vp.Signed (pos low) (pos high)) t ≡ true
+      → (n : ℕ) × (number_up_to most (without_minus t) ≡ Some n) × (low ≤ n) × (n ≤ high)
+  number_ranged low high t small e =
+      signed_reads ⊤ (λ u x. ParsesUnsigned bits 10 u x) bits low high t (number_up_to most (without_minus t)) (number_reads (without_minus t)) (λ u x g. g) small
+      (accepts-Accepts false (vp.Signed (pos low) (pos high)) t e)
+
+number_some : (low high : ℕ) (t : Text) → high < 2 ^ 32 → accepts false (vp.Signed (pos low) (pos high)) t ≡ true → is_some (number_up_to 4294967295 (without_minus t)) ≡ true
+number_some low high t small e = ap is_some (number_ranged 32 4294967295 refl (lit< tt) low high t small e).1
 
 truth_some : (t : Text) → accepts false vp.Bool t ≡ true → is_some (truth_of t) ≡ true
 truth_some t e = go (bytes_eq t (codes "true")) (bytes_eq t (codes "false")) e
@@ -126,37 +148,57 @@ truth_some t e = go (bytes_eq t (codes "true")) (bytes_eq t (codes "false")) e
 
 -- ---- each command
 
-validate_some : (f t : Option Text) (g : Option ℕ) → is_some f ≡ true → is_some t ≡ true → is_some g ≡ true → is_some (validate_with f t g) ≡ true
-validate_some (Some f) (Some t) (Some g) x y z = refl
-validate_some (Some f) (Some t) None x y z = z
-validate_some (Some f) None g x y z = y
-validate_some None t g x y z = x
+-- an operation is named where this holds
+named_where : (b : Bool) (o : Operation) → is_some (cond b (Some o) None) ≡ b
+named_where true o = refl
+named_where false o = refl
 
-clean_some : (f t : Option Text) (r : Option RuleName) (g : Option ℕ) → is_some f ≡ true → is_some t ≡ true → is_some g ≡ true → is_some (clean_with f t r g) ≡ is_some r
-clean_some (Some f) (Some t) (Some r) (Some g) x y z = refl
-clean_some (Some f) (Some t) None g x y z = refl
-clean_some (Some f) (Some t) (Some r) None x y z = z
-clean_some (Some f) None r g x y z = absurd (true≢false (sym y))
-clean_some None t r g x y z = absurd (true≢false (sym x))
+-- a scale suits the name that was found
+abbrev suits_found : Option ℕ → Option Text → Bool
+suits_found s name = option_map_or (suits s) name true
 
-simplify_some : (f t : Option Text) (g : Option ℕ) (b : Option Bool) → is_some f ≡ true → is_some t ≡ true → is_some g ≡ true → is_some b ≡ true
-    → is_some (simplify_with f t g b) ≡ true
-simplify_some (Some f) (Some t) (Some g) (Some b) x y z w = refl
-simplify_some (Some f) (Some t) (Some g) None x y z w = w
-simplify_some (Some f) (Some t) None b x y z w = z
-simplify_some (Some f) None g b x y z w = y
-simplify_some None t g b x y z w = x
+validate_some : (f t : Option Text) (g s : Option ℕ) → is_some f ≡ true → is_some t ≡ true → is_some g ≡ true → is_some (validate_with f t g s) ≡ suits_found s f
+validate_some (Some f) (Some t) (Some g) s x y z = named_where (suits s f) (Validate g s f t)
+validate_some (Some f) (Some t) None s x y z = absurd (true≢false (sym z))
+validate_some (Some f) None g s x y z = absurd (true≢false (sym y))
+validate_some None t g s x y z = absurd (true≢false (sym x))
+
+clean_some : (f t : Option Text) (r : Option RuleName) (g s : Option ℕ) → is_some f ≡ true → is_some t ≡ true → is_some g ≡ true
+    → is_some (clean_with f t r g s) ≡ (is_some r && (suits_found s f && suits_found s t))
+clean_some (Some f) (Some t) (Some r) (Some g) s x y z = named_where (suits s f && suits s t) (Clean r g s f t)
+clean_some (Some f) (Some t) None g s x y z = refl
+clean_some (Some f) (Some t) (Some r) None s x y z = absurd (true≢false (sym z))
+clean_some (Some f) None r g s x y z = absurd (true≢false (sym y))
+clean_some None t r g s x y z = absurd (true≢false (sym x))
+
+simplify_some : (f t : Option Text) (g : Option ℕ) (b : Option Bool) (s : Option ℕ) → is_some f ≡ true → is_some t ≡ true → is_some g ≡ true → is_some b ≡ true
+    → is_some (simplify_with f t g b s) ≡ (suits_found s f && suits_found s t)
+simplify_some (Some f) (Some t) (Some g) (Some b) s x y z w = named_where (suits s f && suits s t) (Simplify g b s f t)
+simplify_some (Some f) (Some t) (Some g) None s x y z w = absurd (true≢false (sym w))
+simplify_some (Some f) (Some t) None b s x y z w = absurd (true≢false (sym z))
+simplify_some (Some f) None g b s x y z w = absurd (true≢false (sym y))
+simplify_some None t g b s x y z w = absurd (true≢false (sym x))
+
+union_some : (f t : Option Text) (s : Option ℕ) → is_some f ≡ true → is_some t ≡ true → is_some (union_with f t s) ≡ (suits_found s f && suits_found s t)
+union_some (Some f) (Some t) s x y = named_where (suits s f && suits s t) (Union s f t)
+union_some (Some f) None s x y = absurd (true≢false (sym y))
+union_some None t s x y = absurd (true≢false (sym x))
+
+node_some : (f t : Option Text) (s : Option ℕ) → is_some f ≡ true → is_some t ≡ true → is_some (node_with f t s) ≡ suits_found s f
+node_some (Some f) (Some t) s x y = named_where (suits s f) (Node s f t)
+node_some (Some f) None s x y = absurd (true≢false (sym y))
+node_some None t s x y = absurd (true≢false (sym x))
+
+regions_some : (f t : Option Text) (s : Option ℕ) → is_some f ≡ true → is_some t ≡ true → is_some (regions_with f t s) ≡ suits_found s f
+regions_some (Some f) (Some t) s x y = named_where (suits s f) (Regions s f t)
+regions_some (Some f) None s x y = absurd (true≢false (sym y))
+regions_some None t s x y = absurd (true≢false (sym x))
 
 sample_some : (n s : Option ℕ) (t : Option Text) → is_some n ≡ true → is_some s ≡ true → is_some t ≡ true → is_some (sample_with n s t) ≡ true
 sample_some (Some n) (Some s) (Some t) x y z = refl
 sample_some (Some n) (Some s) None x y z = z
 sample_some (Some n) None t x y z = y
 sample_some None s t x y z = x
-
-files_some : (make : Text → Text → Operation) (f t : Option Text) → is_some f ≡ true → is_some t ≡ true → is_some (files_with make f t) ≡ true
-files_some make (Some f) (Some t) x y = refl
-files_some make (Some f) None x y = y
-files_some make None t x y = x
 
 locate_some : (f p t : Option Text) → is_some f ≡ true → is_some p ≡ true → is_some t ≡ true → is_some (locate_with f p t) ≡ true
 locate_some (Some f) (Some p) (Some t) x y z = refl
@@ -173,7 +215,7 @@ number_there low high r id rows small same parser p =
     let read : one_of r.id rows ≡ Some (without_minus p.text) =
     subst (λ (q : Option ValueParser). one_of r.id rows ≡ Some (read_as (reading_of (parser_of_value q)) p.text)) parser p.read in
     let passes : accepts r.ignore_case (vp.Signed (pos low) (pos high)) p.text ≡ true = subst (λ (q : Option ValueParser). accepts r.ignore_case (parser_of_value q) p.text ≡ true) parser p.passes in
-    subst (λ (i : Text). is_some (number_at i rows) ≡ true) same (ap (λ (o : Option Text). is_some (option_and_then number_of o)) read ∙ number_some low high p.text small passes)
+    subst (λ (i : Text). is_some (number_at i rows) ≡ true) same (ap (λ (o : Option Text). is_some (option_and_then (number_up_to 4294967295) o)) read ∙ number_some low high p.text small passes)
 
 flag_there : (r : Rule) (id : Text) (rows : List Row) → r.id ≡ id → r.parser ≡ Some vp.Bool → Present r rows → is_some (flag_at id rows) ≡ true
 flag_there r id rows same parser p =
@@ -183,22 +225,22 @@ flag_there r id rows same parser p =
     subst (λ (i : Text). is_some (flag_at i rows) ≡ true) same (ap (λ (o : Option Text). is_some (option_and_then truth_of o)) read ∙ truth_some p.text passes)
 
 pub own_validate : AllOwn (built validate_command).top.rules (built validate_command).top.rules
-own_validate = ((refl, refl), ((refl, refl), ((refl, refl), ((refl, refl), tt))))
+own_validate = ((refl, refl), ((refl, refl), ((refl, refl), ((refl, refl), ((refl, refl), tt)))))
 
 pub own_clean : AllOwn (built clean_command).top.rules (built clean_command).top.rules
-own_clean = ((refl, refl), ((refl, refl), ((refl, refl), ((refl, refl), ((refl, refl), tt)))))
+own_clean = ((refl, refl), ((refl, refl), ((refl, refl), ((refl, refl), ((refl, refl), ((refl, refl), tt))))))
 
 pub own_simplify : AllOwn (built simplify_command).top.rules (built simplify_command).top.rules
-own_simplify = ((refl, refl), ((refl, refl), ((refl, refl), ((refl, refl), ((refl, refl), tt)))))
+own_simplify = ((refl, refl), ((refl, refl), ((refl, refl), ((refl, refl), ((refl, refl), ((refl, refl), tt))))))
 
 pub own_union : AllOwn (built union_command).top.rules (built union_command).top.rules
-own_union = ((refl, refl), ((refl, refl), ((refl, refl), tt)))
+own_union = ((refl, refl), ((refl, refl), ((refl, refl), ((refl, refl), tt))))
 
 pub own_node : AllOwn (built node_command).top.rules (built node_command).top.rules
-own_node = ((refl, refl), ((refl, refl), ((refl, refl), tt)))
+own_node = ((refl, refl), ((refl, refl), ((refl, refl), ((refl, refl), tt))))
 
 pub own_regions : AllOwn (built regions_command).top.rules (built regions_command).top.rules
-own_regions = ((refl, refl), ((refl, refl), ((refl, refl), tt)))
+own_regions = ((refl, refl), ((refl, refl), ((refl, refl), ((refl, refl), tt))))
 
 pub own_sample : AllOwn (built sample_command).top.rules (built sample_command).top.rules
 own_sample = ((refl, refl), ((refl, refl), ((refl, refl), ((refl, refl), tt))))
@@ -224,32 +266,32 @@ module _ (a : App) (words : List Text) (own : AllOwn (built a).top.rules (built 
   flag_in id at parser = flag_there (rule_at a id) id (matches_of a words) at.2 parser (taken_present a words own kept by (rule_at a id) at.0 at.1)
 
 module _ (words : List Text) where
-  validates : takes validate_command words ≡ true → is_some (validate_in (matches_of validate_command words)) ≡ true
-  validates by = validate_some _ _ _ (name_in validate_command words own_validate refl by (codes "IN") (refl, refl, refl))
+  validates : takes validate_command words ≡ true → is_some (validate_in (matches_of validate_command words)) ≡ suits_input validate_command words
+  validates by = validate_some _ _ _ _ (name_in validate_command words own_validate refl by (codes "IN") (refl, refl, refl))
       (name_in validate_command words own_validate refl by (codes "OUT") (refl, refl, refl))
       (number_in validate_command words own_validate refl by (codes "gap") (refl, refl, refl) refl)
 
-  cleans : takes clean_command words ≡ true → is_some (clean_in (matches_of clean_command words)) ≡ has_a_rule words
-  cleans by = clean_some _ _ _ _ (name_in clean_command words own_clean refl by (codes "IN") (refl, refl, refl))
+  cleans : takes clean_command words ≡ true → is_some (clean_in (matches_of clean_command words)) ≡ (has_a_rule words && suits_files clean_command words)
+  cleans by = clean_some _ _ _ _ _ (name_in clean_command words own_clean refl by (codes "IN") (refl, refl, refl))
       (name_in clean_command words own_clean refl by (codes "OUT") (refl, refl, refl))
       (number_in clean_command words own_clean refl by (codes "gap") (refl, refl, refl) refl)
 
-  simplifies : takes simplify_command words ≡ true → is_some (simplify_in (matches_of simplify_command words)) ≡ true
-  simplifies by = simplify_some _ _ _ _ (name_in simplify_command words own_simplify refl by (codes "IN") (refl, refl, refl))
+  simplifies : takes simplify_command words ≡ true → is_some (simplify_in (matches_of simplify_command words)) ≡ suits_files simplify_command words
+  simplifies by = simplify_some _ _ _ _ _ (name_in simplify_command words own_simplify refl by (codes "IN") (refl, refl, refl))
       (name_in simplify_command words own_simplify refl by (codes "OUT") (refl, refl, refl))
       (number_in simplify_command words own_simplify refl by (codes "tolerance") (refl, refl, refl) refl)
       (flag_in simplify_command words own_simplify refl by (codes "inner") (refl, refl, refl) refl)
 
-  unites : takes union_command words ≡ true → is_some (union_in (matches_of union_command words)) ≡ true
-  unites by = files_some Union _ _ (name_in union_command words own_union refl by (codes "IN") (refl, refl, refl))
+  unites : takes union_command words ≡ true → is_some (union_in (matches_of union_command words)) ≡ suits_files union_command words
+  unites by = union_some _ _ _ (name_in union_command words own_union refl by (codes "IN") (refl, refl, refl))
       (name_in union_command words own_union refl by (codes "OUT") (refl, refl, refl))
 
-  nodes : takes node_command words ≡ true → is_some (node_in (matches_of node_command words)) ≡ true
-  nodes by = files_some Node _ _ (name_in node_command words own_node refl by (codes "IN") (refl, refl, refl))
+  nodes : takes node_command words ≡ true → is_some (node_in (matches_of node_command words)) ≡ suits_input node_command words
+  nodes by = node_some _ _ _ (name_in node_command words own_node refl by (codes "IN") (refl, refl, refl))
       (name_in node_command words own_node refl by (codes "OUT") (refl, refl, refl))
 
-  lists_regions : takes regions_command words ≡ true → is_some (regions_in (matches_of regions_command words)) ≡ true
-  lists_regions by = files_some Regions _ _ (name_in regions_command words own_regions refl by (codes "IN") (refl, refl, refl))
+  lists_regions : takes regions_command words ≡ true → is_some (regions_in (matches_of regions_command words)) ≡ suits_input regions_command words
+  lists_regions by = regions_some _ _ _ (name_in regions_command words own_regions refl by (codes "IN") (refl, refl, refl))
       (name_in regions_command words own_regions refl by (codes "OUT") (refl, refl, refl))
 
   samples : takes sample_command words ≡ true → is_some (sample_in (matches_of sample_command words)) ≡ true
@@ -286,12 +328,12 @@ by_word false x y p q e f = f
 
 accepted_by : (word : Text) (words : List Text) → is_some (operation_by word words) ≡ is_accepted_by word words
 accepted_by word words =
-    by_word (bytes_eq word (codes "validate")) _ _ _ _ (taken_some validate_command validate_in words (validates words))
-    (by_word (bytes_eq word (codes "clean")) _ _ _ _ (taken_where clean_command clean_in words (has_a_rule words) (cleans words))
-    (by_word (bytes_eq word (codes "simplify")) _ _ _ _ (taken_some simplify_command simplify_in words (simplifies words))
-    (by_word (bytes_eq word (codes "union")) _ _ _ _ (taken_some union_command union_in words (unites words))
-    (by_word (bytes_eq word (codes "node")) _ _ _ _ (taken_some node_command node_in words (nodes words))
-    (by_word (bytes_eq word (codes "regions")) _ _ _ _ (taken_some regions_command regions_in words (lists_regions words))
+    by_word (bytes_eq word (codes "validate")) _ _ _ _ (taken_where validate_command validate_in words (suits_input validate_command words) (validates words))
+    (by_word (bytes_eq word (codes "clean")) _ _ _ _ (taken_where clean_command clean_in words (has_a_rule words && suits_files clean_command words) (cleans words))
+    (by_word (bytes_eq word (codes "simplify")) _ _ _ _ (taken_where simplify_command simplify_in words (suits_files simplify_command words) (simplifies words))
+    (by_word (bytes_eq word (codes "union")) _ _ _ _ (taken_where union_command union_in words (suits_files union_command words) (unites words))
+    (by_word (bytes_eq word (codes "node")) _ _ _ _ (taken_where node_command node_in words (suits_input node_command words) (nodes words))
+    (by_word (bytes_eq word (codes "regions")) _ _ _ _ (taken_where regions_command regions_in words (suits_input regions_command words) (lists_regions words))
     (by_word (bytes_eq word (codes "sample")) _ _ _ _ (taken_some sample_command sample_in words (samples words))
     (by_word (bytes_eq word (codes "locate")) _ _ _ _ (taken_some locate_command locate_in words (locates words)) refl)))))))
 

@@ -1,5 +1,5 @@
 -- What the typed getters read of a text.
-use Rattle.std.proofs.Common.{◌≡◌, ◌∙◌, ◌<◌, ◌^◌, ℕ, Bool, true, false, refl, ap, arith, Option, Some, None, option_and_then}
+use Rattle.std.proofs.Common.{◌≡◌, ◌∙◌, ◌+◌, ◌<◌, ◌^◌, ℕ, Bool, true, false, refl, ap, arith, Option, Some, None, option_and_then}
 use Rattle.std.specs.Prelude.{Result, Ok, Err}
 use Rattle.std.specs.Str.{bytes_eq}
 use Rattle.std.specs.Str.Parse.{ParsesUnsigned, ParsesBool, digits_value, without_leading_plus, true_text, false_text}
@@ -13,7 +13,7 @@ use Rattle.clap.specs.Matches.{one_text}
 use Rattle.clap.specs.Walk.{one_of, rows_of}
 use Rattle.clap.specs.declared.parser.matches.Found.{Found}
 use Rattle.clap.proofs.WalkLemmas.{one_text-rows}
-use Rattle.cover_words.specs.Values.{flag_at, number_at, number_of, truth_of}
+use Rattle.cover_words.specs.Values.{flag_at, number_up_to, truth_of}
 
 -- an answer that reads the text that is there, and is none where there is none
 read_at : {T E : Type 0} (gives : Text → Result T E → Type 0) (reading : Text → Option T) (o : Option Text) (r : Option T)
@@ -22,20 +22,20 @@ read_at : {T E : Type 0} (gives : Text → Result T E → Type 0) (reading : Tex
 read_at gives reading None r none some is = none refl
 read_at gives reading (Some t) r none some is = is t r (some t refl)
 
-module _ (E : Type 0) (G : Text → Result ℕ E → Type 0) (only : (u : Text) (x : Result ℕ E) → G u x → ParsesUnsigned 32 10 u x) where
-  -- a number of 32 bits is read as it is written
-  number_read : (text : Text) (r : Option ℕ) → ReadsOne G text r → r ≡ number_of text
+module _ (bits most : ℕ) (end : most + 1 ≡ 2 ^ bits) (long : most < 2 ^ 64) (E : Type 0) (G : Text → Result ℕ E → Type 0) (only : (u : Text) (x : Result ℕ E) → G u x → ParsesUnsigned bits 10 u x) where
+  -- a number of so many bits is read as it is written
+  number_read : (text : Text) (r : Option ℕ) → ReadsOne G text r → r ≡ number_up_to most text
   number_read text (Some n) h =
       let p = only text (Ok n) h in
-      let small : digits_value 10 (without_leading_plus text) < 2 ^ 32 = p.0.1 in
-      let fits : is_unsigned_in 0 4294967295 text ≡ true = Accepts-accepts false (vp.Unsigned 0 4294967295) text (p.0.0, omega arith, omega arith, omega arith) in
+      let small : digits_value 10 (without_leading_plus text) < 2 ^ bits = p.0.1 in
+      let fits : is_unsigned_in 0 most text ≡ true = Accepts-accepts false (vp.Unsigned 0 most) text (p.0.0, omega arith, omega arith, omega arith) in
       rw fits (ap (λ k. Some k) p.1)
-  number_read text None h = go (is_unsigned_in 0 4294967295 text) refl
+  number_read text None h = go (is_unsigned_in 0 most text) refl
     where
-      go : (t : Bool) → is_unsigned_in 0 4294967295 text ≡ t → None ≡ number_of text
+      go : (t : Bool) → is_unsigned_in 0 most text ≡ t → None ≡ number_up_to most text
       go false e = rw e refl
       go true e =
-          let fits = accepts-Accepts false (vp.Unsigned 0 4294967295) text e in
+          let fits = accepts-Accepts false (vp.Unsigned 0 most) text e in
           absurd (only text (Err h.0) h.1 (fits.0, omega arith))
 
 -- a truth value is read as it is named
@@ -53,10 +53,12 @@ module _ (f : Found) (id : Text) where
   same : one_text f id ≡ one_of id (rows_of f)
   same = one_text-rows f id
 
-  -- the number of an argument is read as the definition says
-  pub number_found : (E : Type 0) (G : Text → Result ℕ E → Type 0) (r : Option ℕ) → (one_text f id ≡ None → r ≡ None)
-      → ((t : Text) → one_text f id ≡ Some t → ReadsOne G t r) → ((u : Text) (x : Result ℕ E) → G u x → ParsesUnsigned 32 10 u x) → r ≡ number_at id (rows_of f)
-  number_found E G r none some only = read_at G number_of (one_of id (rows_of f)) r (λ e. none (same ∙ e)) (λ t e. some t (same ∙ e)) (number_read E G only)
+  -- the number of an argument, of so many bits, is read as the definition says
+  pub number_found : (bits most : ℕ) → most + 1 ≡ 2 ^ bits → most < 2 ^ 64 → (E : Type 0) (G : Text → Result ℕ E → Type 0) (r : Option ℕ) → (one_text f id ≡ None → r ≡ None)
+      → ((t : Text) → one_text f id ≡ Some t → ReadsOne G t r) → ((u : Text) (x : Result ℕ E) → G u x → ParsesUnsigned bits 10 u x)
+      → r ≡ option_and_then (number_up_to most) (one_of id (rows_of f))
+  number_found bits most end long E G r none some only =
+      read_at G (number_up_to most) (one_of id (rows_of f)) r (λ e. none (same ∙ e)) (λ t e. some t (same ∙ e)) (number_read bits most end long E G only)
 
   -- and so is a flag
   pub flag_found : (E : Type 0) (r : Option Bool) → (one_text f id ≡ None → r ≡ None)

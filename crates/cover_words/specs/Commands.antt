@@ -32,6 +32,14 @@ tolerance = record (new_rule (codes "tolerance")) { long = Some (codes "toleranc
 abbrev pub inner : Rule
 inner = record (new_rule (codes "inner")) { long = Some (codes "inner"); action = Some SetTrue }
 
+-- the scales: the numbers of decimal places that a text may keep
+abbrev pub scales : ValueParser
+scales = Signed (pos 0) (pos 7)
+
+-- `--scale K`, which may be there
+abbrev pub scale : Rule
+scale = record (new_rule (codes "scale")) { long = Some (codes "scale"); parser = Some scales }
+
 -- the numbers that a sample may have of cells on a side
 abbrev pub sides : ValueParser
 sides = Signed (pos 1) (pos 400)
@@ -54,29 +62,29 @@ seed = record (new_rule (codes "SEED")) { required = true; parser = Some seeds }
 abbrev pub on_files : Text → List Rule → App
 on_files word more = fold with_rule (new_app word) (name (codes "IN") ∷ name (codes "OUT") ∷ more)
 
--- `validate IN OUT [--gap W]`
+-- `validate IN OUT [--gap W] [--scale K]`
 abbrev pub validate_command : App
-validate_command = on_files (codes "validate") (gap ∷ [])
+validate_command = on_files (codes "validate") (gap ∷ scale ∷ [])
 
--- `clean IN OUT --rule R [--gap W]`
+-- `clean IN OUT --rule R [--gap W] [--scale K]`
 abbrev pub clean_command : App
-clean_command = on_files (codes "clean") (rule ∷ gap ∷ [])
+clean_command = on_files (codes "clean") (rule ∷ gap ∷ scale ∷ [])
 
--- `simplify IN OUT --tolerance T [--inner]`
+-- `simplify IN OUT --tolerance T [--inner] [--scale K]`
 abbrev pub simplify_command : App
-simplify_command = on_files (codes "simplify") (tolerance ∷ inner ∷ [])
+simplify_command = on_files (codes "simplify") (tolerance ∷ inner ∷ scale ∷ [])
 
--- `union IN OUT`
+-- `union IN OUT [--scale K]`
 abbrev pub union_command : App
-union_command = on_files (codes "union") []
+union_command = on_files (codes "union") (scale ∷ [])
 
--- `node IN OUT`
+-- `node IN OUT [--scale K]`
 abbrev pub node_command : App
-node_command = on_files (codes "node") []
+node_command = on_files (codes "node") (scale ∷ [])
 
--- `regions IN OUT`
+-- `regions IN OUT [--scale K]`
 abbrev pub regions_command : App
-regions_command = on_files (codes "regions") []
+regions_command = on_files (codes "regions") (scale ∷ [])
 
 -- `sample N SEED OUT`
 abbrev pub sample_command : App

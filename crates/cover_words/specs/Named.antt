@@ -9,12 +9,12 @@ use Rattle.cover_words.specs.Words.{Operation, Validate, Clean, Simplify, Union,
 
 -- the operation with the names that its texts hold
 abbrev pub named : code.Operation → Operation
-named (operations.Validate gap from to) = Validate gap from.now to.now
-named (operations.Clean rule gap from to) = Clean rule gap from.now to.now
-named (operations.Simplify tolerance inner from to) = Simplify tolerance inner from.now to.now
-named (operations.Union from to) = Union from.now to.now
-named (operations.Node from to) = Node from.now to.now
-named (operations.Regions from to) = Regions from.now to.now
+named (operations.Validate gap scale from to) = Validate gap scale from.now to.now
+named (operations.Clean rule gap scale from to) = Clean rule gap scale from.now to.now
+named (operations.Simplify tolerance inner scale from to) = Simplify tolerance inner scale from.now to.now
+named (operations.Union scale from to) = Union scale from.now to.now
+named (operations.Node scale from to) = Node scale from.now to.now
+named (operations.Regions scale from to) = Regions scale from.now to.now
 named (operations.Sample side seed to) = Sample side seed to.now
 named (operations.Locate from points to) = Locate from.now points.now to.now
 

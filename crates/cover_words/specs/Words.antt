@@ -1,28 +1,30 @@
 -- The words that the program takes.
-use Rattle.std.specs.Prelude.{⊤, ◌≤◌, ℕ, Bool, List, [], ◌∷◌, Option, Some, None, option_and_then, if◌then◌else◌, codes}
+use Rattle.std.specs.Prelude.{⊤, ◌≤◌, ◌&&◌, not, ℕ, Bool, true, List, [], ◌∷◌, Option, Some, None, option_and_then, if◌then◌else◌, codes}
 use Rattle.std.specs.Str.{bytes_eq}
 use Rattle.clap.specs.Walk.{Row, Text}
 use Rattle.clap.specs.Simple.{App, matches_of}
 use Rattle.clap.specs.Takes.{takes}
+use Rattle.file_form.specs.Name.{is_json}
+use Rattle.geo_text.specs.Decimal.{IsScale}
 use Rattle.cover_words.specs.Commands.{validate_command, clean_command, simplify_command, union_command, node_command, regions_command, locate_command, sample_command}
-use Rattle.cover_words.specs.Values.{text_at, number_at, flag_at}
+use Rattle.cover_words.specs.Values.{text_at, number_at, scale_at, flag_at}
 use Rattle.cover_words.specs.declared.rule_name.RuleName.{RuleName}
 use Rattle.cover_words.specs.declared.rule_name.RuleName.TheVariants.{LeastIndex, GreatestArea, LeastArea, LongestBorder}
 
--- an operation, with the names of the files that it works on and its other values
+-- an operation, with its values, the scale of its texts if they have one, and the names of the files that it works on
 pub data Operation : Type 0 where
-  -- the gap width; the input, the output
-  Validate : ℕ → Text → Text → Operation
-  -- the rule, the gap width; the input, the output
-  Clean : RuleName → ℕ → Text → Text → Operation
-  -- the tolerance, whether only inner lines are simplified; the input, the output
-  Simplify : ℕ → Bool → Text → Text → Operation
-  -- the input, the output
-  Union : Text → Text → Operation
-  -- the input, the output
-  Node : Text → Text → Operation
-  -- the input, the output
-  Regions : Text → Text → Operation
+  -- the gap width; the scale; the input, the output
+  Validate : ℕ → Option ℕ → Text → Text → Operation
+  -- the rule, the gap width; the scale; the input, the output
+  Clean : RuleName → ℕ → Option ℕ → Text → Text → Operation
+  -- the tolerance, whether only inner lines are simplified; the scale; the input, the output
+  Simplify : ℕ → Bool → Option ℕ → Text → Text → Operation
+  -- the scale; the input, the output
+  Union : Option ℕ → Text → Text → Operation
+  -- the scale; the input, the output
+  Node : Option ℕ → Text → Text → Operation
+  -- the scale; the input, the output
+  Regions : Option ℕ → Text → Text → Operation
   -- the number of cells on a side, the seed; the output
   Sample : ℕ → ℕ → Text → Operation
   -- the input, the points; the output
@@ -30,33 +32,49 @@ pub data Operation : Type 0 where
 
 -- the names of the files that the operation reads, in the order in which it reads them
 abbrev pub inputs_of : Operation → List Text
-inputs_of (Validate gap from to) = from ∷ []
-inputs_of (Clean rule gap from to) = from ∷ []
-inputs_of (Simplify tolerance inner from to) = from ∷ []
-inputs_of (Union from to) = from ∷ []
-inputs_of (Node from to) = from ∷ []
-inputs_of (Regions from to) = from ∷ []
+inputs_of (Validate gap scale from to) = from ∷ []
+inputs_of (Clean rule gap scale from to) = from ∷ []
+inputs_of (Simplify tolerance inner scale from to) = from ∷ []
+inputs_of (Union scale from to) = from ∷ []
+inputs_of (Node scale from to) = from ∷ []
+inputs_of (Regions scale from to) = from ∷ []
 inputs_of (Sample side seed to) = []
 inputs_of (Locate from points to) = from ∷ points ∷ []
 
 -- the name of the file that the operation writes
 abbrev pub output_of : Operation → Text
-output_of (Validate gap from to) = to
-output_of (Clean rule gap from to) = to
-output_of (Simplify tolerance inner from to) = to
-output_of (Union from to) = to
-output_of (Node from to) = to
-output_of (Regions from to) = to
+output_of (Validate gap scale from to) = to
+output_of (Clean rule gap scale from to) = to
+output_of (Simplify tolerance inner scale from to) = to
+output_of (Union scale from to) = to
+output_of (Node scale from to) = to
+output_of (Regions scale from to) = to
 output_of (Sample side seed to) = to
 output_of (Locate from points to) = to
 
+-- the scale of the texts that the operation reads and writes, if they have one
+abbrev pub scale_of : Operation → Option ℕ
+scale_of (Validate gap scale from to) = scale
+scale_of (Clean rule gap scale from to) = scale
+scale_of (Simplify tolerance inner scale from to) = scale
+scale_of (Union scale from to) = scale
+scale_of (Node scale from to) = scale
+scale_of (Regions scale from to) = scale
+scale_of (Sample side seed to) = None
+scale_of (Locate from points to) = None
+
 -- the gap width or the tolerance of the operation is at most 2^30 grid units, and a sample has at most 400 cells on a side
-abbrev pub IsWithinLimit : Operation → Type 0
-IsWithinLimit (Validate gap from to) = gap ≤ 1073741824
-IsWithinLimit (Clean rule gap from to) = gap ≤ 1073741824
-IsWithinLimit (Simplify tolerance inner from to) = tolerance ≤ 1073741824
-IsWithinLimit (Sample side seed to) = side ≤ 400
-IsWithinLimit _ = ⊤
+abbrev pub IsLengthWithin : Operation → Type 0
+IsLengthWithin (Validate gap scale from to) = gap ≤ 1073741824
+IsLengthWithin (Clean rule gap scale from to) = gap ≤ 1073741824
+IsLengthWithin (Simplify tolerance inner scale from to) = tolerance ≤ 1073741824
+IsLengthWithin (Sample side seed to) = side ≤ 400
+IsLengthWithin _ = ⊤
+
+-- the lengths of the operation and its scale are within their limits
+pub record IsWithinLimit (operation : Operation) : Type 0 where
+  pub length : IsLengthWithin operation
+  pub scale : IsScale (scale_of operation)
 
 -- the rule that a word names
 abbrev pub rule_named : Text → Option RuleName
@@ -69,25 +87,40 @@ rule_named word =
 
 -- ---- the operation that the matches of its command name
 
--- a validation of the values that were found, where all are there
-abbrev pub validate_with : Option Text → Option Text → Option ℕ → Option Operation
-validate_with (Some from) (Some to) (Some gap) = Some (Validate gap from to)
-validate_with _ _ _ = None
+-- a scale stands with no name of GeoJSON, which has none
+abbrev pub suits : Option ℕ → Text → Bool
+suits None name = true
+suits (Some k) name = not (is_json name)
 
--- a cleaning of the values that were found, where all are there
-abbrev pub clean_with : Option Text → Option Text → Option RuleName → Option ℕ → Option Operation
-clean_with (Some from) (Some to) (Some rule) (Some gap) = Some (Clean rule gap from to)
-clean_with _ _ _ _ = None
+-- a validation of the values that were found, where all are there and the scale suits the input
+abbrev pub validate_with : Option Text → Option Text → Option ℕ → Option ℕ → Option Operation
+validate_with (Some from) (Some to) (Some gap) scale = if suits scale from then Some (Validate gap scale from to) else None
+validate_with _ _ _ _ = None
 
--- a simplification of the values that were found, where all are there
-abbrev pub simplify_with : Option Text → Option Text → Option ℕ → Option Bool → Option Operation
-simplify_with (Some from) (Some to) (Some tolerance) (Some inner) = Some (Simplify tolerance inner from to)
-simplify_with _ _ _ _ = None
+-- a cleaning of the values that were found, where all are there and the scale suits both files
+abbrev pub clean_with : Option Text → Option Text → Option RuleName → Option ℕ → Option ℕ → Option Operation
+clean_with (Some from) (Some to) (Some rule) (Some gap) scale = if suits scale from && suits scale to then Some (Clean rule gap scale from to) else None
+clean_with _ _ _ _ _ = None
 
--- an operation that has no values but its files, where both are there
-abbrev pub files_with : (Text → Text → Operation) → Option Text → Option Text → Option Operation
-files_with operation (Some from) (Some to) = Some (operation from to)
-files_with operation _ _ = None
+-- a simplification of the values that were found, where all are there and the scale suits both files
+abbrev pub simplify_with : Option Text → Option Text → Option ℕ → Option Bool → Option ℕ → Option Operation
+simplify_with (Some from) (Some to) (Some tolerance) (Some inner) scale = if suits scale from && suits scale to then Some (Simplify tolerance inner scale from to) else None
+simplify_with _ _ _ _ _ = None
+
+-- a union of the files that were found, where both are there and the scale suits both
+abbrev pub union_with : Option Text → Option Text → Option ℕ → Option Operation
+union_with (Some from) (Some to) scale = if suits scale from && suits scale to then Some (Union scale from to) else None
+union_with _ _ _ = None
+
+-- a noding, where both files are there and the scale suits the input
+abbrev pub node_with : Option Text → Option Text → Option ℕ → Option Operation
+node_with (Some from) (Some to) scale = if suits scale from then Some (Node scale from to) else None
+node_with _ _ _ = None
+
+-- a listing of regions, where both files are there and the scale suits the input
+abbrev pub regions_with : Option Text → Option Text → Option ℕ → Option Operation
+regions_with (Some from) (Some to) scale = if suits scale from then Some (Regions scale from to) else None
+regions_with _ _ _ = None
 
 -- the sample of the values that were found, where all are there
 abbrev pub sample_with : Option ℕ → Option ℕ → Option Text → Option Operation
@@ -101,27 +134,27 @@ locate_with _ _ _ = None
 
 -- the validation that the matches name, by the ids of its arguments
 abbrev pub validate_in : List Row → Option Operation
-validate_in rows = validate_with (text_at (codes "IN") rows) (text_at (codes "OUT") rows) (number_at (codes "gap") rows)
+validate_in rows = validate_with (text_at (codes "IN") rows) (text_at (codes "OUT") rows) (number_at (codes "gap") rows) (scale_at rows)
 
 -- the cleaning that they name
 abbrev pub clean_in : List Row → Option Operation
-clean_in rows = clean_with (text_at (codes "IN") rows) (text_at (codes "OUT") rows) (option_and_then rule_named (text_at (codes "rule") rows)) (number_at (codes "gap") rows)
+clean_in rows = clean_with (text_at (codes "IN") rows) (text_at (codes "OUT") rows) (option_and_then rule_named (text_at (codes "rule") rows)) (number_at (codes "gap") rows) (scale_at rows)
 
 -- the simplification that they name
 abbrev pub simplify_in : List Row → Option Operation
-simplify_in rows = simplify_with (text_at (codes "IN") rows) (text_at (codes "OUT") rows) (number_at (codes "tolerance") rows) (flag_at (codes "inner") rows)
+simplify_in rows = simplify_with (text_at (codes "IN") rows) (text_at (codes "OUT") rows) (number_at (codes "tolerance") rows) (flag_at (codes "inner") rows) (scale_at rows)
 
 -- the union that they name
 abbrev pub union_in : List Row → Option Operation
-union_in rows = files_with Union (text_at (codes "IN") rows) (text_at (codes "OUT") rows)
+union_in rows = union_with (text_at (codes "IN") rows) (text_at (codes "OUT") rows) (scale_at rows)
 
 -- the noding that they name
 abbrev pub node_in : List Row → Option Operation
-node_in rows = files_with Node (text_at (codes "IN") rows) (text_at (codes "OUT") rows)
+node_in rows = node_with (text_at (codes "IN") rows) (text_at (codes "OUT") rows) (scale_at rows)
 
 -- the listing of regions that they name
 abbrev pub regions_in : List Row → Option Operation
-regions_in rows = files_with Regions (text_at (codes "IN") rows) (text_at (codes "OUT") rows)
+regions_in rows = regions_with (text_at (codes "IN") rows) (text_at (codes "OUT") rows) (scale_at rows)
 
 -- the sample that they name
 abbrev pub sample_in : List Row → Option Operation

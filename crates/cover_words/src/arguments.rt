@@ -1,6 +1,6 @@
 ghost use Rattle.std.specs.Prelude.{◌≡◌, false};
 ghost use Rattle.clap.specs.Walk.{rule_of};
-ghost use Rattle.cover_words.specs.Commands.{gap as gap_rule, inner as inner_rule, lengths as lengths_parser, name as name_rule, rule as rule_rule, seed as seed_rule, side as side_rule, tolerance as tolerance_rule};
+ghost use Rattle.cover_words.specs.Commands.{gap as gap_rule, inner as inner_rule, lengths as lengths_parser, name as name_rule, rule as rule_rule, scale as scale_rule, seed as seed_rule, side as side_rule, tolerance as tolerance_rule};
 
 use clap::builder::ValueParser;
 use clap::{Arg, ArgAction, value_parser};
@@ -8,6 +8,9 @@ use std::alloc::Global;
 
 /// The greatest gap width and the greatest tolerance, in grid units.
 const MOST: i64 = 1_073_741_824;
+
+/// The greatest scale: the number of decimal places that a text may keep.
+const MOST_PLACES: i64 = 7;
 
 /// The greatest number of cells on a side of a sample.
 const LONGEST_SIDE: i64 = 400;
@@ -65,6 +68,16 @@ pub fn inner<'a>(alloc: Global) -> Arg<'a>
     Arg::new(alloc, "inner")
         .long("inner")
         .action(ArgAction::SetTrue)
+}
+
+/// `--scale K`, which may be there.
+pub fn scale<'a>(alloc: Global) -> Arg<'a>
+    ensures rule { rule_of result ≡ scale_rule }
+    ensures local { result.global ≡ false }
+{
+    Arg::new(alloc, "scale")
+        .long("scale")
+        .value_parser(value_parser!(u8).range(0..=MOST_PLACES))
 }
 
 /// `N`: a positional number of cells on a side, which has to be there.

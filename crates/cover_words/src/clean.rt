@@ -7,24 +7,25 @@ ghost use Rattle.cover_words.specs.Commands.{clean_command};
 ghost use Rattle.cover_words.specs.Named.{IsNamed};
 ghost use Rattle.cover_words.specs.Words.{clean_in, taken};
 
-use crate::arguments::{gap, name, rule};
+use crate::arguments::{gap, rule, scale as scale_option};
+use crate::commands::on_files;
 use crate::matched::matched;
 use crate::operation::Operation;
 use crate::rule_name::rule_named;
-use crate::values::{number_in, text_in};
+use crate::scale::suits;
+use crate::values::{number_in, scale_in, text_in};
 use clap::{ArgMatches, Command};
 use cov_types::NoMemory;
 use std::alloc::{AllocError, Global};
 
-// The words after `clean`: `IN OUT --rule R [--gap W]`.
+// The words after `clean`: `IN OUT --rule R [--gap W] [--scale K]`.
 fn command<'a>(alloc: Global) -> Result<Command<'a>, AllocError>
     ensures { IfOk result (λ command. app_of command ≡ clean_command) }
 {
-    Command::new(alloc, "clean")
-        .arg(name(alloc, "IN"))?
-        .arg(name(alloc, "OUT"))?
+    on_files(alloc, "clean")?
         .arg(rule(alloc))?
-        .arg(gap(alloc))
+        .arg(gap(alloc))?
+        .arg(scale_option(alloc))
 }
 
 // The cleaning that the matches name.
@@ -36,16 +37,20 @@ fn named<'a>(matches: &ArgMatches<'a>) -> Option<Operation<'a>>
     let word = text_in(matches, "rule")?;
     let rule = rule_named(word)?;
     let gap = number_in(matches, "gap")?;
+    let scale = scale_in(matches);
+    if !suits(scale, from) || !suits(scale, to) {
+        return None;
+    }
     Some(Operation::Clean {
         rule,
         gap,
+        scale,
         from,
         to,
     })
 }
 
-/// The cleaning that the words after the first name, or None where the command doesn't take them or their rule is none
-/// of the four.
+/// The cleaning that the words after the first name, or None where they are not accepted.
 pub fn clean_named(alloc: Global, words: &[String]) -> Result<Option<Operation<'_>>, NoMemory>
     ensures { IfOk result (IsNamed (taken clean_command clean_in (map string_bytes words.now))) }
 {

@@ -1,8 +1,9 @@
 //! The words of the program `cover`, read by `clap`.
 //!
 //! Its promise: `operation_named` answers the operation that the words name exactly where they are accepted. They are
-//! accepted where the first word names an operation, the command of that operation takes the words after it, and a
-//! merge rule that they name is one of the four. `specs/Commands.antt` writes out the arguments of each command.
+//! accepted where the first word names an operation, the command of that operation takes the words after it, a merge
+//! rule that they name is one of the four, and a scale stands with no name of GeoJSON, which has none.
+//! `specs/Commands.antt` writes out the arguments of each command.
 //!
 //! The operation's word is read by hand (`words`). A file for each operation makes its command of its `arguments`, has
 //! `matched` run it on the words after that, and makes the operation of the `values` that were found.
@@ -10,6 +11,7 @@
 
 mod arguments;
 mod clean;
+mod commands;
 mod inputs;
 mod laws;
 mod locate;
@@ -19,6 +21,7 @@ mod operation;
 mod regions;
 mod rule_name;
 mod sample;
+mod scale;
 mod simplify;
 mod union;
 mod validate;

@@ -7,21 +7,21 @@ ghost use Rattle.cover_words.specs.Commands.{node_command};
 ghost use Rattle.cover_words.specs.Named.{IsNamed};
 ghost use Rattle.cover_words.specs.Words.{taken, node_in};
 
-use crate::arguments::name;
+use crate::arguments::scale as scale_option;
+use crate::commands::on_files;
 use crate::matched::matched;
 use crate::operation::Operation;
-use crate::values::text_in;
+use crate::scale::suits;
+use crate::values::{scale_in, text_in};
 use clap::{ArgMatches, Command};
 use cov_types::NoMemory;
 use std::alloc::{AllocError, Global};
 
-// The words after `node`: `IN OUT`.
+// The words after `node`: `IN OUT [--scale K]`.
 fn command<'a>(alloc: Global) -> Result<Command<'a>, AllocError>
     ensures { IfOk result (λ command. app_of command ≡ node_command) }
 {
-    Command::new(alloc, "node")
-        .arg(name(alloc, "IN"))?
-        .arg(name(alloc, "OUT"))
+    on_files(alloc, "node")?.arg(scale_option(alloc))
 }
 
 // The noding that the matches name.
@@ -30,10 +30,14 @@ fn named<'a>(matches: &ArgMatches<'a>) -> Option<Operation<'a>>
 {
     let from = text_in(matches, "IN")?;
     let to = text_in(matches, "OUT")?;
-    Some(Operation::Node { from, to })
+    let scale = scale_in(matches);
+    if !suits(scale, from) {
+        return None;
+    }
+    Some(Operation::Node { scale, from, to })
 }
 
-/// The noding that the words after the first name, or None where the command doesn't take them.
+/// The noding that the words after the first name, or None where they are not accepted.
 pub fn node_named(alloc: Global, words: &[String]) -> Result<Option<Operation<'_>>, NoMemory>
     ensures { IfOk result (IsNamed (taken node_command node_in (map string_bytes words.now))) }
 {

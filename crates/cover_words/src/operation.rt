@@ -5,12 +5,14 @@ ghost use Rattle.cover_words.specs.Words.{inputs_of, output_of};
 use crate::inputs::Inputs;
 use crate::rule_name::RuleName;
 
-/// An operation, with the names of the files that it works on and its other values.
+/// An operation, with its values, the scale of its texts where it may have one, from 0 to 7, and the names of the files
+/// that it works on.
 #[derive(Clone, Copy, Debug, PartialEq, Eq)]
 pub enum Operation<'a> {
     /// `gap` in grid units, 0 to 1,073,741,824.
     Validate {
         gap: u32,
+        scale: Option<u8>,
         from: &'a str,
         to: &'a str,
     },
@@ -18,6 +20,7 @@ pub enum Operation<'a> {
     Clean {
         rule: RuleName,
         gap: u32,
+        scale: Option<u8>,
         from: &'a str,
         to: &'a str,
     },
@@ -25,18 +28,22 @@ pub enum Operation<'a> {
     Simplify {
         tolerance: u32,
         inner: bool,
+        scale: Option<u8>,
         from: &'a str,
         to: &'a str,
     },
     Union {
+        scale: Option<u8>,
         from: &'a str,
         to: &'a str,
     },
     Node {
+        scale: Option<u8>,
         from: &'a str,
         to: &'a str,
     },
     Regions {
+        scale: Option<u8>,
         from: &'a str,
         to: &'a str,
     },
@@ -60,36 +67,14 @@ impl<'a> Operation<'a> {
         ensures { names_in result ≡ inputs_of (named self.now) }
     {
         match self {
-            Operation::Validate {
-                gap: _,
-                from,
-                to: _,
-            } => Inputs::One(from),
-            Operation::Clean {
-                rule: _,
-                gap: _,
-                from,
-                to: _,
-            } => Inputs::One(from),
-            Operation::Simplify {
-                tolerance: _,
-                inner: _,
-                from,
-                to: _,
-            } => Inputs::One(from),
-            Operation::Union { from, to: _ } => Inputs::One(from),
-            Operation::Node { from, to: _ } => Inputs::One(from),
-            Operation::Regions { from, to: _ } => Inputs::One(from),
-            Operation::Sample {
-                side: _,
-                seed: _,
-                to: _,
-            } => Inputs::Nothing,
-            Operation::Locate {
-                from,
-                points,
-                to: _,
-            } => Inputs::Two(from, points),
+            Operation::Validate { from, .. } => Inputs::One(from),
+            Operation::Clean { from, .. } => Inputs::One(from),
+            Operation::Simplify { from, .. } => Inputs::One(from),
+            Operation::Union { from, .. } => Inputs::One(from),
+            Operation::Node { from, .. } => Inputs::One(from),
+            Operation::Regions { from, .. } => Inputs::One(from),
+            Operation::Sample { .. } => Inputs::Nothing,
+            Operation::Locate { from, points, .. } => Inputs::Two(from, points),
         }
     }
 
@@ -98,36 +83,14 @@ impl<'a> Operation<'a> {
         ensures { result.now ≡ output_of (named self.now) }
     {
         match self {
-            Operation::Validate {
-                gap: _,
-                from: _,
-                to,
-            } => to,
-            Operation::Clean {
-                rule: _,
-                gap: _,
-                from: _,
-                to,
-            } => to,
-            Operation::Simplify {
-                tolerance: _,
-                inner: _,
-                from: _,
-                to,
-            } => to,
-            Operation::Union { from: _, to } => to,
-            Operation::Node { from: _, to } => to,
-            Operation::Regions { from: _, to } => to,
-            Operation::Sample {
-                side: _,
-                seed: _,
-                to,
-            } => to,
-            Operation::Locate {
-                from: _,
-                points: _,
-                to,
-            } => to,
+            Operation::Validate { to, .. } => to,
+            Operation::Clean { to, .. } => to,
+            Operation::Simplify { to, .. } => to,
+            Operation::Union { to, .. } => to,
+            Operation::Node { to, .. } => to,
+            Operation::Regions { to, .. } => to,
+            Operation::Sample { to, .. } => to,
+            Operation::Locate { to, .. } => to,
         }
     }
 }

@@ -25,7 +25,7 @@ fn names(alloc: Global, line: &str, wanted: Operation) -> Result<bool, NoMemory>
     Ok(operation_named(alloc, &words)? == Some(wanted))
 }
 
-static REFUSED: [&str; 29] = [
+static REFUSED: [&str; 38] = [
     "_",
     "measure a b",
     "clean",
@@ -48,6 +48,15 @@ static REFUSED: [&str; 29] = [
     "locate a b c --gap 3",
     "simplify a b --inner",
     "simplify a b --tolerance 8 --inner=true",
+    "clean a.json b --rule least-index --scale 2",
+    "clean a b.geojson --rule least-index --scale 2",
+    "simplify a b.json --tolerance 8 --scale 2",
+    "union a b.json --scale 2",
+    "node a.json b --scale 0",
+    "regions a.json b --scale 2",
+    "node a b --scale 8",
+    "node a b --scale 2 --scale 2",
+    "locate a b c --scale 2",
     "sample 0 1 a",
     "sample 401 1 a",
     "sample 1 4294967296 a",
@@ -73,6 +82,7 @@ fn options_stand_anywhere(rt: HostRuntime) -> Result<(), Fail> {
     let wanted = Operation::Clean {
         rule: RuleName::LeastIndex,
         gap: 3,
+        scale: None,
         from: "a",
         to: "b",
     };
@@ -86,11 +96,17 @@ fn options_stand_anywhere(rt: HostRuntime) -> Result<(), Fail> {
 fn gaps_from_0_to_their_limit(rt: HostRuntime) -> Result<(), Fail> {
     let alloc = rt.alloc();
     let (from, to) = ("a", "b");
-    let none = Operation::Validate { gap: 0, from, to };
+    let none = Operation::Validate {
+        gap: 0,
+        scale: None,
+        from,
+        to,
+    };
     assert!(rt; names(alloc, "validate a b", none)?);
     assert!(rt; names(alloc, "validate a b --gap=-0", none)?);
     let most = Operation::Validate {
         gap: 1_073_741_824,
+        scale: None,
         from,
         to,
     };
@@ -102,13 +118,22 @@ fn gaps_from_0_to_their_limit(rt: HostRuntime) -> Result<(), Fail> {
 fn names_of_any_text(rt: HostRuntime) -> Result<(), Fail> {
     let alloc = rt.alloc();
     let dashes = Operation::Union {
+        scale: None,
         from: "-a",
         to: "--gap",
     };
     assert!(rt; names(alloc, "union -- -a --gap", dashes)?);
-    let empty = Operation::Node { from: "", to: "-" };
+    let empty = Operation::Node {
+        scale: None,
+        from: "",
+        to: "-",
+    };
     assert!(rt; names(alloc, "node _ -", empty)?);
-    let plain = Operation::Regions { from: "a", to: "a" };
+    let plain = Operation::Regions {
+        scale: None,
+        from: "a",
+        to: "a",
+    };
     assert!(rt; names(alloc, "regions a a", plain)?);
     Ok(())
 }
@@ -120,6 +145,7 @@ fn lines_inside_alone(rt: HostRuntime) -> Result<(), Fail> {
     let all = Operation::Simplify {
         tolerance,
         inner: false,
+        scale: None,
         from,
         to,
     };
@@ -127,10 +153,39 @@ fn lines_inside_alone(rt: HostRuntime) -> Result<(), Fail> {
     let inner = Operation::Simplify {
         tolerance,
         inner: true,
+        scale: None,
         from,
         to,
     };
     assert!(rt; names(alloc, "simplify --inner a b --tolerance 8", inner)?);
+    Ok(())
+}
+
+#[test]
+fn scales_of_text(rt: HostRuntime) -> Result<(), Fail> {
+    let alloc = rt.alloc();
+    let most = Operation::Node {
+        scale: Some(7),
+        from: "a",
+        to: "b.json",
+    };
+    assert!(rt; names(alloc, "node a --scale 7 b.json", most)?);
+    let (gap, from, to) = (0, "a", "b");
+    let least = Operation::Validate {
+        gap,
+        scale: Some(0),
+        from,
+        to,
+    };
+    assert!(rt; names(alloc, "validate a b --scale=+00", least)?);
+    let clean = Operation::Clean {
+        rule: RuleName::LeastArea,
+        gap,
+        scale: Some(2),
+        from,
+        to,
+    };
+    assert!(rt; names(alloc, "clean --scale 2 a b --rule least-area", clean)?);
     Ok(())
 }
 
@@ -156,7 +211,11 @@ fn samples_of_1_to_400_cells_on_a_side(rt: HostRuntime) -> Result<(), Fail> {
 
 #[test]
 fn files_of_an_operation(rt: HostRuntime) -> Result<(), Fail> {
-    let union = Operation::Union { from: "a", to: "b" };
+    let union = Operation::Union {
+        scale: None,
+        from: "a",
+        to: "b",
+    };
     assert_eq!(rt; union.inputs(), Inputs::One("a"));
     assert_eq!(rt; union.output(), "b");
     let locate = Operation::Locate {

@@ -7,22 +7,23 @@ ghost use Rattle.cover_words.specs.Commands.{validate_command};
 ghost use Rattle.cover_words.specs.Named.{IsNamed};
 ghost use Rattle.cover_words.specs.Words.{taken, validate_in};
 
-use crate::arguments::{gap, name};
+use crate::arguments::{gap, scale as scale_option};
+use crate::commands::on_files;
 use crate::matched::matched;
 use crate::operation::Operation;
-use crate::values::{number_in, text_in};
+use crate::scale::suits;
+use crate::values::{number_in, scale_in, text_in};
 use clap::{ArgMatches, Command};
 use cov_types::NoMemory;
 use std::alloc::{AllocError, Global};
 
-// The words after `validate`: `IN OUT [--gap W]`.
+// The words after `validate`: `IN OUT [--gap W] [--scale K]`.
 fn command<'a>(alloc: Global) -> Result<Command<'a>, AllocError>
     ensures { IfOk result (λ command. app_of command ≡ validate_command) }
 {
-    Command::new(alloc, "validate")
-        .arg(name(alloc, "IN"))?
-        .arg(name(alloc, "OUT"))?
-        .arg(gap(alloc))
+    on_files(alloc, "validate")?
+        .arg(gap(alloc))?
+        .arg(scale_option(alloc))
 }
 
 // The validation that the matches name.
@@ -32,10 +33,19 @@ fn named<'a>(matches: &ArgMatches<'a>) -> Option<Operation<'a>>
     let from = text_in(matches, "IN")?;
     let to = text_in(matches, "OUT")?;
     let gap = number_in(matches, "gap")?;
-    Some(Operation::Validate { gap, from, to })
+    let scale = scale_in(matches);
+    if !suits(scale, from) {
+        return None;
+    }
+    Some(Operation::Validate {
+        gap,
+        scale,
+        from,
+        to,
+    })
 }
 
-/// The validation that the words after the first name, or None where the command doesn't take them.
+/// The validation that the words after the first name, or None where they are not accepted.
 pub fn validate_named(alloc: Global, words: &[String]) -> Result<Option<Operation<'_>>, NoMemory>
     ensures { IfOk result (IsNamed (taken validate_command validate_in (map string_bytes words.now))) }
 {

@@ -1,15 +1,15 @@
 -- Features without a float have one written form.
-use Rattle.std.proofs.Common.{◌≡◌, ℕ, Bool, true, false, if◌then◌else◌, is_some, List, [], ◌∷◌, ◌++◌, length, refl, ap, sym, subst, ◌∙◌, codes}
+use Rattle.std.proofs.Common.{◌≡◌, ℕ, Bool, true, false, if◌then◌else◌, is_some, Option, List, [], ◌∷◌, ◌++◌, length, refl, ap, sym, subst, ◌∙◌, codes}
 use Rattle.std.specs.Prelude.{All}
 use Rattle.std.proofs.lemmas.List.Elements.{All-head, All-tail, All-replicate}
 use Rattle.cov_types.specs.Coverage.{Members}
+use Rattle.file_form.specs.Name.{is_json}
 use Rattle.serde_json.specs.Data.{Data, null}
 use Rattle.serde_json.specs.Find.{as_null}
 use Rattle.serde_json.specs.Written.{has_float}
 use Rattle.geo_json.specs.Reading.{Reading}
 use Rattle.json_write.specs.Text.{IsValueText, Feature, features_from, geometry_text, id_text, IsFeatureText, AreFeatureTexts, collection_text}
 use Rattle.feature_files.specs.Form.{IsWrittenBy, IsWrittenAs, HasNoFloat}
-use Rattle.feature_files.specs.Name.{is_json}
 use Rattle.feature_files.specs.Reading.{bare}
 
 abbrev IsExact : Data → Type 0
@@ -48,17 +48,17 @@ one_texts (m ∷ ms) (p ∷ ps) (i ∷ is) (t ∷ ts) (u ∷ us) exact no_id h k
     let rest = one_texts ms ps is ts us (All-tail IsExact p ps exact) (All-tail IsExact i is no_id) h.1 k.1 in
     λ j. first j ∷ rest j
 
-one_form_by : (json : Bool) (r : Reading) (text other : List ℕ) → HasNoFloat r → IsWrittenBy json r text → IsWrittenBy json r other → text ≡ other
-one_form_by true r text other exact h k = h.text_is ∙ ap collection_text (one_texts r.members r.properties r.ids h.texts k.texts exact.properties exact.ids h.each k.each) ∙ sym k.text_is
-one_form_by false r text other exact h k = h ∙ sym k
+one_form_by : (json : Bool) (scale : Option ℕ) (r : Reading) (text other : List ℕ) → HasNoFloat r → IsWrittenBy json scale r text → IsWrittenBy json scale r other → text ≡ other
+one_form_by true scale r text other exact h k = h.text_is ∙ ap collection_text (one_texts r.members r.properties r.ids h.texts k.texts exact.properties exact.ids h.each k.each) ∙ sym k.text_is
+one_form_by false scale r text other exact h k = h ∙ sym k
 
-pub one_form : (name : List ℕ) (r : Reading) (text other : List ℕ) → HasNoFloat r → IsWrittenAs name r text → IsWrittenAs name r other → text ≡ other
+pub one_form : (name : List ℕ) (scale : Option ℕ) (r : Reading) (text other : List ℕ) → HasNoFloat r → IsWrittenAs name scale r text → IsWrittenAs name scale r other → text ≡ other
 one_form name = one_form_by (is_json name)
 
 -- text has one form, whatever the properties and ids
-pub one_text_form : (name : List ℕ) (r : Reading) (text other : List ℕ) → is_json name ≡ false → IsWrittenAs name r text → IsWrittenAs name r other → text ≡ other
-one_text_form name r text other is_text h k =
-    subst (λ (json : Bool). IsWrittenBy json r text) is_text h ∙ sym (subst (λ (json : Bool). IsWrittenBy json r other) is_text k)
+pub one_text_form : (name : List ℕ) (scale : Option ℕ) (r : Reading) (text other : List ℕ) → is_json name ≡ false → IsWrittenAs name scale r text → IsWrittenAs name scale r other → text ≡ other
+one_text_form name scale r text other is_text h k =
+    subst (λ (json : Bool). IsWrittenBy json scale r text) is_text h ∙ sym (subst (λ (json : Bool). IsWrittenBy json scale r other) is_text k)
 
 -- null properties and no ids have no float
 pub bare_exact : (members : Members) → HasNoFloat (bare members)

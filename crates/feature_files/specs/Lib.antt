@@ -1,4 +1,3 @@
-pub mod Name
 pub mod Reading
 pub mod Fault
 pub mod Form

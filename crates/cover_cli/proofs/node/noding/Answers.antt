@@ -1,5 +1,5 @@
 -- The text has the noded edges and the lists of the odd uses.
-use Rattle.std.proofs.Common.{◌≡◌, ◌∙◌, List, ◌∷◌, Vec, map, ap, subst, refl, length, None, arith}
+use Rattle.std.proofs.Common.{◌≡◌, ◌∙◌, List, ◌∷◌, Vec, map, ap, subst, refl, length, arith}
 use Rattle.std.specs.declared.alloc.Global.{Global}
 use Rattle.cov_types.specs.Uses.{uses_of}
 use Rattle.cov_types.specs.declared.edge_use.EdgeUse.{EdgeUse}
@@ -28,6 +28,6 @@ returns c =
       odd = pairs;
       noded = subst IsNodedBy uses c.in_ok-noded.ensures.exact;
       lines = c.in_ok-text.ensures
-          ∙ ap (λ (all : List (Vec Seg Global)). lines_text None (map (λ (l : Vec Seg Global). l.items) all)) inserted
-          ∙ ap (λ (all : List (List Seg)). lines_text None (edges ∷ all)) (member_lists_are (odd_uses edges pairs) c.args.c.now c.in_ok-lists.lists.items lists);
+          ∙ ap (λ (all : List (Vec Seg Global)). lines_text c.args.scale (map (λ (l : Vec Seg Global). l.items) all)) inserted
+          ∙ ap (λ (all : List (List Seg)). lines_text c.args.scale (edges ∷ all)) (member_lists_are (odd_uses edges pairs) c.args.c.now c.in_ok-lists.lists.items lists);
     }

@@ -11,13 +11,13 @@ returns c =
     let union = c.in_ok-union in
     let one : c.push.new.self.items ≡ union.union ∷ [] = search rules in
     record {
-      admitted = c.requires;
+      admitted = c.requires.valid;
       done = refl;
       out = union.union ∷ [];
       united = union.ensures.polygons;
       union = union.ensures.union;
       valid = union.ensures.valid;
       formed = union.ensures.formed;
-      written = subst (λ (members : Members). IsWrittenAs c.args.to.now (bare members) c.in_ok-text.text.items) one
-          (subst (λ (r : Reading). IsWrittenAs c.args.to.now r c.in_ok-text.text.items) c.in_ok-features.ensures c.in_ok-text.ensures);
+      written = subst (λ (members : Members). IsWrittenAs c.args.to.now c.args.scale (bare members) c.in_ok-text.text.items) one
+          (subst (λ (r : Reading). IsWrittenAs c.args.to.now c.args.scale r c.in_ok-text.text.items) c.in_ok-features.ensures c.in_ok-text.ensures);
     }

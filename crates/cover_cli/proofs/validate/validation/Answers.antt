@@ -1,5 +1,5 @@
 -- The text has the lists of the marked uses.
-use Rattle.std.proofs.Common.{◌≡◌, ◌∙◌, ap, sym, length, None, arith}
+use Rattle.std.proofs.Common.{◌≡◌, ◌∙◌, ap, sym, length, arith}
 use Rattle.cov_types.specs.Uses.{uses_of}
 use Rattle.cov_write.specs.Written.{lines_text}
 use Rattle.cover_cli.proofs.Listing.{member_lists_are, lists_moved}
@@ -19,5 +19,5 @@ returns c =
       marks = c.in_ok-marks.marks.items;
       marked = c.in_ok-marks.ensures.exact;
       counted = c.outcome_of-outcome.ensures ∙ ap marking (omega arith);
-      lines = c.in_ok-text.ensures ∙ ap (lines_text None) (member_lists_are (marked_uses (uses_of c.args.c.now) c.in_ok-marks.marks.items) c.args.c.now c.deref-4.result.now lists);
+      lines = c.in_ok-text.ensures ∙ ap (lines_text c.args.scale) (member_lists_are (marked_uses (uses_of c.args.c.now) c.in_ok-marks.marks.items) c.args.c.now c.deref-4.result.now lists);
     }

@@ -1,5 +1,13 @@
+//! The form of a file, by its name.
+//!
+//! Its promise: `is_json` tells a name of GeoJSON from one of text, by its last letters alone.
+#![tactic(auto)]
+
 ghost use Rattle.std.specs.Prelude.{◌≡◌};
-ghost use Rattle.feature_files.specs.Name.{is_json as names_json};
+ghost use Rattle.file_form.specs.Name.{is_json as names_json};
+
+#[cfg(test)]
+mod tests;
 
 /// Whether a file of this name is GeoJSON: the name ends in `.json` or `.geojson`, in these letters. Every other file
 /// is text. Takes constant time.

@@ -2,7 +2,7 @@
 use Rattle.std.proofs.Common.{◌∙◌, ◌||◌, Bool, List, ℕ, ap, sym, codes, eqb}
 use Rattle.std.specs.List.{ends_with}
 use Rattle.std.proofs.lemmas.Str.Pattern.{ends_text}
-use Rattle.feature_files.proofs.name.is_json.Goals as goal
+use Rattle.file_form.proofs.is_json.Goals as goal
 
 pub returns-else-ends_with : goal.returns-else-ends_with
 returns-else-ends_with c =

@@ -6,7 +6,7 @@ Usage: tools/draw.py POLYGONS.wkt [SEGMENTS.wkt [REGIONS.txt]] >PICTURE.svg
 
 The polygons of each geometry have one colour; segments are drawn red. With the rows of `cover regions` as the third
 file, the segments are those of `cover node`: then each region has its row's number, kind and label beside its least
-side, and no segment is red. With --places the points of a points file are drawn, each with its row of `cover locate`. It reads plain well-known text with whole numbers and proves nothing.
+side, and no segment is red. With --places the points of a points file are drawn, each with its row of `cover locate`. It reads plain well-known text, decimals too, and proves nothing.
 """
 import math
 import re
@@ -30,7 +30,7 @@ def geometries(text):
             if depth == 0:
                 break
         body = text[found.end() - 1:end]
-        rings = [[tuple(int(n) for n in pair.split()) for pair in ring.split(",")]
+        rings = [[tuple(float(n) for n in pair.split()) for pair in ring.split(",")]
                  for ring in re.findall(r"\(([^()]+)\)", body)]
         yield found.group(1).upper(), rings
 

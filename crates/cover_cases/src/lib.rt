@@ -23,6 +23,8 @@ mod rows;
 #[cfg(test)]
 mod sampling;
 #[cfg(test)]
+mod scaling;
+#[cfg(test)]
 mod simplifying;
 #[cfg(test)]
 mod tests;

@@ -1,12 +1,12 @@
 -- The overlay of two coverages is valid, and holds each point by the pair of the members that hold it.
-use mathlib.Core.List.{[]}
-use Rattle.std.proofs.Common.{◌≡◌, ◌⊎◌, inl, inr, sym, ◌∙◌, ap, subst, ℕ, ◌<◌, ◌↔◌, Bool, true, List, ◌++◌, length, arith}
-use Rattle.std.specs.Prelude.{Contains, Option, Some, slice_get}
-use Rattle.std.proofs.lemmas.Option.{none-some, same_Some, slice_get_within}
+use Rattle.std.proofs.Common.{◌≡◌, ◌⊎◌, inl, inr, sym, ◌∙◌, ap, ℕ, ◌<◌, true, List, ◌++◌, length}
+use Rattle.std.specs.Prelude.{Contains, Some, slice_get}
+use Rattle.std.proofs.lemmas.Option.{none-some, same_Some}
 use Rattle.cov_types.specs.declared.seg.Seg.{Seg}
 use Rattle.cov_types.specs.Coverage.{Members, AllInRange}
 use Rattle.cov_types.specs.Uses.{uses_of}
 use Rattle.plane.specs.Joined.{IsOff}
+use Rattle.plane.specs.Label.{label_at}
 use Rattle.plane.specs.Parity.{member_holds}
 use Rattle.plane.specs.Point.{Point}
 use Rattle.plane.specs.Region.{IsOuter, IsRegionOf}
@@ -56,7 +56,7 @@ module _ (a b : Members) (in_range : AllInRange (a ++ b)) (pairs : List Pair) (o
         pair_is (length a) (λ m. member_holds noded.snapped m p) (length (a ++ b)) below pair
         (sym (ap (pair_of (length a)) (region_label (a ++ b) in_range o h.is_overlay edges odd noded p r own)) ∙ is)
 
-    of_label : (pair : Pair) → Here pair → pair_of (length a) (_) ≡ Some pair
+    of_label : (pair : Pair) → Here pair → pair_of (length a) (label_at noded.snapped (length (a ++ b)) p) ≡ Some pair
     of_label pair here = is_pair (length a) (λ m. member_holds noded.snapped m p) (length (a ++ b)) below pair here
 
     here_pair : (r : ℕ) → IsRegionOf o.edges p r → (pair : Pair) → Here pair → region_pair (length a) o r ≡ Some pair
@@ -84,7 +84,7 @@ module _ (a b : Members) (in_range : AllInRange (a ++ b)) (pairs : List Pair) (o
     here_held : (k : ℕ) (pair : Pair) → slice_get pairs k ≡ Some pair → Here pair → member_holds (uses_of out) k p ≡ true
     here_held k pair listed here = elim where_is [
       | inl there ↦ (held_is o h.owners (length pairs) are out h.built p there.0 there.1 k).1 (
-        owned_at (length a) o pairs h.owners h.are_owners h.are_pairs.ascending there.0 k pair (region there.0 there.1) (here_pair there.0 there.1 pair here) listed)
+          owned_at (length a) o pairs h.owners h.are_owners h.are_pairs.ascending there.0 k pair (region there.0 there.1) (here_pair there.0 there.1 pair here) listed)
       | inr outer ↦ absurd (none_outer pair outer here)
     ]
 

@@ -1,8 +1,7 @@
 -- The pair of a label is the least member of each coverage that holds the point.
 use mathlib.Core.List.{[], ◌∷◌}
-use Rattle.std.proofs.Common.{◌≡◌, inl, inr, refl, sym, ◌∙◌, ap, subst, ℕ, ◌+◌, ◌-◌, ◌<◌, ◌≤◌, ◌↔◌, Bool, true, nat_lt, nat_le, List, filter, arith}
+use Rattle.std.proofs.Common.{◌≡◌, inl, inr, refl, ◌∙◌, ap, subst, ℕ, ◌+◌, ◌-◌, ◌<◌, ◌≤◌, Bool, true, nat_lt, nat_le, List, filter, arith}
 use Rattle.std.specs.Prelude.{Contains, Option, Some, None, slice_get}
-use Rattle.std.specs.List.{list_all}
 use Rattle.std.proofs.lemmas.Bool.{cases_lt, and_parts}
 use Rattle.std.proofs.lemmas.Bool.Decides.{nat_tests}
 use Rattle.std.proofs.lemmas.List.Elements.{All-contains}
@@ -20,13 +19,13 @@ use Rattle.overlaid_laws.specs.Pairs.{pair_with, least_of_first, least_of_second
 
 -- ---- the first of an ascending list is the least
 
-less_from : (m n : ℕ) → nat_lt m n ≡ true → m < n
+pub less_from : (m n : ℕ) → nat_lt m n ≡ true → m < n
 less_from m n test = grind (arith, nat_tests)
 
 less_test : (m n : ℕ) → m < n → nat_lt m n ≡ true
 less_test m n less = grind (arith, nat_tests)
 
-le_from : (m n : ℕ) → nat_le m n ≡ true → m ≤ n
+pub le_from : (m n : ℕ) → nat_le m n ≡ true → m ≤ n
 le_from m n test = grind (arith, nat_tests)
 
 le_test : (m n : ℕ) → m ≤ n → nat_le m n ≡ true

@@ -1,5 +1,6 @@
 pub mod Joint
 pub mod LeastPairs
+pub mod BelowPairs
 pub mod OnePairs
 pub mod SnappedLabels
 pub mod PairOwners

@@ -26,10 +26,9 @@ one_overlaid a b in_range pairs others out other h k =
     let on : IsBuiltOn n h.overlay others other = subst (λ o. IsBuiltOn n o others other) same (record { are_pairs = k.are_pairs; owners = k.owners; are_owners = k.are_owners; built = k.built }) in
     let same_pairs : pairs ≡ others = one_pairs n h.overlay pairs others h.are_pairs on.are_pairs in
     let there : IsBuiltOn n h.overlay pairs other = subst (λ ps. IsBuiltOn n h.overlay ps other) (sym same_pairs) on in
-    let is_live = live (a ++ b) in_range h.overlay h.is_overlay in
-    (
+    let is_live = live (a ++ b) in_range h.overlay h.is_overlay in (
       same_pairs,
       one_built h.overlay is_live.planar is_live.regions h.owners there.owners
-      (one_owning n h.overlay pairs h.are_pairs.ascending h.owners there.owners h.are_owners there.are_owners)
-      (length pairs) out other h.built there.built,
+          (one_owning n h.overlay pairs h.are_pairs.ascending h.owners there.owners h.are_owners there.are_owners)
+          (length pairs) out other h.built there.built,
     )

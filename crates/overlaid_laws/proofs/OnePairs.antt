@@ -1,5 +1,5 @@
 -- A list of pairs in order has each pair at one place, and two coverages have one list of them.
-use Rattle.std.proofs.Common.{◌≡◌, inl, inr, sym, ◌∙◌, subst, ℕ, ◌<◌, true, List, ◌++◌, length, IsTrue, arith}
+use Rattle.std.proofs.Common.{◌≡◌, inl, inr, subst, ℕ, ◌<◌, List, ◌++◌, length, get_or, IsTrue, arith}
 use Rattle.std.specs.Prelude.{AllPairs, Some, slice_get}
 use Rattle.std.proofs.lemmas.Bool.{cases_order}
 use Rattle.std.proofs.lemmas.Bool.Decides.{nat_tests}
@@ -30,7 +30,7 @@ one_place pairs up j k pair at_j at_k = elim (cases_order j k) [
     not_before : (i m : ℕ) → i < m → slice_get pairs i ≡ Some pair → slice_get pairs m ≡ Some pair → ⊥
     not_before i m less at_i at_m =
         let before = up i m pair less (slice_get_within pairs m pair at_m) in
-        let itself = subst (λ q. IsTrue (is_pair_before pair q)) (get_or_from_slice_get pairs m pair pair at_m) (subst (λ p. IsTrue (is_pair_before p _)) (get_or_from_slice_get pairs i pair pair at_i) before) in
+        let itself = subst (λ q. IsTrue (is_pair_before pair q)) (get_or_from_slice_get pairs m pair pair at_m) (subst (λ p. IsTrue (is_pair_before p (get_or pairs m pair))) (get_or_from_slice_get pairs i pair pair at_i) before) in
         both_ways pair pair itself itself
 
 pub one_pairs : (n : ℕ) (o : Overlay) (pairs others : List Pair) → ArePairs n o pairs → ArePairs n o others → pairs ≡ others

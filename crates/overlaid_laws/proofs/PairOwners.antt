@@ -1,14 +1,13 @@
 -- Owners by pairs are owners that polygons can be built of, and two choices of them are one.
-use mathlib.Core.List.{[]}
-use Rattle.std.proofs.Common.{◌≡◌, refl, sym, ◌∙◌, ap, subst, ℕ, ◌+◌, ◌<◌, List, ◌++◌, length, length-append, arith}
-use Rattle.std.specs.Prelude.{AllPairs, Contains, Option, Some, None, slice_get, IsTrue}
+use Rattle.std.proofs.Common.{◌≡◌, refl, sym, ◌∙◌, ap, subst, ℕ, List, ◌++◌, length}
+use Rattle.std.specs.Prelude.{AllPairs, Option, Some, None, slice_get, IsTrue}
 use Rattle.std.proofs.lemmas.Option.{none-some, same_Some, slice_get_within}
 use Rattle.cov_types.specs.Coverage.{Members, AllInRange}
 use Rattle.cov_types.specs.Uses.{uses_of}
 use Rattle.plane.specs.Region.{far_point, IsOuterRegion}
 use Rattle.sound_polygons.specs.Laws.{AgreeOnRegions}
 use Rattle.arrangement.specs.Live.{IsLiveOverlay}
-use Rattle.arrangement.specs.Overlay.{Overlay, IsRegion, IsSnappedOverlay, label_of}
+use Rattle.arrangement.specs.Overlay.{Overlay, IsRegion, IsSnappedOverlay}
 use Rattle.cleaned_laws.specs.Owning.{AreMemberOwners}
 use Rattle.cleaned_laws.proofs.Built.{region_of}
 use Rattle.cleaned_laws.proofs.Cleaned.{ascending_distinct, far_region, outer_label}
@@ -23,11 +22,6 @@ outer_pair o is_live n r outer = ap (pair_of n) (outer_label o is_live r outer)
 
 module _ (n : ℕ) (o : Overlay) (pairs : List Pair) (owners : ℕ → Option ℕ) (are : AreOverlaidOwners n o pairs owners) where
   -- the owner of a region is a place of its pair
-  record IsPairPlace (r k : ℕ) : Type 0 where
-    pair : Pair
-    listed : slice_get pairs k ≡ Some pair
-    has : region_pair n o r ≡ Some pair
-
   pub place_of : (r k : ℕ) → IsRegion o.edges r → owners r ≡ Some k → (pair : Pair) × ((slice_get pairs k ≡ Some pair) × (region_pair n o r ≡ Some pair))
   place_of r k region owned = by (region_pair n o r) refl
     where

@@ -1,5 +1,5 @@
 -- The pairs of members of two coverages that hold a region together. The second coverage's members are numbered after the n members of the first.
-use Rattle.std.specs.Prelude.{◌≡◌, ◌↔◌, ℕ, ◌-◌, ◌==◌, ◌&&◌, ◌||◌, Bool, nat_lt, nat_le, IsTrue, List, length, filter, AllPairs, Contains, Option, Some, None, slice_get}
+use Rattle.std.specs.Prelude.{◌≡◌, ◌↔◌, ℕ, ◌-◌, ◌==◌, ◌&&◌, ◌||◌, Bool, nat_lt, nat_le, IsTrue, List, filter, AllPairs, Contains, Option, Some, None, slice_get}
 use Rattle.arrangement.specs.Overlay.{Overlay, IsRegion, label_of}
 use Rattle.overlaid_laws.specs.declared.pair.Pair.{Pair}
 

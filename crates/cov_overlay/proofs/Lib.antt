@@ -4,4 +4,4 @@ mod LabelPair
 mod SomePairs
 mod SidePairs
 mod JointUses
-mod Overlaying
+mod BuiltPairs

@@ -2,9 +2,9 @@
 use Rattle.std.proofs.Common.{◌≡◌, refl, ap, ◌&&◌, ◌||◌, ◌==◌, Bool, true, false, cond, eqb, nat_lt, Decides, Ordering, Less, Equal, Greater, is_lt, IsTrue, arith}
 use Rattle.std.specs.Cmp.{IsTotalOrder}
 use Rattle.std.specs.Ordering.{nat_cmp, ordering_then}
+use Rattle.std.proofs.lemmas.Bool.{and_parts, and_from}
 use Rattle.std.proofs.lemmas.Bool.Decides.{Decides-eqb, nat_tests}
 use Rattle.std.proofs.lemmas.Cmp.{nat_cmp_total, on_total, then_total}
-use Rattle.cov_types.proofs.Equal.{Decides-both}
 use Rattle.overlaid_laws.specs.declared.pair.Pair.{Pair}
 use Rattle.overlaid_laws.specs.Pairs.{is_pair_before}
 
@@ -31,7 +31,10 @@ same_pairs p q e f = λ i. record { a = e i; b = f i }
 
 -- what `==` answers decides whether two pairs are one
 pub Decides-same_pairs : (p q : Pair) → Decides (eqb p.a q.a && eqb p.b q.b) (p ≡ q)
-Decides-same_pairs p q = Decides-both _ _ (Decides-eqb p.a q.a) (Decides-eqb p.b q.b) (same_pairs p q) (ap (λ (x : Pair). x.a)) (ap (λ (x : Pair). x.b))
+Decides-same_pairs p q = (
+  λ h. (let parts = and_parts (eqb p.a q.a) (eqb p.b q.b) h in same_pairs p q ((Decides-eqb p.a q.a).0 parts.0) ((Decides-eqb p.b q.b).0 parts.1)),
+  λ same. and_from (eqb p.a q.a) (eqb p.b q.b) ((Decides-eqb p.a q.a).1 (ap (λ (x : Pair). x.a) same)) ((Decides-eqb p.b q.b).1 (ap (λ (x : Pair). x.b) same)),
+)
 
 -- two pairs of which neither comes before the other are one
 pub same_from_neither : (p q : Pair) → is_pair_before p q ≡ false → is_pair_before q p ≡ false → p ≡ q

@@ -1,7 +1,7 @@
 ghost use Rattle.std.specs.Prelude.{◌≡◌, ◌+◌, ◌≤◌, ◌<◌, ◌^◌, ◌++◌, List, IfOk, IfErr, length, vec_len};
 ghost use Rattle.arrangement.specs.Noding.{IsNoded};
 ghost use Rattle.arrangement.specs.declared.odd_use.OddUse.{OddUse};
-ghost use Rattle.cov_types.specs.Coverage.{IsFormed};
+ghost use Rattle.cov_types.specs.Coverage.{AllInRange, IsFormed};
 ghost use Rattle.cov_types.specs.Uses.{uses_of};
 ghost use Rattle.cov_types.specs.declared.seg.Seg.{Seg};
 ghost use Rattle.overlaid_laws.specs.Overlaid.{IsOverlaid, HoldsByPair};
@@ -58,11 +58,24 @@ pub fn overlay(
     let first = a.coverage();
     let second = b.coverage();
     checked_count(first.members.len() + second.members.len())?;
-    let live = live_edges(alloc, first, second)?;
+    paired_regions(alloc, first, second)
+}
+
+// The pairs of the regions between the noded edges of both, and the polygons of the regions of each pair.
+fn paired_regions(alloc: Global, a: &Coverage, b: &Coverage) -> Result<Overlaid, OverlayError>
+    requires first { AllInRange a.now }
+    requires second { AllInRange b.now }
+    requires few { length a.now + length b.now < 2 ^ 32 }
+    ensures overlaid { IfOk result (λ out. IsOverlaid a.now b.now out.pairs.items out.coverage) }
+    ensures formed { IfOk result (λ out. IsFormed out.coverage) }
+    ensures few_pairs { IfOk result (λ out. vec_len out.pairs < 2 ^ 32) }
+    ensures refused { IfErr result (IsCause a.now b.now) }
+{
+    let live = live_edges(alloc, a, b)?;
     let arena = Arena::build(alloc, live.edges.to_vec(alloc)?)?;
     let regions = Regions::build(alloc, &arena)?;
     let labels = Labels::build(alloc, &arena, &regions, &live)?;
-    let by_side = pairs_of_sides(alloc, &regions, &labels, first.members.len() as u32)?;
+    let by_side = pairs_of_sides(alloc, &regions, &labels, a.members.len() as u32)?;
     let pairs = distinct_pairs(alloc, &by_side)?;
     let count = checked_count(pairs.len())?;
     let owners = places_of(alloc, &by_side, &pairs)?;

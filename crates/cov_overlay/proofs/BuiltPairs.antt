@@ -117,8 +117,8 @@ module _ (a b : Members) (in_range : AllInRange (a ++ b)) (edges : List Seg) (od
       at_region o is r region =
           let numbered = is.overlay.numbered in
           let inside : r < length by_side = (
-              let within = region_within (length a) o numbered by_side (of o is) r region in
-              omega (arith, within, sides_count (length a) o numbered by_side (of o is))
+          let within = region_within (length a) o numbered by_side (of o is) r region in
+          omega (arith, within, sides_count (length a) o numbered by_side (of o is))
           ) in
           subst (λ (owner : Option ℕ). IsPlace pairs (region_pair (length a) o r) owner) (sym (unwrap_or-slice_get owners r None))
           (subst (λ (pair : Option Pair). IsPlace pairs pair (get_or owners r None)) (read_region (length a) o numbered by_side (of o is) r None region) (places.each r None None inside))

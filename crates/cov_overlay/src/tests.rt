@@ -72,7 +72,10 @@ fn a_square_across_two_neighbours_meets_both(rt: HostRuntime) -> Result<(), Fail
     let a = coverage(alloc, &rt, &[&left, &right])?;
     let b = coverage(alloc, &rt, &[&[(2, 2), (8, 2), (8, 8), (2, 8)]])?;
     let out = overlay(alloc, &a, &b)?;
-    assert_eq!(rt; out.pairs.as_slice(), [Pair { a: 0, b: 0 }, Pair { a: 1, b: 0 }].as_slice());
+    assert_eq!(rt;
+        out.pairs.as_slice(),
+        [Pair { a: 0, b: 0 }, Pair { a: 1, b: 0 }].as_slice()
+    );
     assert_eq!(rt; out.coverage.members.len(), 2);
     expect_ring(&rt, &out, 0, &[(2, 2), (5, 2), (5, 8), (2, 8)]);
     expect_ring(&rt, &out, 1, &[(5, 2), (8, 2), (8, 8), (5, 8)]);
@@ -107,7 +110,10 @@ fn a_coverage_with_itself_is_each_member_with_itself(rt: HostRuntime) -> Result<
     let right = [(10, 0), (20, 0), (20, 10), (10, 10)];
     let a = coverage(alloc, &rt, &[&right, &SQUARE])?;
     let out = overlay(alloc, &a, &a)?;
-    assert_eq!(rt; out.pairs.as_slice(), [Pair { a: 0, b: 0 }, Pair { a: 1, b: 1 }].as_slice());
+    assert_eq!(rt;
+        out.pairs.as_slice(),
+        [Pair { a: 0, b: 0 }, Pair { a: 1, b: 1 }].as_slice()
+    );
     assert_eq!(rt; out.coverage.members.len(), 2);
     expect_ring(&rt, &out, 0, &right);
     expect_ring(&rt, &out, 1, &SQUARE);

@@ -1,0 +1,7 @@
+mod PairOrder
+mod PairPlaces
+mod LabelPair
+mod SomePairs
+mod SidePairs
+mod JointUses
+mod BuiltPairs

@@ -3,3 +3,4 @@ pub mod Blocks
 pub mod Along
 pub mod Inside
 pub mod Outside
+pub mod Sides

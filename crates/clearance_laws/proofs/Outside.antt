@@ -117,7 +117,7 @@ no_room b x =
 
 module _ (edges : List Seg) (planar : IsPlanar edges) (distinct : AreDistinct edges) (r : ℕ) (inner : ¬ IsOuterRegion edges r) where
   -- where no own edge meets the way from a point of the region, its other end is in the region too
-  stays : (p q : Point) → IsRegionOf edges p r → ((e : Seg) → IsEdgeOf edges r e → (x : Point) → IsBetween x p q → IsOn e x → ⊥) → IsRegionOf edges q r
+  pub stays : (p q : Point) → IsRegionOf edges p r → ((e : Seg) → IsEdgeOf edges r e → (x : Point) → IsBetween x p q → IsOn e x → ⊥) → IsRegionOf edges q r
   stays p q own none =
       let some = regions_exist edges planar distinct in
       let inside : HalfEdge → Bool = passes edges planar distinct r inner some.0 some.1 in

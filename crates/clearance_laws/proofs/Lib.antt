@@ -4,3 +4,5 @@ pub mod Along
 pub mod Inside
 pub mod Outside
 pub mod Sides
+pub mod Corners
+pub mod Facing

@@ -32,15 +32,15 @@ use Rattle.clearance_laws.proofs.Outside.{stays}
 -- ---- numbers of a point c/2 and an edge
 
 -- the scalar product of the edge and the way from a point to c/2, doubled and times the denominator
-abbrev along : Coord → Seg → Point → ℤ
+abbrev pub along : Coord → Seg → Point → ℤ
 along c e p = ((e.hi.x -ℤ e.lo.x) *ℤ ((c.x *ℤ pos p.d) -ℤ (pos 2 *ℤ p.x))) +ℤ ((e.hi.y -ℤ e.lo.y) *ℤ ((c.y *ℤ pos p.d) -ℤ (pos 2 *ℤ p.y)))
 
 -- the vector product of the two
-abbrev across : Coord → Seg → Point → ℤ
+abbrev pub across : Coord → Seg → Point → ℤ
 across c e p = (half_side c e *ℤ pos p.d) -ℤ (pos 2 *ℤ side e p)
 
 -- their squares add up to the squares of the two ways
-squares_sum : (c : Coord) (e : Seg) (p : Point) → squared_length e *ℤ half_distance c p ≡ (across c e p *ℤ across c e p) +ℤ (along c e p *ℤ along c e p)
+pub squares_sum : (c : Coord) (e : Seg) (p : Point) → squared_length e *ℤ half_distance c p ≡ (across c e p *ℤ across c e p) +ℤ (along c e p *ℤ along c e p)
 unfolding half_distance squared_length half_side side
 squares_sum c e p =
     by_ring (e.lo.x ∷ e.lo.y ∷ e.hi.x ∷ e.hi.y ∷ c.x ∷ c.y ∷ p.x ∷ p.y ∷ pos p.d ∷ [])

@@ -10,7 +10,7 @@ use Rattle.integer_laws.proofs.Ring.{lin, by_ring, Term, Var, Lit, ◌⊕◌, �
 use Rattle.plane.specs.Length.{edge_length}
 use Rattle.distance_laws.specs.Room.{foot, half_side, squared_length}
 use Rattle.clearance_laws.specs.Block.{IsInBlock, AtCorners, corner}
-use Rattle.clearance_laws.specs.Facing.{IsBeside, IsShallow, AreFacing, depth, depths}
+use Rattle.clearance_laws.specs.Facing.{IsBeside, IsShallow, AreFacing, depth, both}
 
 -- a linear form
 abbrev linear : ℤ → ℤ → ℤ → Coord → ℤ
@@ -100,37 +100,36 @@ module _ (lo hi q : Coord) (is : IsInBlock lo hi q) where
   sides_positive : (g : Coord → ℤ) (e f : Seg) (x y z : ℤ) → ((c : Coord) → g c ≡ ((x *ℤ half_side c e) +ℤ (y *ℤ half_side c f)) +ℤ z) → AtCorners lo hi (λ c. pos 0 <ℤ g c) → pos 0 <ℤ g q
   sides_positive g e f x y z same at = form_positive g _ _ _ (λ c. same c ∙ sides_form e f x y z c) at
 
-  pub shallow_within : (w : ℕ) (k : ℤ) (e : Seg) → AtCorners lo hi (IsShallow w k e) → IsShallow w k e q
-  shallow_within w k e at =
-      let least = pos (w * edge_length e) in
-      let same = λ (c : Coord). by_ring (k ∷ half_side c e ∷ least ∷ []) (Var 2 ⊖ Lit (pos 256) ⊗ (Var 0 ⊗ Var 1)) ((Neg (Lit (pos 256) ⊗ Var 0) ⊗ Var 1 ⊕ Lit (pos 0) ⊗ Var 1) ⊕ Var 2) refl in
-      let there = sides_positive (λ c. least -ℤ (pos 256 *ℤ depth k c e)) e e (neg_ℤ (pos 256 *ℤ k)) (pos 0) least same
-      (at_each lo hi (IsShallow w k e) (λ c. pos 0 <ℤ (least -ℤ (pos 256 *ℤ depth k c e))) (λ c h. (let s = h.shallow in omega (arith, lin))) at) in
+  pub shallow_within : (k : ℤ) (e : Seg) (m : ℤ) → AtCorners lo hi (IsShallow k e m) → IsShallow k e m q
+  shallow_within k e m at =
+      let there = sides_positive (λ c. m -ℤ depth k c e) e e (neg_ℤ k) (pos 0) m
+      (λ c. by_ring (k ∷ half_side c e ∷ m ∷ []) (Var 2 ⊖ Var 0 ⊗ Var 1) ((Neg (Var 0) ⊗ Var 1 ⊕ Lit (pos 0) ⊗ Var 1) ⊕ Var 2) refl)
+      (at_each lo hi (IsShallow k e m) (λ c. pos 0 <ℤ (m -ℤ depth k c e)) (λ c h. (let s = h.shallow in omega (arith, lin))) at) in
       record {
-        beside = beside_within e (at_each lo hi (IsShallow w k e) (λ c. IsBeside c e) (λ c h. h.beside) at);
+        beside = beside_within e (at_each lo hi (IsShallow k e m) (λ c. IsBeside c e) (λ c h. h.beside) at);
         shallow = omega (arith, lin);
       }
 
-  pub facing_within : (w : ℕ) (k : ℤ) (e : Seg) (l : ℤ) (f : Seg) → AtCorners lo hi (AreFacing w k e l f) → AreFacing w k e l f q
-  facing_within w k e l f at =
-      let m = pos (edge_length e) in
-      let n = pos (edge_length f) in
-      let most = pos (2 * (w * (edge_length e * edge_length f))) in
-      let close = sides_positive (λ c. most -ℤ (pos 256 *ℤ depths k e l f c)) e f (neg_ℤ (pos 256 *ℤ (n *ℤ k))) (neg_ℤ (pos 256 *ℤ (m *ℤ l))) most
-      (λ c. by_ring (k ∷ half_side c e ∷ l ∷ half_side c f ∷ m ∷ n ∷ most ∷ []) (Var 6 ⊖ Lit (pos 256) ⊗ (Var 5 ⊗ (Var 0 ⊗ Var 1) ⊕ Var 4 ⊗ (Var 2 ⊗ Var 3)))
-      ((Neg (Lit (pos 256) ⊗ (Var 5 ⊗ Var 0)) ⊗ Var 1 ⊕ Neg (Lit (pos 256) ⊗ (Var 4 ⊗ Var 2)) ⊗ Var 3) ⊕ Var 6) refl)
-      (at_each lo hi (AreFacing w k e l f) (λ c. pos 0 <ℤ (most -ℤ (pos 256 *ℤ depths k e l f c))) (λ c h. (let s = h.close in omega (arith, lin))) at) in
-      let first = sides_positive (λ c. depths k e l f c +ℤ depth l c f) e f (n *ℤ k) ((m *ℤ l) +ℤ l) (pos 0)
-      (λ c. by_ring (k ∷ half_side c e ∷ l ∷ half_side c f ∷ m ∷ n ∷ []) ((Var 5 ⊗ (Var 0 ⊗ Var 1) ⊕ Var 4 ⊗ (Var 2 ⊗ Var 3)) ⊕ Var 2 ⊗ Var 3)
+  pub facing_within : (k : ℤ) (e : Seg) (m l : ℤ) (f : Seg) (n : ℤ) → AtCorners lo hi (AreFacing k e m l f n) → AreFacing k e m l f n q
+  facing_within k e m l f n at =
+      let x = pos (edge_length e) in
+      let y = pos (edge_length f) in
+      let most = both e f m n in
+      let close = sides_positive (λ c. most -ℤ both e f (depth k c e) (depth l c f)) e f (neg_ℤ (y *ℤ k)) (neg_ℤ (x *ℤ l)) most
+      (λ c. by_ring (k ∷ half_side c e ∷ l ∷ half_side c f ∷ x ∷ y ∷ most ∷ []) (Var 6 ⊖ (Var 5 ⊗ (Var 0 ⊗ Var 1) ⊕ Var 4 ⊗ (Var 2 ⊗ Var 3)))
+      ((Neg (Var 5 ⊗ Var 0) ⊗ Var 1 ⊕ Neg (Var 4 ⊗ Var 2) ⊗ Var 3) ⊕ Var 6) refl)
+      (at_each lo hi (AreFacing k e m l f n) (λ c. pos 0 <ℤ (most -ℤ both e f (depth k c e) (depth l c f))) (λ c h. (let s = h.close in omega (arith, lin))) at) in
+      let first = sides_positive (λ c. both e f (depth k c e) (depth l c f) +ℤ depth l c f) e f (y *ℤ k) ((x *ℤ l) +ℤ l) (pos 0)
+      (λ c. by_ring (k ∷ half_side c e ∷ l ∷ half_side c f ∷ x ∷ y ∷ []) ((Var 5 ⊗ (Var 0 ⊗ Var 1) ⊕ Var 4 ⊗ (Var 2 ⊗ Var 3)) ⊕ Var 2 ⊗ Var 3)
       (((Var 5 ⊗ Var 0) ⊗ Var 1 ⊕ (Var 4 ⊗ Var 2 ⊕ Var 2) ⊗ Var 3) ⊕ Lit (pos 0)) refl)
-      (at_each lo hi (AreFacing w k e l f) (λ c. pos 0 <ℤ (depths k e l f c +ℤ depth l c f)) (λ c h. h.over_first) at) in
-      let second = sides_positive (λ c. depths k e l f c +ℤ depth k c e) e f ((n *ℤ k) +ℤ k) (m *ℤ l) (pos 0)
-      (λ c. by_ring (k ∷ half_side c e ∷ l ∷ half_side c f ∷ m ∷ n ∷ []) ((Var 5 ⊗ (Var 0 ⊗ Var 1) ⊕ Var 4 ⊗ (Var 2 ⊗ Var 3)) ⊕ Var 0 ⊗ Var 1)
+      (at_each lo hi (AreFacing k e m l f n) (λ c. pos 0 <ℤ (both e f (depth k c e) (depth l c f) +ℤ depth l c f)) (λ c h. h.over_first) at) in
+      let second = sides_positive (λ c. both e f (depth k c e) (depth l c f) +ℤ depth k c e) e f ((y *ℤ k) +ℤ k) (x *ℤ l) (pos 0)
+      (λ c. by_ring (k ∷ half_side c e ∷ l ∷ half_side c f ∷ x ∷ y ∷ []) ((Var 5 ⊗ (Var 0 ⊗ Var 1) ⊕ Var 4 ⊗ (Var 2 ⊗ Var 3)) ⊕ Var 0 ⊗ Var 1)
       (((Var 5 ⊗ Var 0 ⊕ Var 0) ⊗ Var 1 ⊕ (Var 4 ⊗ Var 2) ⊗ Var 3) ⊕ Lit (pos 0)) refl)
-      (at_each lo hi (AreFacing w k e l f) (λ c. pos 0 <ℤ (depths k e l f c +ℤ depth k c e)) (λ c h. h.over_second) at) in
+      (at_each lo hi (AreFacing k e m l f n) (λ c. pos 0 <ℤ (both e f (depth k c e) (depth l c f) +ℤ depth k c e)) (λ c h. h.over_second) at) in
       record {
-        beside_first = beside_within e (at_each lo hi (AreFacing w k e l f) (λ c. IsBeside c e) (λ c h. h.beside_first) at);
-        beside_second = beside_within f (at_each lo hi (AreFacing w k e l f) (λ c. IsBeside c f) (λ c h. h.beside_second) at);
+        beside_first = beside_within e (at_each lo hi (AreFacing k e m l f n) (λ c. IsBeside c e) (λ c h. h.beside_first) at);
+        beside_second = beside_within f (at_each lo hi (AreFacing k e m l f n) (λ c. IsBeside c f) (λ c h. h.beside_second) at);
         close = omega (arith, lin);
         over_first = first;
         over_second = second;

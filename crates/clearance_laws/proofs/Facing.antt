@@ -18,12 +18,12 @@ use Rattle.plane.proofs.Sides.{side_zero-on}
 use Rattle.sector_laws.specs.Sector.{AreDistinct, IsPlanar}
 use Rattle.region_laws.proofs.Balance.{first_or_later}
 use Rattle.region_owners.specs.Box.{IsEdgeOf}
-use Rattle.distance_laws.specs.Room.{half_distance, squared_length, foot, half_side, squared_to, reach, HasHalfRoom}
+use Rattle.distance_laws.specs.Room.{half_distance, squared_length, foot, half_side, squared_to, reach, HasHalfRoom, doubled}
 use Rattle.distance_laws.proofs.Reach.{reach_is}
 use Rattle.clearance_laws.specs.Block.{IsInBlock, AtCorners}
 use Rattle.clearance_laws.specs.Inside.{half_point}
 use Rattle.clearance_laws.specs.Near.{IsAsFar}
-use Rattle.clearance_laws.specs.Facing.{IsBeside, IsShallow, AreFacing, IsFront, depth, depths}
+use Rattle.clearance_laws.specs.Facing.{IsBeside, IsShallow, AreFacing, IsFront, IsLeastDepth, depth, both}
 use Rattle.clearance_laws.proofs.Outside.{root_le}
 use Rattle.clearance_laws.proofs.Corners.{shallow_within, facing_within}
 use Rattle.clearance_laws.proofs.Sides.{squares_sum, across, along, above_nearest, below_nearest}
@@ -61,34 +61,29 @@ length_next_more e =
     let is = length_square e in
     omega (arith, lin)
 
--- ---- over plain variables: the depths j and i below the lines of two edges, whose squared lengths are x and y, and m and n their lengths in 1/256 units
+-- ---- over plain variables: the depths j and i from the lines of two edges, whose squared lengths are x and y, and a and b their lengths in 1/256 units
 
 -- the first is nearer
-facing_numbers : (w m n x y j i : ℤ) → pos 0 ≤ℤ m → pos 0 ≤ℤ n → pos 0 <ℤ j → (w *ℤ m) ≤ℤ (pos 256 *ℤ j) → (pos 0 <ℤ i → (w *ℤ n) ≤ℤ (pos 256 *ℤ i))
-    → (pos 256 *ℤ ((n *ℤ j) +ℤ (m *ℤ i))) <ℤ (pos 2 *ℤ (w *ℤ (m *ℤ n))) → pos 0 <ℤ (((n *ℤ j) +ℤ (m *ℤ i)) +ℤ i)
-    → ((j *ℤ j) *ℤ y) ≤ℤ ((i *ℤ i) *ℤ x) → (pos 65536 *ℤ x) <ℤ ((m +ℤ pos 1) *ℤ (m +ℤ pos 1)) → (n *ℤ n) ≤ℤ (pos 65536 *ℤ y) → ⊥
-facing_numbers w m n x y j i hm hn deep first second close over nearer next at_most = elim (le_or_gt i (pos 0)) [
+facing_numbers : (m n a b x y j i : ℤ) → pos 0 ≤ℤ a → pos 0 ≤ℤ b → pos 0 <ℤ j → m ≤ℤ j → (pos 0 <ℤ i → n ≤ℤ i)
+    → ((b *ℤ j) +ℤ (a *ℤ i)) <ℤ ((b *ℤ m) +ℤ (a *ℤ n)) → pos 0 <ℤ (((b *ℤ j) +ℤ (a *ℤ i)) +ℤ i)
+    → ((j *ℤ j) *ℤ y) ≤ℤ ((i *ℤ i) *ℤ x) → (pos 65536 *ℤ x) <ℤ ((a +ℤ pos 1) *ℤ (a +ℤ pos 1)) → (b *ℤ b) ≤ℤ (pos 65536 *ℤ y) → ⊥
+facing_numbers m n a b x y j i ha hb deep first second close over nearer next at_most = elim (le_or_gt i (pos 0)) [
   | inr in_front ↦ (
-      let a = mul_le n hn first in
-      let b = mul_le m hm (second in_front) in
-      let is_a : n *ℤ (w *ℤ m) ≡ w *ℤ (m *ℤ n) = by_ring (w ∷ m ∷ n ∷ []) (Var 2 ⊗ (Var 0 ⊗ Var 1)) (Var 0 ⊗ (Var 1 ⊗ Var 2)) refl in
-      let is_b : m *ℤ (w *ℤ n) ≡ w *ℤ (m *ℤ n) = by_ring (w ∷ m ∷ n ∷ []) (Var 1 ⊗ (Var 0 ⊗ Var 2)) (Var 0 ⊗ (Var 1 ⊗ Var 2)) refl in
-      let sum : (n *ℤ (pos 256 *ℤ j)) +ℤ (m *ℤ (pos 256 *ℤ i)) ≡ pos 256 *ℤ ((n *ℤ j) +ℤ (m *ℤ i)) =
-      by_ring (m ∷ n ∷ j ∷ i ∷ []) (Var 1 ⊗ (Lit (pos 256) ⊗ Var 2) ⊕ Var 0 ⊗ (Lit (pos 256) ⊗ Var 3)) (Lit (pos 256) ⊗ (Var 1 ⊗ Var 2 ⊕ Var 0 ⊗ Var 3)) refl in
-      let two = product_is (pos 2) (w *ℤ (m *ℤ n)) in
+      let one = mul_le b hb first in
+      let two = mul_le a ha (second in_front) in
       omega (arith, lin)
       )
   | inl behind ↦ (
       let back = neg_ℤ i in
-      let less : ((m +ℤ pos 1) *ℤ back) <ℤ (n *ℤ j) = (
-          let is : (m +ℤ pos 1) *ℤ neg_ℤ i ≡ neg_ℤ ((m *ℤ i) +ℤ i) = by_ring (m ∷ i ∷ []) ((Var 0 ⊕ Lit (pos 1)) ⊗ Neg (Var 1)) (Neg (Var 0 ⊗ Var 1 ⊕ Var 1)) refl in
+      let less : ((a +ℤ pos 1) *ℤ back) <ℤ (b *ℤ j) = (
+          let is : (a +ℤ pos 1) *ℤ neg_ℤ i ≡ neg_ℤ ((a *ℤ i) +ℤ i) = by_ring (a ∷ i ∷ []) ((Var 0 ⊕ Lit (pos 1)) ⊗ Neg (Var 1)) (Neg (Var 0 ⊗ Var 1 ⊕ Var 1)) refl in
           omega (arith, lin)
           ) in
-      let some = nonneg_times_nonneg {x = m +ℤ pos 1} {y = back} (omega (arith, lin)) (omega (arith, lin)) in
-      let squares = mul_lt_mul {x = (m +ℤ pos 1) *ℤ back} {y = n *ℤ j} {u = (m +ℤ pos 1) *ℤ back} {v = n *ℤ j} some less some less in
-      let left : ((m +ℤ pos 1) *ℤ back) *ℤ ((m +ℤ pos 1) *ℤ back) ≡ ((m +ℤ pos 1) *ℤ (m +ℤ pos 1)) *ℤ (i *ℤ i) =
-      by_ring (m ∷ i ∷ []) (((Var 0 ⊕ Lit (pos 1)) ⊗ Neg (Var 1)) ⊗ ((Var 0 ⊕ Lit (pos 1)) ⊗ Neg (Var 1))) (((Var 0 ⊕ Lit (pos 1)) ⊗ (Var 0 ⊕ Lit (pos 1))) ⊗ (Var 1 ⊗ Var 1)) refl in
-      let right : (n *ℤ j) *ℤ (n *ℤ j) ≡ (n *ℤ n) *ℤ (j *ℤ j) = by_ring (n ∷ j ∷ []) ((Var 0 ⊗ Var 1) ⊗ (Var 0 ⊗ Var 1)) ((Var 0 ⊗ Var 0) ⊗ (Var 1 ⊗ Var 1)) refl in
+      let some = nonneg_times_nonneg {x = a +ℤ pos 1} {y = back} (omega (arith, lin)) (omega (arith, lin)) in
+      let squares = mul_lt_mul {x = (a +ℤ pos 1) *ℤ back} {y = b *ℤ j} {u = (a +ℤ pos 1) *ℤ back} {v = b *ℤ j} some less some less in
+      let left : ((a +ℤ pos 1) *ℤ back) *ℤ ((a +ℤ pos 1) *ℤ back) ≡ ((a +ℤ pos 1) *ℤ (a +ℤ pos 1)) *ℤ (i *ℤ i) =
+      by_ring (a ∷ i ∷ []) (((Var 0 ⊕ Lit (pos 1)) ⊗ Neg (Var 1)) ⊗ ((Var 0 ⊕ Lit (pos 1)) ⊗ Neg (Var 1))) (((Var 0 ⊕ Lit (pos 1)) ⊗ (Var 0 ⊕ Lit (pos 1))) ⊗ (Var 1 ⊗ Var 1)) refl in
+      let right : (b *ℤ j) *ℤ (b *ℤ j) ≡ (b *ℤ b) *ℤ (j *ℤ j) = by_ring (b ∷ j ∷ []) ((Var 0 ⊗ Var 1) ⊗ (Var 0 ⊗ Var 1)) ((Var 0 ⊗ Var 0) ⊗ (Var 1 ⊗ Var 1)) refl in
       let low = le_mul (i *ℤ i) (square_nonneg i) (le_of_lt next) in
       let high = le_mul (j *ℤ j) (square_nonneg j) at_most in
       let times = mul_le (pos 65536) (pos_nonneg 65536) nearer in
@@ -155,24 +150,12 @@ module _ (q : Coord) (e : Seg) (is : IsBeside q e) where
       let product : pos (w * w * length) ≡ pos (w * w) *ℤ squared_length e = pos_mul (w * w) length ∙ ap (λ z. pos (w * w) *ℤ z) length_is in
       omega (arith, lin)
 
-  -- with room w a point that is in front of the edge is so deep
-  deep_room : (w : ℕ) (k : ℤ) → k *ℤ k ≡ pos 1 → pos 0 <ℤ depth k q e → HasHalfRoom q w e → (pos w *ℤ pos (edge_length e)) ≤ℤ (pos 256 *ℤ depth k q e)
-  deep_room w k unit in_front room =
-      let m = pos (edge_length e) in
-      let j = depth k q e in
-      let a = mul_le (pos w *ℤ pos w) (square_nonneg (pos w)) (length_at_most e) in
-      let b = mul_le (pos 65536) (pos_nonneg 65536) (line_room w room) in
-      let square = pos_mul w w in
-      let left : (pos w *ℤ pos w) *ℤ (m *ℤ m) ≡ (pos w *ℤ m) *ℤ (pos w *ℤ m) = by_ring (pos w ∷ m ∷ []) ((Var 0 ⊗ Var 0) ⊗ (Var 1 ⊗ Var 1)) ((Var 0 ⊗ Var 1) ⊗ (Var 0 ⊗ Var 1)) refl in
-      let middle : (pos w *ℤ pos w) *ℤ (pos 65536 *ℤ squared_length e) ≡ pos 65536 *ℤ (pos (w * w) *ℤ squared_length e) =
-      by_ring (pos w ∷ squared_length e ∷ []) ((Var 0 ⊗ Var 0) ⊗ (Lit (pos 65536) ⊗ Var 1)) (Lit (pos 65536) ⊗ ((Var 0 ⊗ Var 0) ⊗ Var 1)) refl ∙ ap (λ z. pos 65536 *ℤ (z *ℤ squared_length e)) (sym square) in
-      let right : (pos 256 *ℤ j) *ℤ (pos 256 *ℤ j) ≡ pos 65536 *ℤ (half_side q e *ℤ half_side q e) =
-      by_ring (j ∷ []) ((Lit (pos 256) ⊗ Var 0) ⊗ (Lit (pos 256) ⊗ Var 0)) (Lit (pos 65536) ⊗ (Var 0 ⊗ Var 0)) refl ∙ ap (λ z. pos 65536 *ℤ z) (depth_square k (half_side q e) unit) in
-      root_le (pos w *ℤ m) (pos 256 *ℤ j) (omega (arith, lin, product_is (pos 256) j)) (omega (arith, lin))
-
 -- ---- regions
 
-module _ (edges : List Seg) (planar : IsPlanar edges) (distinct : AreDistinct edges) (r : ℕ) (inner : ¬ IsOuterRegion edges r) (q : Coord) (own : IsRegionOf edges (half_point q) r) (w : ℕ) (some : 1 ≤ w) where
+module _ (edges : List Seg) (planar : IsPlanar edges) (distinct : AreDistinct edges) (r : ℕ) (inner : ¬ IsOuterRegion edges r) (p : Coord) (own : IsRegionOf edges (half_point (doubled p)) r) (w : ℕ) (some : 1 ≤ w) where
+  abbrev q : Coord
+  q = doubled p
+
   -- a point with room is in front of its nearest own edge
   nearest_deep : (k : ℤ) (e : Seg) → IsFront edges r k e → Contains edges e → IsBeside q e → HasHalfRoom q w e
       → ((g : Seg) → IsEdgeOf edges r g → IsAsFar q (half_side q e *ℤ half_side q e) (squared_length e) g) → pos 0 <ℤ depth k q e
@@ -196,75 +179,72 @@ module _ (edges : List Seg) (planar : IsPlanar edges) (distinct : AreDistinct ed
     ]
   ]
 
-  alone_none : (k : ℤ) (e : Seg) → IsShallow w k e q → IsFront edges r k e → Contains edges e → HasHalfRoom q w e → ((n m : ℤ) → pos 0 <ℤ m → IsAsFar q n m e → (g : Seg) → IsEdgeOf edges r g → IsAsFar q n m g) → ⊥
-  alone_none k e is front has room nearest =
+  alone_none : (k : ℤ) (e : Seg) (m : ℤ) → IsShallow k e m q → IsLeastDepth w e m → IsFront edges r k e → Contains edges e → HasHalfRoom q w e
+      → ((n d : ℤ) → pos 0 <ℤ d → IsAsFar q n d e → (g : Seg) → IsEdgeOf edges r g → IsAsFar q n d g) → ⊥
+  alone_none k e m is least front has room nearest =
       let in_front = nearest_deep k e front has is.beside room (nearest (half_side q e *ℤ half_side q e) (squared_length e) (long_beside q e is.beside) (own_far q e)) in
-      let deep = deep_room q e is.beside w k front.unit in_front room in
-      let product = pos_mul w (edge_length e) in
+      let deep = least k p front.unit in_front (line_room q e is.beside w room) in
       let shallow = is.shallow in
       omega (arith, lin)
 
   -- the first is nearer
-  nearer_none : (k : ℤ) (e : Seg) (l : ℤ) (f : Seg) → AreFacing w k e l f q → IsFront edges r k e → IsFront edges r l f → Contains edges e → HasHalfRoom q w e → HasHalfRoom q w f
-      → ((n m : ℤ) → pos 0 <ℤ m → IsAsFar q n m e → IsAsFar q n m f → (g : Seg) → IsEdgeOf edges r g → IsAsFar q n m g)
+  nearer_none : (k : ℤ) (e : Seg) (m l : ℤ) (f : Seg) (n : ℤ) → AreFacing k e m l f n q → IsLeastDepth w e m → IsLeastDepth w f n → IsFront edges r k e → IsFront edges r l f → Contains edges e
+      → HasHalfRoom q w e → HasHalfRoom q w f → ((n d : ℤ) → pos 0 <ℤ d → IsAsFar q n d e → IsAsFar q n d f → (g : Seg) → IsEdgeOf edges r g → IsAsFar q n d g)
       → ((half_side q e *ℤ half_side q e) *ℤ squared_length f) ≤ℤ ((half_side q f *ℤ half_side q f) *ℤ squared_length e) → ⊥
-  nearer_none k e l f is front_e front_f has room_e room_f nearest nearer =
+  nearer_none k e m l f n is least_e least_f front_e front_f has room_e room_f nearest nearer =
       let long_e = long_beside q e is.beside_first in
       let long_f = long_beside q f is.beside_second in
       let in_front = nearest_deep k e front_e has is.beside_first room_e (nearest (half_side q e *ℤ half_side q e) (squared_length e) long_e (own_far q e) (other_far q e f (le_of_lt long_e) long_f nearer)) in
-      let first = deep_room q e is.beside_first w k front_e.unit in_front room_e in
-      let product : pos (2 * (w * (edge_length e * edge_length f))) ≡ pos 2 *ℤ (pos w *ℤ (pos (edge_length e) *ℤ pos (edge_length f))) =
-      pos_mul 2 (w * (edge_length e * edge_length f)) ∙ ap (λ z. pos 2 *ℤ z) (pos_mul w (edge_length e * edge_length f) ∙ ap (λ z. pos w *ℤ z) (pos_mul (edge_length e) (edge_length f))) in
       let square_e = depth_square k (half_side q e) front_e.unit in
       let square_f = depth_square l (half_side q f) front_f.unit in
-      facing_numbers (pos w) (pos (edge_length e)) (pos (edge_length f)) (squared_length e) (squared_length f) (depth k q e) (depth l q f)
-      (pos_nonneg (edge_length e)) (pos_nonneg (edge_length f)) in_front first (λ front. deep_room q f is.beside_second w l front_f.unit front room_f)
-      (subst (λ z. (pos 256 *ℤ depths k e l f q) <ℤ z) product is.close) is.over_first
+      facing_numbers m n (pos (edge_length e)) (pos (edge_length f)) (squared_length e) (squared_length f) (depth k q e) (depth l q f)
+      (pos_nonneg (edge_length e)) (pos_nonneg (edge_length f)) in_front (least_e k p front_e.unit in_front (line_room q e is.beside_first w room_e))
+      (λ front. least_f l p front_f.unit front (line_room q f is.beside_second w room_f)) is.close is.over_first
       (subst (λ z. (z *ℤ squared_length f) ≤ℤ ((depth l q f *ℤ depth l q f) *ℤ squared_length e)) (sym square_e) (subst (λ z. ((half_side q e *ℤ half_side q e) *ℤ squared_length f) ≤ℤ (z *ℤ squared_length e)) (sym square_f) nearer))
       (length_next_more e) (length_at_most f)
 
 -- the same two edges the other way round
-turned : (w : ℕ) (k : ℤ) (e : Seg) (l : ℤ) (f : Seg) (q : Coord) → AreFacing w k e l f q → AreFacing w l f k e q
-turned w k e l f q is =
-    let swapped : w * (edge_length e * edge_length f) ≡ w * (edge_length f * edge_length e) = grind arith in
+turned : (k : ℤ) (e : Seg) (m l : ℤ) (f : Seg) (n : ℤ) (q : Coord) → AreFacing k e m l f n q → AreFacing l f n k e m q
+turned k e m l f n q is =
     let close = is.close in
     let first = is.over_first in
     let second = is.over_second in
     record {
       beside_first = is.beside_second;
       beside_second = is.beside_first;
-      close = subst (λ n. (pos 256 *ℤ depths l f k e q) <ℤ pos (2 * n)) swapped (subst (λ z. (pos 256 *ℤ z) <ℤ pos (2 * (w * (edge_length e * edge_length f)))) (add_comm (pos (edge_length f) *ℤ depth k q e) (pos (edge_length e) *ℤ depth l q f)) close);
+      close = omega (arith, lin);
       over_first = omega (arith, lin);
       over_second = omega (arith, lin);
     }
-  where
-    add_comm : (x y : ℤ) → x +ℤ y ≡ y +ℤ x
-    add_comm x y = by_ring (x ∷ y ∷ []) (Var 0 ⊕ Var 1) (Var 1 ⊕ Var 0) refl
 
-module _ (edges : List Seg) (planar : IsPlanar edges) (distinct : AreDistinct edges) (r : ℕ) (inner : ¬ IsOuterRegion edges r) (lo hi q : Coord) (in_block : IsInBlock lo hi q) (own : IsRegionOf edges (half_point q) r) (w : ℕ) (some : 1 ≤ w) where
-  pub no_room_alone : (k : ℤ) (e : Seg) → AtCorners lo hi (IsShallow w k e) → IsFront edges r k e → Contains edges e → HasHalfRoom q w e
-      → ((n m : ℤ) → pos 0 <ℤ m → IsAsFar q n m e → (g : Seg) → IsEdgeOf edges r g → IsAsFar q n m g) → ⊥
-  no_room_alone k e at front has room nearest = alone_none edges planar distinct r inner q own w some k e (shallow_within lo hi q in_block w k e at) front has room nearest
+module _ (edges : List Seg) (planar : IsPlanar edges) (distinct : AreDistinct edges) (r : ℕ) (inner : ¬ IsOuterRegion edges r) (lo hi p : Coord) (in_block : IsInBlock lo hi (doubled p)) (own : IsRegionOf edges (half_point (doubled p)) r) (w : ℕ)
+    (some : 1 ≤ w) where
+  pub no_room_alone : (k : ℤ) (e : Seg) (m : ℤ) → AtCorners lo hi (IsShallow k e m) → IsLeastDepth w e m → IsFront edges r k e → Contains edges e → HasHalfRoom (doubled p) w e
+      → ((n d : ℤ) → pos 0 <ℤ d → IsAsFar (doubled p) n d e → (g : Seg) → IsEdgeOf edges r g → IsAsFar (doubled p) n d g) → ⊥
+  no_room_alone k e m at least front has room nearest = alone_none edges planar distinct r inner p own w some k e m (shallow_within lo hi (doubled p) in_block k e m at) least front has room nearest
 
-  pub no_room_between : (k : ℤ) (e : Seg) (l : ℤ) (f : Seg) → AtCorners lo hi (AreFacing w k e l f) → IsFront edges r k e → IsFront edges r l f → Contains edges e → Contains edges f
-      → HasHalfRoom q w e → HasHalfRoom q w f → ((n m : ℤ) → pos 0 <ℤ m → IsAsFar q n m e → IsAsFar q n m f → (g : Seg) → IsEdgeOf edges r g → IsAsFar q n m g) → ⊥
-  no_room_between k e l f at front_e front_f has_e has_f room_e room_f nearest =
-      let is = facing_within lo hi q in_block w k e l f at in
+  pub no_room_between : (k : ℤ) (e : Seg) (m l : ℤ) (f : Seg) (n : ℤ) → AtCorners lo hi (AreFacing k e m l f n) → IsLeastDepth w e m → IsLeastDepth w f n → IsFront edges r k e → IsFront edges r l f → Contains edges e → Contains edges f
+      → HasHalfRoom (doubled p) w e → HasHalfRoom (doubled p) w f
+      → ((n d : ℤ) → pos 0 <ℤ d → IsAsFar (doubled p) n d e → IsAsFar (doubled p) n d f → (g : Seg) → IsEdgeOf edges r g → IsAsFar (doubled p) n d g) → ⊥
+  no_room_between k e m l f n at least_e least_f front_e front_f has_e has_f room_e room_f nearest =
+      let q = doubled p in
+      let is = facing_within lo hi q in_block k e m l f n at in
       elim (le_or_gt ((half_side q e *ℤ half_side q e) *ℤ squared_length f) ((half_side q f *ℤ half_side q f) *ℤ squared_length e)) [
-        | inl first ↦ nearer_none edges planar distinct r inner q own w some k e l f is front_e front_f has_e room_e room_f nearest first
-        | inr second ↦ nearer_none edges planar distinct r inner q own w some l f k e (turned w k e l f q is) front_f front_e has_f room_f room_e (λ n m positive far_f far_e. nearest n m positive far_e far_f) (le_of_lt second)
+        | inl first ↦ nearer_none edges planar distinct r inner p own w some k e m l f n is least_e least_f front_e front_f has_e room_e room_f nearest first
+        | inr second ↦
+            nearer_none edges planar distinct r inner p own w some l f n k e m (turned k e m l f n q is) least_f least_e front_f front_e has_f room_f room_e (λ n d positive far_f far_e. nearest n d positive far_e far_f) (le_of_lt second)
       ]
 
 -- ---- lists of one edge and of two
 
 pub of_one : (q : Coord) (n m : ℤ) (e : Seg) → IsAsFar q n m e → (f : Seg) → Contains (e ∷ []) f → IsAsFar q n m f
 of_one q n m e far f has = elim (first_or_later e [] f has) [
-  | inl here ↦ subst (IsAsFar q n m) (sym here) far
+  | inl here ↦ subst (IsAsFar q n m) here far
   | inr later ↦ absurd (let none = later.1 in omega (arith, none))
 ]
 
 pub of_two : (q : Coord) (n m : ℤ) (e f : Seg) → IsAsFar q n m e → IsAsFar q n m f → (g : Seg) → Contains (e ∷ f ∷ []) g → IsAsFar q n m g
 of_two q n m e f far_e far_f g has = elim (first_or_later e (f ∷ []) g has) [
-  | inl here ↦ subst (IsAsFar q n m) (sym here) far_e
+  | inl here ↦ subst (IsAsFar q n m) here far_e
   | inr later ↦ of_one q n m f far_f g later
 ]

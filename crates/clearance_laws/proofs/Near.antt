@@ -158,12 +158,12 @@ handed_down-far c q s t n m e f near none far positive is_far = by (le_or_gt n (
     moved d = by_ring (m ∷ v ∷ d ∷ []) (Var 0 ⊗ (Var 1 ⊗ Var 2)) ((Var 0 ⊗ Var 1) ⊗ Var 2) refl
 
     by : (n ≤ℤ (m *ℤ v)) ⊎ ((m *ℤ v) <ℤ n) → IsAsFar q n m e
-    by (inl le) r on =
+    by (inl le) = λ r on. (
         let room = room_near c q s near (t + s) e (less_room c (t + s + s) (t + 2 * s) e (omega arith) far) r on in
         let times = mul_le m (le_of_lt positive) room in
         let less = le_mul (pos (r.d * r.d)) (pos_nonneg (r.d * r.d)) le in
         let same = moved (pos (r.d * r.d)) in
-        omega (arith, lin)
+        omega (arith, lin))
     by (inr more) = absurd (none (room_near q c s (is_near-sym c q s near) t f (λ r on. (
         let less = le_mul (pos (r.d * r.d)) (pos_nonneg (r.d * r.d)) (le_of_lt more) in
         let at = is_far r on in

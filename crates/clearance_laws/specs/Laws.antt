@@ -12,7 +12,7 @@ use Rattle.region_owners.specs.Box.{IsEdgeOf}
 use Rattle.clearance_laws.specs.Inside.{half_point, edges_beside, TellsSides, IsOffOwn}
 use Rattle.clearance_laws.specs.Near.{IsNear, IsAsFar}
 use Rattle.clearance_laws.specs.Block.{IsInBlock, centre, AtCorners}
-use Rattle.clearance_laws.specs.Facing.{IsBeside, IsShallow, AreFacing, IsFront}
+use Rattle.clearance_laws.specs.Facing.{IsBeside, IsShallow, AreFacing, IsFront, IsLeastDepth}
 use Rattle.distance_laws.specs.Room.{doubled, half_side, squared_length, HasHalfRoom}
 
 -- where c has room r + s, each point within s of it has room r
@@ -57,17 +57,18 @@ NearestSideLaw = (edges : List Seg) → IsPlanar edges → AreDistinct edges →
 abbrev pub AreAsFarAs : List Seg → ℕ → Coord → List Seg → Type 0
 AreAsFarAs edges r q few = (n m : ℤ) → pos 0 <ℤ m → ((f : Seg) → Contains few f → IsAsFar q n m f) → (g : Seg) → IsEdgeOf edges r g → IsAsFar q n m g
 
--- so where a point of the region is nearest to an edge that is too shallow at the corners of a block, it has no room w in the block
+-- so where the own edge that is nearest to a grid point of the region is known, and no corner of a block is as deep from it as a grid point with room w is, the point has no room w in the block
 abbrev pub AloneLaw : Type 0
 AloneLaw = (edges : List Seg) → IsPlanar edges → AreDistinct edges → (r : ℕ) → ¬ IsOuterRegion edges r
-    → (lo hi q : Coord) → IsInBlock lo hi q → IsRegionOf edges (half_point q) r → (w : ℕ) → 1 ≤ w → (k : ℤ) (e : Seg) → AtCorners lo hi (IsShallow w k e)
-    → IsFront edges r k e → Contains edges e → AreAsFarAs edges r q (e ∷ []) → ¬ HasHalfRoom q w e
+    → (lo hi q : Coord) → IsInBlock lo hi (doubled q) → IsRegionOf edges (half_point (doubled q)) r → (w : ℕ) → 1 ≤ w → (k : ℤ) (e : Seg) (m : ℤ) → AtCorners lo hi (IsShallow k e m)
+    → IsLeastDepth w e m → IsFront edges r k e → Contains edges e → AreAsFarAs edges r (doubled q) (e ∷ []) → ¬ HasHalfRoom (doubled q) w e
 
--- nor where it is nearest to one of two edges that face each other too closely there
+-- nor where it is one of two that face each other too closely there
 abbrev pub FacingLaw : Type 0
 FacingLaw = (edges : List Seg) → IsPlanar edges → AreDistinct edges → (r : ℕ) → ¬ IsOuterRegion edges r
-    → (lo hi q : Coord) → IsInBlock lo hi q → IsRegionOf edges (half_point q) r → (w : ℕ) → 1 ≤ w → (k : ℤ) (e : Seg) (l : ℤ) (f : Seg) → AtCorners lo hi (AreFacing w k e l f)
-    → IsFront edges r k e → IsFront edges r l f → Contains edges e → Contains edges f → AreAsFarAs edges r q (e ∷ f ∷ []) → ¬ (HasHalfRoom q w e × HasHalfRoom q w f)
+    → (lo hi q : Coord) → IsInBlock lo hi (doubled q) → IsRegionOf edges (half_point (doubled q)) r → (w : ℕ) → 1 ≤ w → (k : ℤ) (e : Seg) (m l : ℤ) (f : Seg) (n : ℤ) → AtCorners lo hi (AreFacing k e m l f n)
+    → IsLeastDepth w e m → IsLeastDepth w f n → IsFront edges r k e → IsFront edges r l f → Contains edges e → Contains edges f → AreAsFarAs edges r (doubled q) (e ∷ f ∷ [])
+    → ¬ (HasHalfRoom (doubled q) w e × HasHalfRoom (doubled q) w f)
 
 -- a point off the region's own edges is in it where these weigh 1 over it; an edge that has not the region on just one side weighs 0, so other edges do not count
 abbrev pub InsideLaw : Type 0

@@ -17,6 +17,8 @@
 #![tactic(auto)]
 
 mod block;
+mod depth;
+mod facing;
 mod gaps;
 mod near;
 mod own;

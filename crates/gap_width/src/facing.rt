@@ -1,0 +1,152 @@
+ghost use Rattle.std.specs.Prelude.{◌≡◌, ◌+◌, ◌*◌, ◌^◌, ◌≤◌, ◌<◌, ◌+ℤ◌, ◌-ℤ◌, ◌*ℤ◌, ◌≤ℤ◌, ◌<ℤ◌, ◌++◌, [], ◌∷◌, pos, ℕ, List, All, IsTrue, filter, nat_lt};
+ghost use Rattle.integer_laws.specs.Bound.{IsWithin};
+ghost use Rattle.cov_types.specs.Range.{IsSegInRange};
+ghost use Rattle.distance_laws.specs.Room.{reach};
+ghost use Rattle.clearance_laws.specs.Block.{AtCorners, corner};
+ghost use Rattle.clearance_laws.specs.Facing.{IsBeside, IsLeastDepth, depth, both};
+ghost use Rattle.grid_pred.specs.Half.{IsHalfInRange};
+ghost use Rattle.gap_width.specs.declared.own.OwnEdge.{OwnEdge};
+ghost use Rattle.gap_width.specs.Own.{IsSmallEdge};
+ghost use Rattle.gap_width.specs.Search.{IsBlock};
+ghost use Rattle.gap_width.specs.Depth.{IsPair, IsBetweenPair};
+ghost use Rattle.gap_width.specs.Facing.{AreFew, front_side, IsBounded, IsBoundedByOne, IsBoundedByTwo};
+
+use crate::block::Block;
+use crate::depth::{Pair, depth, is_beside, least_depth};
+use crate::own::OwnEdge;
+use cov_types::{Coord, Seg};
+use grid_pred::reach;
+
+/// The edges of a list, where they are two at most.
+#[derive(Clone, Copy)]
+pub enum Few {
+    Nothing,
+    One(OwnEdge),
+    Two(OwnEdge, OwnEdge),
+    Many,
+}
+
+impl Few {
+    // With one edge more.
+    fn and(self, o: OwnEdge) -> Few
+        ensures { (few : List OwnEdge) → AreFew self few → AreFew result (few ++ o ∷ []) }
+    {
+        match self {
+            Few::Nothing => Few::One(o),
+            Few::One(p) => Few::Two(p, o),
+            _ => Few::Many,
+        }
+    }
+}
+
+/// Whether one edge, or two that face each other, tell that no grid point of the block that is in the region has this room. They are
+/// those from which the point c/2 has not the room of the limit.
+pub fn is_bounded(near: &[OwnEdge], block: Block, c: Coord, limit: u64, room: u32) -> bool
+    requires edges { All IsSmallEdge near.now }
+    requires block { IsBlock block }
+    requires point { IsHalfInRange c }
+    requires limit { limit < 2 ^ 32 }
+    requires some { 1 ≤ room }
+    requires room { room ≤ 2 ^ 31 + 1 }
+    ensures { IsTrue result → IsBounded block room (filter (λ o. nat_lt (reach c o.edge) (limit * limit)) near.now) }
+{
+    match few_within(near, c, limit) {
+        Few::One(only) => is_bounded_by_one(only, block, room),
+        Few::Two(first, second) => is_bounded_by_two(first, second, block, room),
+        _ => false,
+    }
+}
+
+// The edges from which the point c/2 has not this room.
+fn few_within(near: &[OwnEdge], c: Coord, room: u64) -> Few
+    requires edges { All IsSmallEdge near.now }
+    requires point { IsHalfInRange c }
+    requires small { room < 2 ^ 32 }
+    ensures { AreFew result (filter (λ o. nat_lt (reach c o.edge) (room * room)) near.now) }
+{
+    let mut few = Few::Nothing;
+    for o in near {
+        if reach(c, o.edge) < room * room {
+            few = few.and(*o);
+            if matches!(few, Few::Many) {
+                return few;
+            }
+        }
+    }
+    few
+}
+
+// Whether no corner of the block is as deep from the edge as a grid point with this room is.
+fn is_bounded_by_one(only: OwnEdge, block: Block, room: u32) -> bool
+    requires edge { IsSmallEdge only }
+    requires block { IsBlock block }
+    requires some { 1 ≤ room }
+    requires room { room ≤ 2 ^ 31 + 1 }
+    ensures { IsTrue result → IsBoundedByOne block room (only ∷ []) }
+{
+    if !is_block_beside(block, only.edge) {
+        return false;
+    }
+    is_block_shallow(block, only, least_depth(only.edge, room))
+}
+
+// Whether the corners of the block are between the two edges, closer than grid points with this room allow.
+fn is_bounded_by_two(first: OwnEdge, second: OwnEdge, block: Block, room: u32) -> bool
+    requires first { IsSmallEdge first }
+    requires second { IsSmallEdge second }
+    requires block { IsBlock block }
+    requires some { 1 ≤ room }
+    requires room { room ≤ 2 ^ 31 + 1 }
+    ensures { IsTrue result → IsBoundedByTwo block room (first ∷ second ∷ []) }
+{
+    if !is_block_beside(block, first.edge) || !is_block_beside(block, second.edge) {
+        return false;
+    }
+    is_block_between(block, Pair::build(first, second, room))
+}
+
+// Whether the corners of the block have their feet inside the edge.
+fn is_block_beside(b: Block, e: Seg) -> bool
+    requires block { IsBlock b }
+    requires edge { IsSegInRange e }
+    ensures { IsTrue result → AtCorners b.lo b.hi (λ c. IsBeside c e) }
+{
+    is_beside(corner(b.lo.x, b.lo.y), e)
+        && is_beside(corner(b.hi.x, b.lo.y), e)
+        && is_beside(corner(b.lo.x, b.hi.y), e)
+        && is_beside(corner(b.hi.x, b.hi.y), e)
+}
+
+// Whether the corners of the block are less deep than that in front of the edge.
+fn is_block_shallow(b: Block, o: OwnEdge, least: i64) -> bool
+    requires block { IsBlock b }
+    requires edge { IsSmallEdge o }
+    ensures { IsTrue result → AtCorners b.lo b.hi (λ c. depth (front_side o) c o.edge <ℤ least) }
+{
+    depth(o, corner(b.lo.x, b.lo.y)) < least
+        && depth(o, corner(b.hi.x, b.lo.y)) < least
+        && depth(o, corner(b.lo.x, b.hi.y)) < least
+        && depth(o, corner(b.hi.x, b.hi.y)) < least
+}
+
+// Whether the corners of the block are between the two.
+fn is_block_between(b: Block, pair: Pair) -> bool
+    requires block { IsBlock b }
+    requires pair { IsPair pair }
+    ensures { IsTrue result → AtCorners b.lo b.hi (IsBetweenPair pair) }
+{
+    pair.is_between(corner(b.lo.x, b.lo.y))
+        && pair.is_between(corner(b.hi.x, b.lo.y))
+        && pair.is_between(corner(b.lo.x, b.hi.y))
+        && pair.is_between(corner(b.hi.x, b.hi.y))
+}
+
+// A grid point in doubled coordinates.
+fn corner(x: i32, y: i32) -> Coord
+    requires x { IsWithin (2 ^ 28) x }
+    requires y { IsWithin (2 ^ 28) y }
+    ensures exact { result ≡ corner x y }
+    ensures in_range { IsHalfInRange result }
+{
+    Coord { x: 2 * x, y: 2 * y }
+}

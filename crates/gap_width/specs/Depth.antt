@@ -1,5 +1,5 @@
 -- What the code computes of two edges that face each other.
-use Rattle.std.specs.Prelude.{◌≡◌, ℕ, ◌^◌, ℤ, pos, ◌+ℤ◌, ◌<ℤ◌}
+use Rattle.std.specs.Prelude.{◌≡◌, ℕ, ◌*◌, ◌^◌, ℤ, pos, ◌+ℤ◌, ◌<ℤ◌}
 use Rattle.integer_laws.specs.Bound.{IsWithin}
 use Rattle.cov_types.specs.declared.coord.Coord.{Coord}
 use Rattle.plane.specs.Length.{edge_length}
@@ -14,6 +14,10 @@ use Rattle.gap_width.specs.Facing.{front_side}
 pub record IsShortVector (v : Vector) : Type 0 where
   pub x : IsWithin (2 ^ 30) v.x
   pub y : IsWithin (2 ^ 30) v.y
+
+-- n is a multiple of d
+abbrev pub Divides : ℕ → ℕ → Type 0
+Divides d n = (k : ℕ) × (n ≡ k * d)
 
 -- two edges with their lengths in 1/256 units
 pub record IsPair (p : Pair) : Type 0 where

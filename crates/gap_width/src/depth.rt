@@ -1,4 +1,4 @@
-ghost use Rattle.std.specs.Prelude.{◌≡◌, ◌+◌, ◌^◌, ◌≤◌, ◌+ℤ◌, ◌-ℤ◌, ◌*ℤ◌, ◌≤ℤ◌, pos, IsTrue};
+ghost use Rattle.std.specs.Prelude.{◌≡◌, ℕ, ◌+◌, ◌-◌, ◌*◌, ◌^◌, ◌≤◌, ◌<◌, ◌+ℤ◌, ◌-ℤ◌, ◌*ℤ◌, pos, IsTrue};
 ghost use Rattle.integer_laws.specs.Bound.{IsWithin};
 ghost use Rattle.cov_types.specs.Range.{IsSegInRange};
 ghost use Rattle.plane.specs.Length.{edge_length};
@@ -7,7 +7,7 @@ ghost use Rattle.clearance_laws.specs.Facing.{IsBeside, IsLeastDepth, depth, bot
 ghost use Rattle.grid_pred.specs.Half.{IsHalfInRange};
 ghost use Rattle.gap_width.specs.Own.{IsSmallEdge};
 ghost use Rattle.gap_width.specs.Facing.{front_side};
-ghost use Rattle.gap_width.specs.Depth.{IsShortVector, IsPair, IsPairFor, IsBetweenPair};
+ghost use Rattle.gap_width.specs.Depth.{Divides, IsShortVector, IsPair, IsPairFor, IsBetweenPair};
 
 use crate::own::OwnEdge;
 use cov_types::{Coord, Seg};
@@ -43,17 +43,60 @@ pub fn depth(o: OwnEdge, c: Coord) -> i64
     if o.weight < 0 { side } else { -side }
 }
 
-/// How deep a grid point with this room is at least in front of the edge.
+/// How deep a grid point with this room is at least in front of the edge. The depths of grid points are even, and multiples of what
+/// divides both coordinates of the edge.
 pub fn least_depth(e: Seg, room: u32) -> i64
     requires edge { IsSegInRange e }
-    requires some { 1 ≤ room }
     requires room { room ≤ 2 ^ 31 + 1 }
     ensures least { IsLeastDepth room e result }
     ensures small { IsWithin (2 ^ 62) result }
 {
     let along = vector_of(e);
-    let length = scalar(along, along) as u128;
-    root(room as u128 * room as u128 * length) as i64
+    let length = scalar(along, along).unsigned_abs();
+    let depth = root_up(room as u128 * room as u128 * length as u128);
+    let step = 2 * common_divisor(along.x.unsigned_abs(), along.y.unsigned_abs());
+    multiple_up(depth, step) as i64
+}
+
+// The square root of a number, rounded up.
+fn root_up(n: u128) -> u64
+    requires { n ≤ 2 ^ 124 - 2 ^ 122 }
+    ensures least { (j : ℕ) → n ≤ j * j → result ≤ j }
+    ensures small { result ≤ 2 ^ 62 - 2 ^ 33 }
+{
+    let down = root(n);
+    if down * down < n { down as u64 + 1 } else { down as u64 }
+}
+
+// The next multiple of the step from a number on.
+fn multiple_up(n: u64, step: u64) -> u64
+    requires n { n ≤ 2 ^ 62 - 2 ^ 33 }
+    requires some { 0 < step }
+    requires step { step ≤ 2 ^ 33 }
+    ensures least { (t : ℕ) → n ≤ t * step → result ≤ t * step }
+    ensures small { result ≤ 2 ^ 62 }
+{
+    let over = n % step;
+    if over == 0 { n } else { n + (step - over) }
+}
+
+// The greatest number that divides both, one of which is not 0.
+fn common_divisor(a: u64, b: u64) -> u64
+    requires some { 0 < a + b }
+    requires small { a + b ≤ 2 ^ 32 }
+    ensures first { Divides result a }
+    ensures second { Divides result b }
+    ensures some { 0 < result }
+    ensures small { result ≤ 2 ^ 32 }
+{
+    let mut greater = a;
+    let mut lesser = b;
+    while lesser != 0 {
+        let rest = greater % lesser;
+        greater = lesser;
+        lesser = rest;
+    }
+    greater
 }
 
 /// Two edges with their lengths in 1/256 units, and the sum of the least depths of grid points with some room, each times the length of
@@ -72,7 +115,6 @@ impl Pair {
     pub fn build(first: OwnEdge, second: OwnEdge, room: u32) -> Pair
         requires first { IsSmallEdge first }
         requires second { IsSmallEdge second }
-        requires some { 1 ≤ room }
         requires room { room ≤ 2 ^ 31 + 1 }
         ensures { IsPairFor first second room result }
     {

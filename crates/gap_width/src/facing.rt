@@ -46,7 +46,6 @@ pub fn is_bounded(near: &[OwnEdge], block: Block, c: Coord, limit: u64, room: u3
     requires block { IsBlock block }
     requires point { IsHalfInRange c }
     requires limit { limit < 2 ^ 32 }
-    requires some { 1 ≤ room }
     requires room { room ≤ 2 ^ 31 + 1 }
     ensures { IsTrue result → IsBounded block room (filter (λ o. nat_lt (reach c o.edge) (limit * limit)) near.now) }
 {
@@ -80,7 +79,6 @@ fn few_within(near: &[OwnEdge], c: Coord, room: u64) -> Few
 fn is_bounded_by_one(only: OwnEdge, block: Block, room: u32) -> bool
     requires edge { IsSmallEdge only }
     requires block { IsBlock block }
-    requires some { 1 ≤ room }
     requires room { room ≤ 2 ^ 31 + 1 }
     ensures { IsTrue result → IsBoundedByOne block room (only ∷ []) }
 {
@@ -95,7 +93,6 @@ fn is_bounded_by_two(first: OwnEdge, second: OwnEdge, block: Block, room: u32) -
     requires first { IsSmallEdge first }
     requires second { IsSmallEdge second }
     requires block { IsBlock block }
-    requires some { 1 ≤ room }
     requires room { room ≤ 2 ^ 31 + 1 }
     ensures { IsTrue result → IsBoundedByTwo block room (first ∷ second ∷ []) }
 {

@@ -9,13 +9,16 @@ use Rattle.cov_types.specs.declared.seg.Seg.{Seg}
 use Rattle.cov_types.specs.Range.{IsSegInRange}
 use Rattle.integer_laws.proofs.Bound.{IsWithin, abs_within, within_difference}
 use Rattle.integer_laws.proofs.Cast.{pos_mul, pos_le, pos_nonneg, natural, natural_or_negated, unsigned_abs_nonneg}
-use Rattle.integer_laws.proofs.Compare.{le_of_lt}
-use Rattle.integer_laws.proofs.Ring.{lin, by_ring, by_one, by_two, Var, Lit, ◌⊕◌, ◌⊖◌, ◌⊗◌, Neg}
-use Rattle.integer_laws.proofs.Sign.{positive_factor}
+use Rattle.integer_laws.proofs.Compare.{le_of_lt, int_lt_is, int_lt_false}
+use Rattle.integer_laws.proofs.Ring.{lin, by_ring, by_one, by_two, Var, Lit, ◌⊕◌, ◌⊖◌, ◌⊗◌, Neg, one_mul, minus_one_mul}
+use Rattle.integer_laws.proofs.Sign.{positive_factor, square_nonneg}
 use Rattle.plane.specs.Length.{root, edge_length}
 use Rattle.plane.proofs.Roots.{root_is}
-use Rattle.distance_laws.specs.Room.{doubled, half_side, squared_length}
+use Rattle.distance_laws.specs.Room.{doubled, foot, half_side, squared_length}
 use Rattle.clearance_laws.specs.Facing.{IsLeastDepth, depth}
+use Rattle.grid_pred.proofs.Sizes.{x_within, y_within}
+use Rattle.gap_width.specs.declared.own.OwnEdge.{OwnEdge}
+use Rattle.gap_width.specs.Facing.{front_side}
 use Rattle.gap_width.specs.Depth.{Divides}
 use Rattle.gap_width.proofs.Steps.{root_at_most}
 
@@ -110,3 +113,44 @@ least_is w e length d m up some long first second root_least multiple_least k q 
   where
     squared : (k h : ℤ) → k *ℤ k ≡ pos 1 → (k *ℤ h) *ℤ (k *ℤ h) ≡ h *ℤ h
     squared k h unit = by_one (k ∷ h ∷ []) ((Var 0 ⊗ Var 1) ⊗ (Var 0 ⊗ Var 1)) (Var 1 ⊗ Var 1) (Var 1 ⊗ Var 1) (Var 0 ⊗ Var 0) (Lit (pos 1)) refl unit
+
+-- ---- what the code computes of an edge and a point
+
+pub foot_is : (c : Coord) (e : Seg) (ux uy vx vy n : ℤ) → ux ≡ e.hi.x -ℤ e.lo.x → uy ≡ e.hi.y -ℤ e.lo.y → vx ≡ c.x -ℤ (pos 2 *ℤ e.lo.x) → vy ≡ c.y -ℤ (pos 2 *ℤ e.lo.y) → n ≡ (ux *ℤ vx) +ℤ (uy *ℤ vy) → n ≡ foot c e
+unfolding foot
+foot_is c e ux uy vx vy n a b x y is = is ∙ (λ i. (a i *ℤ x i) +ℤ (b i *ℤ y i))
+
+pub side_is : (c : Coord) (e : Seg) (ux uy vx vy n : ℤ) → ux ≡ e.hi.x -ℤ e.lo.x → uy ≡ e.hi.y -ℤ e.lo.y → vx ≡ c.x -ℤ (pos 2 *ℤ e.lo.x) → vy ≡ c.y -ℤ (pos 2 *ℤ e.lo.y) → n ≡ (ux *ℤ vy) -ℤ (uy *ℤ vx) → n ≡ half_side c e
+unfolding half_side
+side_is c e ux uy vx vy n a b x y is = is ∙ (λ i. (a i *ℤ y i) -ℤ (b i *ℤ x i))
+
+pub length_is : (e : Seg) (ux uy n : ℤ) → ux ≡ e.hi.x -ℤ e.lo.x → uy ≡ e.hi.y -ℤ e.lo.y → n ≡ (ux *ℤ ux) +ℤ (uy *ℤ uy) → n ≡ squared_length e
+unfolding squared_length
+length_is e ux uy n a b is = is ∙ (λ i. (a i *ℤ a i) +ℤ (b i *ℤ b i))
+
+pub length_nonneg : (e : Seg) → pos 0 ≤ℤ squared_length e
+unfolding squared_length
+length_nonneg e = let x = square_nonneg (e.hi.x -ℤ e.lo.x) in let y = square_nonneg (e.hi.y -ℤ e.lo.y) in omega (arith, lin)
+
+-- the depth on the region's side
+pub depth_above : (o : OwnEdge) (c : Coord) (s : ℤ) → s ≡ half_side c o.edge → o.weight <ℤ pos 0 → s ≡ depth (front_side o) c o.edge
+depth_above o c s is below = is ∙ sym (one_mul (half_side c o.edge)) ∙ (λ i. cond (sym ((int_lt_is o.weight (pos 0)).1 below) i) (pos 1) (neg_ℤ (pos 1)) *ℤ half_side c o.edge)
+
+pub depth_below : (o : OwnEdge) (c : Coord) (s : ℤ) → s ≡ half_side c o.edge → pos 0 ≤ℤ o.weight → neg_ℤ s ≡ depth (front_side o) c o.edge
+depth_below o c s is above = ap neg_ℤ is ∙ sym (minus_one_mul (half_side c o.edge)) ∙ (λ i. cond (sym ((int_lt_false o.weight (pos 0)).1 above) i) (pos 1) (neg_ℤ (pos 1)) *ℤ half_side c o.edge)
+
+-- an edge in range is 2^39 units of 1/256 long at most
+pub length_small : (e : Seg) → IsSegInRange e → edge_length e ≤ 2 ^ 39
+unfolding edge_length
+length_small e is =
+    let x = abs_within (within_difference (x_within e.hi is.hi) (x_within e.lo is.lo)) in
+    let y = abs_within (within_difference (y_within e.hi is.hi) (y_within e.lo is.lo)) in
+    let across = mul-le-mul x x in
+    let upwards = mul-le-mul y y in
+    root_at_most _ (2 ^ 39) (omega (arith, across, upwards))
+
+pub room_small : (w n : ℕ) → w ≤ 2 ^ 31 + 1 → n ≤ 2 ^ 61 → w * w * n ≤ 2 ^ 124 - 2 ^ 122
+room_small w n hw hn = (let square = mul-le-mul hw hw in let all = mul-le-mul square hn in omega (arith, all))
+
+pub root_small : (n : ℕ) → n ≤ 2 ^ 124 - 2 ^ 122 → root n ≤ 2 ^ 62 - 2 ^ 33 - 1
+root_small n h = root_at_most n (2 ^ 62 - 2 ^ 33 - 1) (omega (arith, h))

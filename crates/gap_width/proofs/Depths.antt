@@ -48,7 +48,7 @@ root_up_least n j le =
         | inr not_below ↦ (let squares = mul-le-mul not_below not_below in absurd (omega (arith, squares, le, less)))
       ],
       elim (cases_lt j (root n)) [
-        | inl more ↦ (let squares = mul-le-mul {a = j + 1} {b = root n} {c = j + 1} {d = root n} (omega (arith, more)) (omega (arith, more)) in absurd (omega (arith, squares, at_most, le)))
+        | inl more ↦ (let squares = mul-le-mul {n₁ = j + 1} {m₁ = j + 1} {n₂ = root n} {m₂ = root n} (omega (arith, more)) (omega (arith, more)) in absurd (omega (arith, squares, at_most, le)))
         | inr not_more ↦ not_more
       ],
     )

@@ -140,7 +140,10 @@ impl Pair {
         let first = depth(self.first, c);
         let second = depth(self.second, c);
         let sum = weighted(self.second_length, first, self.first_length, second);
-        sum < self.least && 0 < sum + second as i128 && 0 < sum + first as i128
+        if self.least <= sum {
+            return false;
+        }
+        0 < sum + second as i128 && 0 < sum + first as i128
     }
 }
 

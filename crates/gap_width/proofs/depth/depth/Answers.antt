@@ -9,7 +9,9 @@ returns-then-o-lt0-clause-exact c =
     let u = c.vector_of in
     let v = c.vector_from in
     let is = side_is c.args.c c.args.o.edge u.result.x u.result.y v.result.x v.result.y c.across-side.result u.ensures.x u.ensures.y v.ensures.x v.ensures.y c.across-side.ensures.exact in
-    depth_above c.args.o c.args.c c.across-side.result is (omega (arith, ints, lin, c.if-o-lt0.true))
+    let exact = depth_above c.args.o c.args.c c.across-side.result is (omega (arith, ints, lin, c.if-o-lt0.true)) in
+    let small = c.across-side.ensures.small in
+    omega (arith, ints, lin)
 
 pub returns-else-o-lt0-clause-exact : goal.returns-else-o-lt0-clause-exact
 returns-else-o-lt0-clause-exact c =

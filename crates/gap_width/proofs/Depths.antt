@@ -1,9 +1,11 @@
 -- How deep grid points with some room are in front of an edge, and what the code computes of it.
 use mathlib.Core.List.{[], ◌∷◌}
-use Rattle.std.proofs.Common.{◌≡◌, refl, sym, ◌∙◌, ap, subst, ℕ, ◌+◌, ◌-◌, ◌*◌, ◌/◌, ◌%◌, ◌^◌, ◌<◌, ◌≤◌, ◌⊎◌, cond, inl, inr, ℤ, pos, negsuc, neg_ℤ, ◌+ℤ◌, ◌-ℤ◌, ◌*ℤ◌, ◌≤ℤ◌, ◌<ℤ◌, unsigned_abs, arith}
+use mir.Syntax.{w32}
+use Rattle.std.proofs.Common.{List, All, Contains, lit<, ◌≡◌, refl, sym, ◌∙◌, ap, subst, ℕ, ◌+◌, ◌-◌, ◌*◌, ◌/◌, ◌%◌, ◌^◌, ◌<◌, ◌≤◌, ◌⊎◌, cond, inl, inr, ℤ, pos, negsuc, neg_ℤ, ◌+ℤ◌, ◌-ℤ◌, ◌*ℤ◌, ◌≤ℤ◌, ◌<ℤ◌, unsigned_abs, arith}
 use Rattle.std.proofs.Math.Nat.{mul-le-mul, mul-le-mul_right}
 use Rattle.std.proofs.lemmas.Bool.{cases_lt}
 use Rattle.std.proofs.lemmas.Int.{ints}
+use Rattle.std.proofs.lemmas.List.Elements.{All-contains}
 use Rattle.cov_types.specs.declared.coord.Coord.{Coord}
 use Rattle.cov_types.specs.declared.seg.Seg.{Seg}
 use Rattle.cov_types.specs.Range.{IsSegInRange}
@@ -15,11 +17,18 @@ use Rattle.integer_laws.proofs.Sign.{positive_factor, square_nonneg}
 use Rattle.plane.specs.Length.{root, edge_length}
 use Rattle.plane.proofs.Roots.{root_is}
 use Rattle.distance_laws.specs.Room.{doubled, foot, half_side, squared_length}
-use Rattle.clearance_laws.specs.Facing.{IsLeastDepth, depth}
+use Rattle.crossing_laws.proofs.Lists.{contains_here, contains_there}
+use Rattle.clearance_laws.specs.Block.{AtCorners, corner}
+use Rattle.clearance_laws.specs.Facing.{IsBeside, IsShallow, AreFacing, IsLeastDepth, depth, both}
 use Rattle.grid_pred.proofs.Sizes.{x_within, y_within}
 use Rattle.gap_width.specs.declared.own.OwnEdge.{OwnEdge}
 use Rattle.gap_width.specs.Facing.{front_side}
-use Rattle.gap_width.specs.Depth.{Divides}
+use Rattle.grid_pred.proofs.Small.{read, read_within}
+use Rattle.gap_width.specs.declared.block.Block.{Block}
+use Rattle.gap_width.specs.declared.depth.Pair.{Pair}
+use Rattle.gap_width.specs.Own.{IsSmallEdge}
+use Rattle.gap_width.specs.Search.{IsBlock}
+use Rattle.gap_width.specs.Depth.{Divides, IsPairFor, IsBetweenPair, depths_of}
 use Rattle.gap_width.proofs.Steps.{root_at_most}
 
 -- ---- divisors
@@ -154,3 +163,77 @@ room_small w n hw hn = (let square = mul-le-mul hw hw in let all = mul-le-mul sq
 
 pub root_small : (n : ℕ) → n ≤ 2 ^ 124 - 2 ^ 122 → root n ≤ 2 ^ 62 - 2 ^ 33 - 1
 root_small n h = root_at_most n (2 ^ 62 - 2 ^ 33 - 1) (omega (arith, h))
+
+-- ---- corners of blocks
+
+pub block_within : (b : Block) → IsBlock b → (IsWithin (2 ^ 28) b.lo.x × IsWithin (2 ^ 28) b.hi.x) × (IsWithin (2 ^ 28) b.lo.y × IsWithin (2 ^ 28) b.hi.y)
+block_within b is =
+    let left = is.left in
+    let across = is.across in
+    let right = is.right in
+    let bottom = is.bottom in
+    let upwards = is.upwards in
+    let top = is.top in (
+      (record { low = omega (arith, lin); high = omega (arith, lin) }, record { low = omega (arith, lin); high = omega (arith, lin) }),
+      (record { low = omega (arith, lin); high = omega (arith, lin) }, record { low = omega (arith, lin); high = omega (arith, lin) }),
+    )
+
+-- as the code computes it
+pub corner_is : (q : Coord) (x y : ℤ) → IsWithin (2 ^ 28) x → IsWithin (2 ^ 28) y → q ≡ corner (read w32 x) (read w32 y) → q ≡ corner x y
+corner_is q x y hx hy is = is ∙ (λ i. corner (read_within w32 x (2 ^ 28) (lit< tt) hx i) (read_within w32 y (2 ^ 28) (lit< tt) hy i))
+
+-- of both rows it is true at all corners
+pub rows_are : (b : Block) (P : Coord → Type 0) → IsBlock b → P (corner b.lo.x (read w32 b.lo.y)) × P (corner b.hi.x (read w32 b.lo.y)) → P (corner b.lo.x (read w32 b.hi.y)) × P (corner b.hi.x (read w32 b.hi.y)) → AtCorners b.lo b.hi P
+rows_are b P is low high =
+    let within = block_within b is in
+    let low_read = read_within w32 b.lo.y (2 ^ 28) (lit< tt) within.1.0 in
+    let high_read = read_within w32 b.hi.y (2 ^ 28) (lit< tt) within.1.1 in
+    record {
+      low_left = subst (λ y. P (corner b.lo.x y)) low_read low.0;
+      low_right = subst (λ y. P (corner b.hi.x y)) low_read low.1;
+      high_left = subst (λ y. P (corner b.lo.x y)) high_read high.0;
+      high_right = subst (λ y. P (corner b.hi.x y)) high_read high.1;
+    }
+
+pub shallow_at : (lo hi : Coord) (k : ℤ) (e : Seg) (m : ℤ) → AtCorners lo hi (λ c. IsBeside c e) → AtCorners lo hi (λ c. depth k c e <ℤ m) → AtCorners lo hi (IsShallow k e m)
+shallow_at lo hi k e m beside less = record {
+  low_left = record { beside = beside.low_left; shallow = less.low_left };
+  low_right = record { beside = beside.low_right; shallow = less.low_right };
+  high_left = record { beside = beside.high_left; shallow = less.high_left };
+  high_right = record { beside = beside.high_right; shallow = less.high_right };
+}
+
+facing_of : (first second : OwnEdge) (room : ℕ) (p : Pair) (is : IsPairFor first second room p) (c : Coord) → IsBeside c first.edge → IsBeside c second.edge → IsBetweenPair p c
+    → AreFacing (front_side first) first.edge is.first_depth (front_side second) second.edge is.second_depth c
+facing_of first second room p is c beside_first beside_second between =
+    let one = is.first_is in
+    let two = is.second_is in
+    let sums : depths_of p c ≡ both first.edge second.edge (depth (front_side first) c first.edge) (depth (front_side second) c second.edge) =
+    λ i. both (one i).edge (two i).edge (depth (front_side (one i)) c (one i).edge) (depth (front_side (two i)) c (two i).edge) in
+    let close = between.close in
+    let over_first = between.over_first in
+    let over_second = between.over_second in
+    record {
+      beside_first = beside_first;
+      beside_second = beside_second;
+      close = subst (λ z. z <ℤ both first.edge second.edge is.first_depth is.second_depth) sums (subst (λ z. depths_of p c <ℤ z) is.least close);
+      over_first = subst (λ z. pos 0 <ℤ z) (λ i. sums i +ℤ depth (front_side (two i)) c (two i).edge) over_first;
+      over_second = subst (λ z. pos 0 <ℤ z) (λ i. sums i +ℤ depth (front_side (one i)) c (one i).edge) over_second;
+    }
+
+pub facing_at : (lo hi : Coord) (first second : OwnEdge) (room : ℕ) (p : Pair) (is : IsPairFor first second room p) → AtCorners lo hi (λ c. IsBeside c first.edge) → AtCorners lo hi (λ c. IsBeside c second.edge) → AtCorners lo hi (IsBetweenPair p)
+    → AtCorners lo hi (AreFacing (front_side first) first.edge is.first_depth (front_side second) second.edge is.second_depth)
+facing_at lo hi first second room p is one two between = record {
+  low_left = facing_of first second room p is (corner lo.x lo.y) one.low_left two.low_left between.low_left;
+  low_right = facing_of first second room p is (corner hi.x lo.y) one.low_right two.low_right between.low_right;
+  high_left = facing_of first second room p is (corner lo.x hi.y) one.high_left two.high_left between.high_left;
+  high_right = facing_of first second room p is (corner hi.x hi.y) one.high_right two.high_right between.high_right;
+}
+
+-- ---- the edges of a list of one or two are small where all are
+
+pub first_small : (few : List OwnEdge) (o : OwnEdge) (rest : List OwnEdge) → All IsSmallEdge few → few ≡ o ∷ rest → IsSmallEdge o
+first_small few o rest all is = All-contains IsSmallEdge few o all (subst (λ xs. Contains xs o) (sym is) (contains_here o rest))
+
+pub second_small : (few : List OwnEdge) (o p : OwnEdge) → All IsSmallEdge few → few ≡ o ∷ p ∷ [] → IsSmallEdge p
+second_small few o p all is = All-contains IsSmallEdge few p all (subst (λ xs. Contains xs p) (sym is) (contains_there o p (p ∷ []) (contains_here p [])))

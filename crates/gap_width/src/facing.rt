@@ -82,10 +82,8 @@ fn is_bounded_by_one(only: OwnEdge, block: Block, room: u32) -> bool
     requires room { room ≤ 2 ^ 31 + 1 }
     ensures { IsTrue result → IsBoundedByOne block room (only ∷ []) }
 {
-    if !is_block_beside(block, only.edge) {
-        return false;
-    }
-    is_block_shallow(block, only, least_depth(only.edge, room))
+    is_block_beside(block, only.edge)
+        && is_block_shallow(block, only, least_depth(only.edge, room))
 }
 
 // Whether the corners of the block are between the two edges, closer than grid points with this room allow.
@@ -96,10 +94,18 @@ fn is_bounded_by_two(first: OwnEdge, second: OwnEdge, block: Block, room: u32) -
     requires room { room ≤ 2 ^ 31 + 1 }
     ensures { IsTrue result → IsBoundedByTwo block room (first ∷ second ∷ []) }
 {
-    if !is_block_beside(block, first.edge) || !is_block_beside(block, second.edge) {
-        return false;
-    }
-    is_block_between(block, Pair::build(first, second, room))
+    is_block_beside_both(block, first.edge, second.edge)
+        && is_block_between(block, Pair::build(first, second, room))
+}
+
+// Whether the corners of the block have their feet inside both edges.
+fn is_block_beside_both(b: Block, e: Seg, f: Seg) -> bool
+    requires block { IsBlock b }
+    requires first { IsSegInRange e }
+    requires second { IsSegInRange f }
+    ensures { IsTrue result → AtCorners b.lo b.hi (λ c. IsBeside c e) × AtCorners b.lo b.hi (λ c. IsBeside c f) }
+{
+    is_block_beside(b, e) && is_block_beside(b, f)
 }
 
 // Whether the corners of the block have their feet inside the edge.
@@ -108,10 +114,19 @@ fn is_block_beside(b: Block, e: Seg) -> bool
     requires edge { IsSegInRange e }
     ensures { IsTrue result → AtCorners b.lo b.hi (λ c. IsBeside c e) }
 {
-    is_beside(corner(b.lo.x, b.lo.y), e)
-        && is_beside(corner(b.hi.x, b.lo.y), e)
-        && is_beside(corner(b.lo.x, b.hi.y), e)
-        && is_beside(corner(b.hi.x, b.hi.y), e)
+    is_row_beside(b, b.lo.y, e) && is_row_beside(b, b.hi.y, e)
+}
+
+// The same of the two corners in the row y.
+fn is_row_beside(b: Block, y: i32, e: Seg) -> bool
+    requires block { IsBlock b }
+    requires row { IsWithin (2 ^ 28) y }
+    requires edge { IsSegInRange e }
+    ensures { IsTrue result → IsBeside (corner b.lo.x y) e × IsBeside (corner b.hi.x y) e }
+{
+    let left = corner(b.lo.x, y);
+    let right = corner(b.hi.x, y);
+    is_beside(left, e) && is_beside(right, e)
 }
 
 // Whether the corners of the block are less deep than that in front of the edge.
@@ -120,10 +135,19 @@ fn is_block_shallow(b: Block, o: OwnEdge, least: i64) -> bool
     requires edge { IsSmallEdge o }
     ensures { IsTrue result → AtCorners b.lo b.hi (λ c. depth (front_side o) c o.edge <ℤ least) }
 {
-    depth(o, corner(b.lo.x, b.lo.y)) < least
-        && depth(o, corner(b.hi.x, b.lo.y)) < least
-        && depth(o, corner(b.lo.x, b.hi.y)) < least
-        && depth(o, corner(b.hi.x, b.hi.y)) < least
+    is_row_shallow(b, b.lo.y, o, least) && is_row_shallow(b, b.hi.y, o, least)
+}
+
+// The same of the two corners in the row y.
+fn is_row_shallow(b: Block, y: i32, o: OwnEdge, least: i64) -> bool
+    requires block { IsBlock b }
+    requires row { IsWithin (2 ^ 28) y }
+    requires edge { IsSmallEdge o }
+    ensures { IsTrue result → depth (front_side o) (corner b.lo.x y) o.edge <ℤ least × depth (front_side o) (corner b.hi.x y) o.edge <ℤ least }
+{
+    let left = depth(o, corner(b.lo.x, y));
+    let right = depth(o, corner(b.hi.x, y));
+    left < least && right < least
 }
 
 // Whether the corners of the block are between the two.
@@ -132,10 +156,19 @@ fn is_block_between(b: Block, pair: Pair) -> bool
     requires pair { IsPair pair }
     ensures { IsTrue result → AtCorners b.lo b.hi (IsBetweenPair pair) }
 {
-    pair.is_between(corner(b.lo.x, b.lo.y))
-        && pair.is_between(corner(b.hi.x, b.lo.y))
-        && pair.is_between(corner(b.lo.x, b.hi.y))
-        && pair.is_between(corner(b.hi.x, b.hi.y))
+    is_row_between(b, b.lo.y, pair) && is_row_between(b, b.hi.y, pair)
+}
+
+// The same of the two corners in the row y.
+fn is_row_between(b: Block, y: i32, pair: Pair) -> bool
+    requires block { IsBlock b }
+    requires row { IsWithin (2 ^ 28) y }
+    requires pair { IsPair pair }
+    ensures { IsTrue result → IsBetweenPair pair (corner b.lo.x y) × IsBetweenPair pair (corner b.hi.x y) }
+{
+    let left = corner(b.lo.x, y);
+    let right = corner(b.hi.x, y);
+    pair.is_between(left) && pair.is_between(right)
 }
 
 // A grid point in doubled coordinates.

@@ -30,10 +30,11 @@ returns-then-sum-second-gt0 c = λ t.
     ∙ (λ k. (((read_within w64 c.args.self.second_length (2 ^ 39) (lit< tt) p.second_within ∙ p.second_length) k) *ℤ ((read_first ∙ c.depth-first.ensures.exact) k))
     +ℤ (((read_within w64 c.args.self.first_length (2 ^ 39) (lit< tt) p.first_within ∙ p.first_length) k) *ℤ ((read_second ∙ c.depth-second.ensures.exact) k))) in
     let last = (int_lt_is (pos 0) (to_z w128 (of_z w128 (to_z w128 (of_z w128 sum) +ℤ to_z w128 (of_z w128 (to_z w64 (of_z w64 j))))))).0 t in
+    let front = (int_lt_is (pos 0) (to_z w128 (of_z w128 (to_z w128 (of_z w128 sum) +ℤ to_z w128 (of_z w128 (to_z w64 (of_z w64 i))))))).0 c.if-sum-second-gt0.true in
     let total_first = (λ k. to_z w128 (of_z w128 (to_z w128 (of_z w128 sum) +ℤ to_z w128 (of_z w128 (read_first k))))) ∙ plus_is w128 sum j (2 ^ 102) (2 ^ 61) (lit< tt) (lit< tt) small first_small (lit< tt) in
     let total_second = (λ k. to_z w128 (of_z w128 (to_z w128 (of_z w128 sum) +ℤ to_z w128 (of_z w128 (read_second k))))) ∙ plus_is w128 sum i (2 ^ 102) (2 ^ 61) (lit< tt) (lit< tt) small second_small (lit< tt) in
     record {
       close = omega (arith, ints, lin);
-      over_first = subst (λ z. pos 0 <ℤ z) (total_second ∙ (λ k. is k +ℤ c.depth-second.ensures.exact k)) c.if-sum-second-gt0.true;
+      over_first = subst (λ z. pos 0 <ℤ z) (total_second ∙ (λ k. is k +ℤ c.depth-second.ensures.exact k)) front;
       over_second = subst (λ z. pos 0 <ℤ z) (total_first ∙ (λ k. is k +ℤ c.depth-first.ensures.exact k)) last;
     }

@@ -1,13 +1,12 @@
 -- No point of a region has room w where one own edge alone bounds it, or two that face each other.
 use mathlib.Core.List.{[], ◌∷◌}
 use borrow.Author.Differences.{product_is}
-use Rattle.std.proofs.Common.{◌≡◌, refl, sym, ◌∙◌, ap, subst, ℕ, List, Contains, ◌+◌, ◌*◌, ◌/◌, ◌≤◌, ◌<◌, ◌^◌, ◌⊎◌, false, cond, ℤ, pos, neg_ℤ, ◌+ℤ◌, ◌-ℤ◌, ◌*ℤ◌, ◌≤ℤ◌, ◌<ℤ◌, int_le, unsigned_abs, inl, inr, arith}
+use Rattle.std.proofs.Common.{◌≡◌, refl, sym, ◌∙◌, ap, subst, ℕ, List, Contains, ◌+◌, ◌*◌, ◌/◌, ◌≤◌, ◌<◌, cond, ℤ, pos, neg_ℤ, ◌+ℤ◌, ◌-ℤ◌, ◌*ℤ◌, ◌≤ℤ◌, ◌<ℤ◌, unsigned_abs, inl, inr, arith}
 use Rattle.std.proofs.Math.Nat.{le-div_iff_mul-le, mul-le-mul}
-use Rattle.std.proofs.lemmas.Int.{ints}
 use Rattle.cov_types.specs.declared.coord.Coord.{Coord}
 use Rattle.cov_types.specs.declared.seg.Seg.{Seg}
 use Rattle.integer_laws.proofs.Cast.{pos_add, pos_mul, pos_le, pos_lt, pos_nonneg, pos_positive, unsigned_abs_nonneg, unsigned_abs_negative}
-use Rattle.integer_laws.proofs.Compare.{le_of_lt, lt_excludes_le, le_trans, le_or_gt, sign_cases, int_le_false, int_le_is}
+use Rattle.integer_laws.proofs.Compare.{le_of_lt, le_or_gt, sign_cases, int_le_false}
 use Rattle.integer_laws.proofs.Order.{mul_le, le_mul, cancel_le, mul_lt_mul}
 use Rattle.integer_laws.proofs.Ring.{lin, by_ring, by_one, Var, Lit, ◌⊕◌, ◌⊖◌, ◌⊗◌, Neg, neg_mul_neg, one_mul, minus_one_mul}
 use Rattle.integer_laws.proofs.Sign.{nonneg_times_nonneg, positive_times_positive, square_nonneg}
@@ -23,8 +22,7 @@ use Rattle.distance_laws.proofs.Reach.{reach_is}
 use Rattle.clearance_laws.specs.Block.{IsInBlock, AtCorners}
 use Rattle.clearance_laws.specs.Inside.{half_point}
 use Rattle.clearance_laws.specs.Near.{IsAsFar}
-use Rattle.clearance_laws.specs.Facing.{IsBeside, IsShallow, AreFacing, IsFront, IsLeastDepth, depth, both}
-use Rattle.clearance_laws.proofs.Outside.{root_le}
+use Rattle.clearance_laws.specs.Facing.{IsBeside, IsShallow, AreFacing, IsFront, IsLeastDepth, depth}
 use Rattle.clearance_laws.proofs.Corners.{shallow_within, facing_within}
 use Rattle.clearance_laws.proofs.Sides.{squares_sum, across, along, above_nearest, below_nearest}
 
@@ -76,9 +74,9 @@ facing_numbers m n a b x y j i ha hb deep first second close over nearer next at
   | inl behind ↦ (
       let back = neg_ℤ i in
       let less : ((a +ℤ pos 1) *ℤ back) <ℤ (b *ℤ j) = (
-          let is : (a +ℤ pos 1) *ℤ neg_ℤ i ≡ neg_ℤ ((a *ℤ i) +ℤ i) = by_ring (a ∷ i ∷ []) ((Var 0 ⊕ Lit (pos 1)) ⊗ Neg (Var 1)) (Neg (Var 0 ⊗ Var 1 ⊕ Var 1)) refl in
-          omega (arith, lin)
-          ) in
+      let is : (a +ℤ pos 1) *ℤ neg_ℤ i ≡ neg_ℤ ((a *ℤ i) +ℤ i) = by_ring (a ∷ i ∷ []) ((Var 0 ⊕ Lit (pos 1)) ⊗ Neg (Var 1)) (Neg (Var 0 ⊗ Var 1 ⊕ Var 1)) refl in
+      omega (arith, lin)
+      ) in
       let some = nonneg_times_nonneg {x = a +ℤ pos 1} {y = back} (omega (arith, lin)) (omega (arith, lin)) in
       let squares = mul_lt_mul {x = (a +ℤ pos 1) *ℤ back} {y = b *ℤ j} {u = (a +ℤ pos 1) *ℤ back} {v = b *ℤ j} some less some less in
       let left : ((a +ℤ pos 1) *ℤ back) *ℤ ((a +ℤ pos 1) *ℤ back) ≡ ((a +ℤ pos 1) *ℤ (a +ℤ pos 1)) *ℤ (i *ℤ i) =

@@ -1,7 +1,7 @@
 -- On which side of its nearest own edge a point of a region is: the region's.
 use mathlib.Core.List.{[], ◌∷◌}
 use borrow.Author.Differences.{product_is}
-use Rattle.std.proofs.Common.{◌≡◌, refl, sym, ◌∙◌, ap, subst, ℕ, List, Contains, ◌+◌, ◌*◌, ◌≤◌, ◌^◌, ℤ, pos, negsuc, neg_ℤ, ◌+ℤ◌, ◌-ℤ◌, ◌*ℤ◌, ◌≤ℤ◌, ◌<ℤ◌, unsigned_abs, arith}
+use Rattle.std.proofs.Common.{◌≡◌, refl, sym, ◌∙◌, ap, subst, ℕ, List, Contains, ◌*◌, ◌^◌, ℤ, pos, negsuc, neg_ℤ, ◌+ℤ◌, ◌-ℤ◌, ◌*ℤ◌, ◌≤ℤ◌, ◌<ℤ◌, unsigned_abs, arith}
 use Rattle.std.proofs.lemmas.List.Elements.{All-contains}
 use Rattle.cov_types.specs.declared.coord.Coord.{Coord}
 use Rattle.cov_types.specs.declared.seg.Seg.{Seg}
@@ -59,13 +59,15 @@ record IsNearFoot (c : Coord) (e : Seg) (m : ℤ) (q : Point) : Type 0 where
 
 some_near_foot : (c : Coord) (e : Seg) (m : ℤ) → pos 0 <ℤ m → pos 0 <ℤ squared_length e → (q : Point) × IsNearFoot c e m q
 some_near_foot c e m positive long =
-    let (d, some, is) = positive_natural (pos 2 *ℤ (m *ℤ squared_length e)) (positive_times_positive {x = pos 2} {y = m *ℤ squared_length e} (record { lt = tt }) (positive_times_positive positive long)) in
-    (record {
-      x = (c.x *ℤ (m *ℤ squared_length e)) +ℤ (((m -ℤ pos 1) *ℤ half_side c e) *ℤ (e.hi.y -ℤ e.lo.y));
-      y = (c.y *ℤ (m *ℤ squared_length e)) -ℤ (((m -ℤ pos 1) *ℤ half_side c e) *ℤ (e.hi.x -ℤ e.lo.x));
-      d = d;
-      positive = some;
-    }, record { x = refl; y = refl; d = sym is })
+    let (d, some, is) = positive_natural (pos 2 *ℤ (m *ℤ squared_length e)) (positive_times_positive {x = pos 2} {y = m *ℤ squared_length e} (record { lt = tt }) (positive_times_positive positive long)) in (
+      record {
+        x = (c.x *ℤ (m *ℤ squared_length e)) +ℤ (((m -ℤ pos 1) *ℤ half_side c e) *ℤ (e.hi.y -ℤ e.lo.y));
+        y = (c.y *ℤ (m *ℤ squared_length e)) -ℤ (((m -ℤ pos 1) *ℤ half_side c e) *ℤ (e.hi.x -ℤ e.lo.x));
+        d = d;
+        positive = some;
+      },
+      record { x = refl; y = refl; d = sym is },
+    )
 
 -- over variables: the ends of the edge, c, the point and m
 abbrev U : Term

@@ -26,4 +26,6 @@
 
 mod laws;
 
-pub use laws::{blocks_law, facing_law, handing_down_law, inside_law, lipschitz_law, outside_room_law};
+pub use laws::{
+    blocks_law, facing_law, handing_down_law, inside_law, lipschitz_law, outside_room_law,
+};

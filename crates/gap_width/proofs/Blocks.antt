@@ -12,7 +12,6 @@ use Rattle.integer_laws.proofs.Ring.{lin, by_ring, by_one, Var, Lit, ◌⊕◌, 
 use Rattle.integer_laws.proofs.Cast.{pos_positive}
 use Rattle.integer_laws.proofs.Sign.{positive_times_positive}
 use Rattle.plane.specs.Length.{edge_length}
-use Rattle.plane.specs.Point.{at_coord}
 use Rattle.plane.specs.Segment.{IsOn}
 use Rattle.plane.specs.Region.{IsRegionOf}
 use Rattle.arrangement.proofs.Labels.{mapped}

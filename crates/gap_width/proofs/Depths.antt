@@ -1,7 +1,7 @@
 -- How deep grid points with some room are in front of an edge, and what the code computes of it.
 use mathlib.Core.List.{[], ◌∷◌}
 use mir.Syntax.{w32}
-use Rattle.std.proofs.Common.{List, All, Contains, lit<, ◌≡◌, refl, sym, ◌∙◌, ap, subst, ℕ, ◌+◌, ◌-◌, ◌*◌, ◌/◌, ◌%◌, ◌^◌, ◌<◌, ◌≤◌, ◌⊎◌, cond, inl, inr, ℤ, pos, negsuc, neg_ℤ, ◌+ℤ◌, ◌-ℤ◌, ◌*ℤ◌, ◌≤ℤ◌, ◌<ℤ◌, unsigned_abs, arith}
+use Rattle.std.proofs.Common.{List, All, Contains, lit<, ◌≡◌, refl, sym, ◌∙◌, ap, subst, ℕ, ◌+◌, ◌-◌, ◌*◌, ◌/◌, ◌%◌, ◌^◌, ◌<◌, ◌≤◌, cond, inl, inr, ℤ, pos, neg_ℤ, ◌+ℤ◌, ◌-ℤ◌, ◌*ℤ◌, ◌≤ℤ◌, ◌<ℤ◌, unsigned_abs, arith}
 use Rattle.std.proofs.Math.Nat.{mul-le-mul, mul-le-mul_right}
 use Rattle.std.proofs.lemmas.Bool.{cases_lt}
 use Rattle.std.proofs.lemmas.Int.{ints}
@@ -10,9 +10,9 @@ use Rattle.cov_types.specs.declared.coord.Coord.{Coord}
 use Rattle.cov_types.specs.declared.seg.Seg.{Seg}
 use Rattle.cov_types.specs.Range.{IsSegInRange}
 use Rattle.integer_laws.proofs.Bound.{IsWithin, abs_within, within_difference}
-use Rattle.integer_laws.proofs.Cast.{pos_mul, pos_le, pos_nonneg, natural, natural_or_negated, unsigned_abs_nonneg}
+use Rattle.integer_laws.proofs.Cast.{pos_mul, pos_le, pos_nonneg, natural, natural_or_negated}
 use Rattle.integer_laws.proofs.Compare.{le_of_lt, int_lt_is, int_lt_false}
-use Rattle.integer_laws.proofs.Ring.{lin, by_ring, by_one, by_two, Var, Lit, ◌⊕◌, ◌⊖◌, ◌⊗◌, Neg, one_mul, minus_one_mul}
+use Rattle.integer_laws.proofs.Ring.{lin, by_ring, by_one, by_two, Var, Lit, ◌⊖◌, ◌⊗◌, Neg, one_mul, minus_one_mul}
 use Rattle.integer_laws.proofs.Sign.{positive_factor, square_nonneg}
 use Rattle.plane.specs.Length.{root, edge_length}
 use Rattle.plane.proofs.Roots.{root_is}
@@ -35,11 +35,14 @@ use Rattle.gap_width.proofs.Steps.{root_at_most}
 
 -- what divides the lesser and the rest divides the greater
 pub divides_greater : (d a b : ℕ) → 0 < b → Divides d b → Divides d (a % b) → Divides d a
-divides_greater d a b some (k, first) (j, second) = (k * (a / b) + j, (
-  let is : a ≡ b * (a / b) + a % b = omega arith in
-  let rest : (k * (a / b) + j) * d ≡ (k * d) * (a / b) + j * d = grind arith in
-  let product : b * (a / b) ≡ (k * d) * (a / b) = ap (λ n. n * (a / b)) first in
-  omega (arith, is, rest, product, second)))
+divides_greater d a b some (k, first) (j, second) = (
+  k * (a / b) + j,
+  (
+      let is : a ≡ b * (a / b) + a % b = omega arith in
+      let rest : (k * (a / b) + j) * d ≡ (k * d) * (a / b) + j * d = grind arith in
+      let product : b * (a / b) ≡ (k * d) * (a / b) = ap (λ n. n * (a / b)) first in
+      omega (arith, is, rest, product, second)),
+)
 
 pub divides_self : (d : ℕ) → Divides d d
 divides_self d = (1, omega arith)
@@ -85,25 +88,29 @@ multiple_least n step t some over le =
 multiple : (x : ℤ) (d : ℕ) → Divides d (unsigned_abs x) → (t : ℤ) × (x ≡ t *ℤ pos d)
 multiple x d (k, is) = elim (natural_or_negated x) [
   | inl (n, same) ↦ (pos k, same ∙ ap pos (sym (ap unsigned_abs same) ∙ is) ∙ pos_mul k d)
-  | inr (n, some, same) ↦ (neg_ℤ (pos k), (
-      let size : n ≡ k * d = omega (arith, ints, lin) in
-      let product = pos_mul k d in
-      let turned : neg_ℤ (pos k) *ℤ pos d ≡ neg_ℤ (pos k *ℤ pos d) = by_ring (pos k ∷ pos d ∷ []) (Neg (Var 0) ⊗ Var 1) (Neg (Var 0 ⊗ Var 1)) refl in
-      same ∙ ap (λ z. neg_ℤ (pos z)) size ∙ omega (arith, lin)))
+  | inr (n, some, same) ↦ (
+    neg_ℤ (pos k),
+    (
+        let size : n ≡ k * d = omega (arith, ints, lin) in
+        let product = pos_mul k d in
+        let turned : neg_ℤ (pos k) *ℤ pos d ≡ neg_ℤ (pos k *ℤ pos d) = by_ring (pos k ∷ pos d ∷ []) (Neg (Var 0) ⊗ Var 1) (Neg (Var 0 ⊗ Var 1)) refl in
+        same ∙ ap (λ z. neg_ℤ (pos z)) size ∙ omega (arith, lin)),
+  )
 ]
 
 pub depth_multiple : (k : ℤ) (q : Coord) (e : Seg) (d : ℕ) → Divides d (unsigned_abs (e.hi.x -ℤ e.lo.x)) → Divides d (unsigned_abs (e.hi.y -ℤ e.lo.y)) → (t : ℤ) × (depth k (doubled q) e ≡ t *ℤ pos (2 * d))
 unfolding half_side
 depth_multiple k q e d first second =
     let (s, x) = multiple (e.hi.x -ℤ e.lo.x) d first in
-    let (t, y) = multiple (e.hi.y -ℤ e.lo.y) d second in
-    (k *ℤ ((s *ℤ (q.y -ℤ e.lo.y)) -ℤ (t *ℤ (q.x -ℤ e.lo.x))),
-     by_two (k ∷ q.x ∷ q.y ∷ e.lo.x ∷ e.lo.y ∷ (e.hi.x -ℤ e.lo.x) ∷ (e.hi.y -ℤ e.lo.y) ∷ s ∷ t ∷ pos d ∷ [])
-     (Var 0 ⊗ (Var 5 ⊗ (Lit (pos 2) ⊗ Var 2 ⊖ Lit (pos 2) ⊗ Var 4) ⊖ Var 6 ⊗ (Lit (pos 2) ⊗ Var 1 ⊖ Lit (pos 2) ⊗ Var 3)))
-     ((Var 0 ⊗ (Var 7 ⊗ (Var 2 ⊖ Var 4) ⊖ Var 8 ⊗ (Var 1 ⊖ Var 3))) ⊗ (Lit (pos 2) ⊗ Var 9))
-     (Lit (pos 2) ⊗ (Var 0 ⊗ (Var 2 ⊖ Var 4))) (Var 5) (Var 7 ⊗ Var 9)
-     (Neg (Lit (pos 2) ⊗ (Var 0 ⊗ (Var 1 ⊖ Var 3)))) (Var 6) (Var 8 ⊗ Var 9) refl x y
-     ∙ ap (λ z. (k *ℤ ((s *ℤ (q.y -ℤ e.lo.y)) -ℤ (t *ℤ (q.x -ℤ e.lo.x)))) *ℤ z) (sym (pos_mul 2 d)))
+    let (t, y) = multiple (e.hi.y -ℤ e.lo.y) d second in (
+      k *ℤ ((s *ℤ (q.y -ℤ e.lo.y)) -ℤ (t *ℤ (q.x -ℤ e.lo.x))),
+      by_two (k ∷ q.x ∷ q.y ∷ e.lo.x ∷ e.lo.y ∷ (e.hi.x -ℤ e.lo.x) ∷ (e.hi.y -ℤ e.lo.y) ∷ s ∷ t ∷ pos d ∷ [])
+          (Var 0 ⊗ (Var 5 ⊗ (Lit (pos 2) ⊗ Var 2 ⊖ Lit (pos 2) ⊗ Var 4) ⊖ Var 6 ⊗ (Lit (pos 2) ⊗ Var 1 ⊖ Lit (pos 2) ⊗ Var 3)))
+          ((Var 0 ⊗ (Var 7 ⊗ (Var 2 ⊖ Var 4) ⊖ Var 8 ⊗ (Var 1 ⊖ Var 3))) ⊗ (Lit (pos 2) ⊗ Var 9))
+          (Lit (pos 2) ⊗ (Var 0 ⊗ (Var 2 ⊖ Var 4))) (Var 5) (Var 7 ⊗ Var 9)
+          (Neg (Lit (pos 2) ⊗ (Var 0 ⊗ (Var 1 ⊖ Var 3)))) (Var 6) (Var 8 ⊗ Var 9) refl x y
+          ∙ ap (λ z. (k *ℤ ((s *ℤ (q.y -ℤ e.lo.y)) -ℤ (t *ℤ (q.x -ℤ e.lo.x)))) *ℤ z) (sym (pos_mul 2 d)),
+    )
 
 -- the next multiple from the root on is the least depth
 pub least_is : (w : ℕ) (e : Seg) (length d m up : ℕ) → 0 < d → pos length ≡ squared_length e → Divides d (unsigned_abs (e.hi.x -ℤ e.lo.x)) → Divides d (unsigned_abs (e.hi.y -ℤ e.lo.y))

@@ -1,6 +1,5 @@
 -- What one edge, or two that face each other, tell of the room in a block.
-use Rattle.std.specs.Prelude.{◌≡◌, ℕ, ◌+◌, ◌*◌, ◌^◌, ◌≤◌, ◌⊎◌, cond, List, [], ◌∷◌, ℤ, pos, neg_ℤ, int_lt}
-use Rattle.integer_laws.specs.Bound.{IsWithin}
+use Rattle.std.specs.Prelude.{◌≡◌, ℕ, ◌⊎◌, cond, List, [], ◌∷◌, ℤ, pos, neg_ℤ, int_lt}
 use Rattle.clearance_laws.specs.Block.{AtCorners}
 use Rattle.clearance_laws.specs.Facing.{IsShallow, AreFacing, IsLeastDepth}
 use Rattle.gap_width.specs.declared.own.OwnEdge.{OwnEdge}

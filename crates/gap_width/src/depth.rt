@@ -65,7 +65,11 @@ fn root_up(n: u128) -> u64
     ensures small { result ≤ 2 ^ 62 - 2 ^ 33 }
 {
     let down = root(n);
-    if down * down < n { down as u64 + 1 } else { down as u64 }
+    if down * down < n {
+        down as u64 + 1
+    } else {
+        down as u64
+    }
 }
 
 // The next multiple of the step from a number on.

@@ -82,8 +82,7 @@ fn is_bounded_by_one(only: OwnEdge, block: Block, room: u32) -> bool
     requires room { room ≤ 2 ^ 31 + 1 }
     ensures { IsTrue result → IsBoundedByOne block room (only ∷ []) }
 {
-    is_block_beside(block, only.edge)
-        && is_block_shallow(block, only, least_depth(only.edge, room))
+    is_block_beside(block, only.edge) && is_block_shallow(block, only, least_depth(only.edge, room))
 }
 
 // Whether the corners of the block are between the two edges, closer than grid points with this room allow.

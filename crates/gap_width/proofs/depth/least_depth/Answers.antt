@@ -1,5 +1,5 @@
 use mir.Syntax.{w64}
-use Rattle.std.proofs.Common.{◌≡◌, ◌∙◌, ap, sym, subst, ◌≤◌, ◌^◌, ◌-ℤ◌, pos, unsigned_abs, to_z, lit<, arith}
+use Rattle.std.proofs.Common.{◌≡◌, ◌∙◌, ap, sym, subst, ◌^◌, ◌-ℤ◌, pos, unsigned_abs, to_z, lit<, arith}
 use Rattle.std.proofs.lemmas.Int.{ints}
 use Rattle.integer_laws.proofs.Ring.{lin}
 use Rattle.distance_laws.specs.Room.{squared_length}

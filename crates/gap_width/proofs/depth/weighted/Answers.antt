@@ -1,4 +1,4 @@
-use Rattle.std.proofs.Common.{◌≡◌, ◌∙◌, ◌+◌, ◌^◌, ◌*ℤ◌, ◌+ℤ◌, sym, subst, lit<, lit≤}
+use Rattle.std.proofs.Common.{◌≡◌, ◌∙◌, ◌^◌, ◌*ℤ◌, ◌+ℤ◌, sym, subst, lit<, lit≤}
 use mir.Syntax.{w128}
 use Rattle.integer_laws.proofs.Bound.{IsWithin, within_more, within_product, within_sum}
 use Rattle.grid_pred.proofs.Small.{times_read, plus_fits, plus_is}

@@ -1,7 +1,6 @@
-use Rattle.std.proofs.Common.{◌*◌, nat_lt, filter}
+use Rattle.std.proofs.Common.{filter}
 use mathlib.Core.List.{[], ◌∷◌}
 use Rattle.std.proofs.lemmas.List.Elements.{All-filter}
-use Rattle.distance_laws.specs.Room.{reach}
 use Rattle.gap_width.specs.Own.{IsSmallEdge}
 use Rattle.gap_width.proofs.Blocks.{is_within}
 use Rattle.gap_width.proofs.Depths.{first_small, second_small}

@@ -1,5 +1,5 @@
 use mir.Syntax.{w64}
-use Rattle.std.proofs.Common.{◌∙◌, sym, subst, ap, ◌^◌, ◌<ℤ◌, to_z, of_z, arith}
+use Rattle.std.proofs.Common.{◌∙◌, subst, ap, ◌<ℤ◌, to_z, of_z, arith}
 use Rattle.std.proofs.lemmas.Int.{ints}
 use Rattle.integer_laws.proofs.Compare.{int_lt_is}
 use Rattle.integer_laws.proofs.Ring.{lin}

@@ -1,7 +1,6 @@
-use Rattle.std.proofs.Common.{◌≡◌, ◌∙◌, refl, sym, subst, ◌+◌, ◌*◌, ◌<◌, ◌≤◌, ◌⊎◌, true, true≢false, IsTrue, All, filter, nat_lt, inl, inr, arith}
+use Rattle.std.proofs.Common.{◌≡◌, ◌∙◌, refl, sym, subst, ◌+◌, ◌*◌, ◌<◌, ◌⊎◌, true, true≢false, IsTrue, filter, inl, inr, arith}
 use Rattle.std.proofs.lemmas.Bool.{ltb-true}
 use Rattle.clearance_laws.specs.Block.{centre}
-use Rattle.gap_width.specs.Own.{IsSmallEdge}
 use Rattle.gap_width.specs.Search.{size, IsRoom, IsBest, IsKnown}
 use Rattle.gap_width.proofs.Blocks.{dropped, outside, centre_within, in_region, single, fewer_are, small_kept, handed, bounded_is, is_within, two_is, if_ok}
 use Rattle.gap_width.proofs.search.+most_room.Goals as goal

@@ -5,12 +5,12 @@ use Rattle.cov_types.specs.declared.coord.Coord.{Coord}
 use Rattle.cov_types.specs.declared.seg.Seg.{Seg}
 use Rattle.integer_laws.proofs.Cast.{pos_add, pos_mul, pos_le, pos_nonneg}
 use Rattle.integer_laws.proofs.Compare.{lt_or_ge, le_or_gt, le_trans, lt_excludes_le, le_of_lt}
-use Rattle.integer_laws.proofs.Order.{le_mul, mul_le_mul, mul_lt_mul}
+use Rattle.integer_laws.proofs.Order.{le_mul, mul_le, mul_le_mul, mul_lt_mul, cancel_le}
 use Rattle.integer_laws.proofs.Ring.{lin, by_ring, Var, Lit, ◌⊕◌, ◌⊖◌, ◌⊗◌, Neg}
 use Rattle.integer_laws.proofs.Sign.{nonneg_times_nonneg, square_nonneg}
 use Rattle.plane.specs.Point.{Point}
 use Rattle.distance_laws.specs.Room.{half_distance, HasHalfRoom}
-use Rattle.clearance_laws.specs.Near.{IsNear}
+use Rattle.clearance_laws.specs.Near.{IsNear, IsAsFar}
 
 -- ---- over plain variables: the vectors g and b
 
@@ -146,3 +146,26 @@ handed_down c q s t w e f near none far room = by (le_or_more w (t + s))
     by : (w ≤ t + s) ⊎ (t + s < w) → HasHalfRoom q w e
     by (inl le) = less_room q w (t + s) e le (room_near c q s near (t + s) e (less_room c (t + s + s) (t + 2 * s) e (omega arith) far))
     by (inr more) = absurd (none (room_near q c s (is_near-sym c q s near) t f (less_room q (t + s) w f (omega arith) room)))
+
+-- nor for what is said by squares
+pub handed_down-far : (c q : Coord) (s t : ℕ) (n m : ℤ) (e f : Seg) → IsNear c q s → (HasHalfRoom c t f → ⊥) → HasHalfRoom c (t + 2 * s) e → pos 0 <ℤ m → IsAsFar q n m f → IsAsFar q n m e
+handed_down-far c q s t n m e f near none far positive is_far = by (le_or_gt n (m *ℤ v))
+  where
+    v : ℤ
+    v = pos ((t + s) * (t + s))
+
+    moved : (d : ℤ) → m *ℤ (v *ℤ d) ≡ (m *ℤ v) *ℤ d
+    moved d = by_ring (m ∷ v ∷ d ∷ []) (Var 0 ⊗ (Var 1 ⊗ Var 2)) ((Var 0 ⊗ Var 1) ⊗ Var 2) refl
+
+    by : (n ≤ℤ (m *ℤ v)) ⊎ ((m *ℤ v) <ℤ n) → IsAsFar q n m e
+    by (inl le) = λ r on. (
+        let room = room_near c q s near (t + s) e (less_room c (t + s + s) (t + 2 * s) e (omega arith) far) r on in
+        let times = mul_le m (le_of_lt positive) room in
+        let less = le_mul (pos (r.d * r.d)) (pos_nonneg (r.d * r.d)) le in
+        let same = moved (pos (r.d * r.d)) in
+        omega (arith, lin))
+    by (inr more) = absurd (none (room_near q c s (is_near-sym c q s near) t f (λ r on. (
+        let less = le_mul (pos (r.d * r.d)) (pos_nonneg (r.d * r.d)) (le_of_lt more) in
+        let at = is_far r on in
+        let same = moved (pos (r.d * r.d)) in
+        cancel_le m (v *ℤ pos (r.d * r.d)) (half_distance q r) positive (omega (arith, lin))))))

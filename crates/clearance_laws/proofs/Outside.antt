@@ -40,7 +40,7 @@ gap_second a b r d m n total mean sum =
     ((Var 4 ⊕ Var 5) ⊗ (Var 1 ⊗ Var 3 ⊖ Lit (pos 2) ⊗ Var 2)) (Var 3 ⊗ (Var 4 ⊗ (Var 1 ⊖ Var 0)))
     (Neg (Lit (pos 1))) (Var 2 ⊗ Var 6) (Var 3 ⊗ (Var 4 ⊗ Var 0 ⊕ Var 5 ⊗ Var 1)) (Var 2) (Var 6) ((Var 4 ⊕ Var 5) ⊗ Lit (pos 2)) refl mean sum
 
-root_le : (x y : ℤ) → pos 0 ≤ℤ y → (x *ℤ x) ≤ℤ (y *ℤ y) → x ≤ℤ y
+pub root_le : (x y : ℤ) → pos 0 ≤ℤ y → (x *ℤ x) ≤ℤ (y *ℤ y) → x ≤ℤ y
 root_le x y h squares = elim (le_or_gt x y) [
   | inl le ↦ le
   | inr more ↦ absurd (lt_excludes_le (mul_lt_mul {x = y} {y = x} {u = y} {v = x} h more h more) squares)
@@ -117,7 +117,7 @@ no_room b x =
 
 module _ (edges : List Seg) (planar : IsPlanar edges) (distinct : AreDistinct edges) (r : ℕ) (inner : ¬ IsOuterRegion edges r) where
   -- where no own edge meets the way from a point of the region, its other end is in the region too
-  stays : (p q : Point) → IsRegionOf edges p r → ((e : Seg) → IsEdgeOf edges r e → (x : Point) → IsBetween x p q → IsOn e x → ⊥) → IsRegionOf edges q r
+  pub stays : (p q : Point) → IsRegionOf edges p r → ((e : Seg) → IsEdgeOf edges r e → (x : Point) → IsBetween x p q → IsOn e x → ⊥) → IsRegionOf edges q r
   stays p q own none =
       let some = regions_exist edges planar distinct in
       let inside : HalfEdge → Bool = passes edges planar distinct r inner some.0 some.1 in

@@ -1,4 +1,5 @@
 pub mod Near
 pub mod Block
 pub mod Inside
+pub mod Facing
 pub mod Laws

@@ -1,4 +1,4 @@
-ghost use Rattle.clearance_laws.specs.Laws.{LipschitzLaw, RoomBoundLaw, HandingDownLaw, HalfPointLaw, OutsideRoomLaw, StaysInsideLaw, InsideLaw, BesideSumLaw, AcrossLaw, UpwardsLaw, InWholeLaw, NearCentreLaw};
+ghost use Rattle.clearance_laws.specs.Laws.{LipschitzLaw, RoomBoundLaw, HandingDownLaw, HandingDownFarLaw, HalfPointLaw, OutsideRoomLaw, StaysInsideLaw, NearestSideLaw, AloneLaw, FacingLaw, InsideLaw, BesideSumLaw, AcrossLaw, UpwardsLaw, InWholeLaw, NearCentreLaw};
 
 /// From a point to one within s of it, room changes by s at most. A call does nothing.
 pub fn lipschitz_law()
@@ -8,7 +8,8 @@ pub fn lipschitz_law()
 
 /// An edge that is far beside another one is not needed near a point. A call does nothing.
 pub fn handing_down_law()
-    ensures { HandingDownLaw }
+    ensures room { HandingDownLaw }
+    ensures far { HandingDownFarLaw }
 {}
 
 /// A way from a point of a region to one that is not in it meets an edge of the region, which bounds the room of both. A call does nothing.
@@ -16,6 +17,13 @@ pub fn outside_room_law()
     ensures half { HalfPointLaw }
     ensures outside { OutsideRoomLaw }
     ensures inside { StaysInsideLaw }
+{}
+
+/// A point of a region is on the region's side of its nearest own edge, which bounds its room between edges that face each other. A call does nothing.
+pub fn facing_law()
+    ensures side { NearestSideLaw }
+    ensures alone { AloneLaw }
+    ensures facing { FacingLaw }
 {}
 
 /// Whether a point off a region's own edges is in it, by these alone. A call does nothing.

@@ -1,6 +1,6 @@
 -- What the room of a centre says of a block.
 use mathlib.Core.List.{[], ◌∷◌}
-use Rattle.std.proofs.Common.{◌≡◌, refl, sym, ◌∙◌, subst, ℕ, ◌+◌, ◌*◌, ◌<◌, ◌≤◌, Bool, true, false, List, length, filter, nat_lt, Contains, IsTrue, ◌⊎◌, unsigned_abs, All, Result, Ok, Err, IfOk, inl, inr, ℤ, pos, ◌+ℤ◌, ◌-ℤ◌, ◌*ℤ◌, ◌≤ℤ◌, arith}
+use Rattle.std.proofs.Common.{◌≡◌, refl, sym, ◌∙◌, subst, ℕ, ◌+◌, ◌*◌, ◌<◌, ◌≤◌, Bool, true, false, List, length, filter, nat_lt, Contains, IsTrue, ◌⊎◌, unsigned_abs, All, Result, Ok, Err, IfOk, inl, inr, cond, ap, ℤ, pos, neg_ℤ, int_lt, ◌+ℤ◌, ◌-ℤ◌, ◌*ℤ◌, ◌≤ℤ◌, ◌<ℤ◌, arith}
 use Rattle.std.proofs.Math.Nat.{mul-le-mul}
 use Rattle.std.proofs.lemmas.Bool.{cases_lt, ltb-false}
 use Rattle.std.proofs.lemmas.Int.{ints}
@@ -8,27 +8,31 @@ use Rattle.std.proofs.lemmas.List.{length-map}
 use Rattle.std.proofs.lemmas.List.Elements.{All-filter}
 use Rattle.cov_types.specs.declared.coord.Coord.{Coord}
 use Rattle.cov_types.specs.declared.seg.Seg.{Seg}
-use Rattle.integer_laws.proofs.Ring.{lin, by_ring, Var, Lit, ◌⊕◌, ◌⊖◌, ◌⊗◌}
+use Rattle.integer_laws.proofs.Ring.{lin, by_ring, by_one, Var, Lit, ◌⊕◌, ◌⊖◌, ◌⊗◌}
 use Rattle.integer_laws.proofs.Cast.{pos_positive}
 use Rattle.integer_laws.proofs.Sign.{positive_times_positive}
-use Rattle.plane.specs.Point.{at_coord}
+use Rattle.plane.specs.Length.{edge_length}
 use Rattle.plane.specs.Segment.{IsOn}
 use Rattle.plane.specs.Region.{IsRegionOf}
 use Rattle.arrangement.proofs.Labels.{mapped}
 use Rattle.arrangement.proofs.LiveOverlays.{kept, kept_is}
 use Rattle.crossing_laws.specs.Crossing.{crossing_sum}
-use Rattle.crossing_laws.proofs.Lists.{contains-map}
-use Rattle.distance_laws.specs.Room.{HasRoom, HasHalfRoom, doubled, reach, half_distance}
+use Rattle.crossing_laws.proofs.Lists.{contains-map, contains_here, contains_there}
+use Rattle.distance_laws.specs.Room.{HasRoom, HasHalfRoom, doubled, reach, half_distance, half_side}
 use Rattle.distance_laws.proofs.Reach.{doubled_room, reach_is}
+use Rattle.region_laws.proofs.Balance.{first_or_later}
 use Rattle.region_owners.specs.Box.{IsEdgeOf}
 use Rattle.region_owners.specs.Gap.{HasRoomWithin}
 use Rattle.region_owners.proofs.NearestOwn.{room_by_own}
 use Rattle.clearance_laws.specs.Inside.{half_point, IsOffOwn}
-use Rattle.clearance_laws.specs.Near.{IsNear}
-use Rattle.clearance_laws.specs.Block.{centre}
-use Rattle.clearance_laws.proofs.Near.{is_near-sym, room_bound, handed_down}
+use Rattle.clearance_laws.specs.Near.{IsNear, IsAsFar}
+use Rattle.clearance_laws.specs.Block.{centre, corner}
+use Rattle.clearance_laws.specs.Facing.{AreFacing, IsFront, depth, both}
+use Rattle.clearance_laws.proofs.Near.{is_near-sym, room_bound, handed_down, handed_down-far, less_room, le_or_more}
 use Rattle.clearance_laws.proofs.Outside.{room_to_outside, stays_inside, half_region}
 use Rattle.clearance_laws.proofs.Blocks.{twice, near_centre}
+use Rattle.clearance_laws.proofs.Facing.{no_room_alone, no_room_between}
+use Rattle.gap_width.specs.Facing.{front_side, IsBoundedByOne, IsBoundedByTwo, IsBounded}
 use Rattle.gap_width.specs.declared.own.OwnEdge.{OwnEdge}
 use Rattle.gap_width.specs.declared.block.Block.{Block}
 use Rattle.gap_width.specs.Own.{edges_in, weighed, IsSmallEdge, AreOwn}
@@ -191,12 +195,31 @@ module _ (edges : List Seg) (r : ℕ) (own near : List OwnEdge) (s : Block) (are
     module _ (t : Block) (in_s : (q : Coord) → IsWithinBlock t q → IsWithinBlock s q) (limit : ℕ) (is_limit : limit ≡ room + 1 + 2 * far) (fewer : List OwnEdge) where
       -- an edge of the list is handed down, or has as much room as the limit
       pub handed : AreFewer near c limit fewer → StandFor own fewer t
-      handed (inl same) = subst (λ xs. StandFor own xs t) (sym same) (record { among = stand.among; room = λ q w in_t all. stand.room q w (in_s q in_t) all })
+      handed (inl same) = subst (λ xs. StandFor own xs t) (sym same) (record {
+        among = stand.among;
+        room = λ q w in_t all. stand.room q w (in_s q in_t) all;
+        far = λ q n m positive in_t all. stand.far q n m positive (in_s q in_t) all;
+        twins = stand.twins;
+      })
       handed (inr filtered) = record {
         among = λ e in_f. stand.among e (mapped (λ o. o.edge) (Contains (edges_in near)) fewer (λ o k. contains-map (λ o. o.edge) near o (kept_is (is_within c limit) near o (subst (λ xs. Contains xs o) filtered k)).0) e in_f);
         room = λ q w in_t all. stand.room q w (in_s q in_t) (λ e in_n. at_each q w in_t all e in_n);
+        far = λ q n m positive in_t all. stand.far q n m positive (in_s q in_t) (λ e in_n. far_each q n m positive in_t all e in_n);
+        twins = λ o p in_own in_f same. (
+            let is_p = kept_is (is_within c limit) near p (subst (λ xs. Contains xs p) filtered in_f) in
+            subst (λ xs. Contains xs o) (sym filtered) (kept (is_within c limit) near o (stand.twins o p in_own is_p.0 same) (ap (λ e. nat_lt (reach c e) (limit * limit)) same ∙ is_p.1)));
       }
         where
+          far_each : (q : Coord) (n m : ℤ) → pos 0 <ℤ m → IsWithinBlock t q → ((e : Seg) → Contains (edges_in fewer) e → IsAsFar q n m e) → (e : Seg) → Contains (edges_in near) e → IsAsFar q n m e
+          far_each q n m positive in_t all = mapped (λ o. o.edge) (λ e. IsAsFar q n m e) near (λ o in_n. by o in_n (is_within c limit o) refl)
+            where
+              by : (o : OwnEdge) → Contains near o → (b : Bool) → is_within c limit o ≡ b → IsAsFar q n m o.edge
+              by o in_n true passes = all o.edge (contains-map (λ o. o.edge) fewer o (subst (λ xs. Contains xs o) (sym filtered) (kept (is_within c limit) near o in_n passes)))
+              by o in_n false fails =
+                  handed_down-far c q far (room + 1) n m o.edge is.nearest (near_c q (in_s q in_t)) is.no_more
+                  (subst (λ n. HasHalfRoom c n o.edge) is_limit ((reach_is c limit o.edge).1 (ltb-false (reach c o.edge) (limit * limit) fails))) positive
+                  (all is.nearest (nearest_filtered c room limit near fewer is (omega (arith, is_limit)) filtered))
+
           at_each : (q : Coord) (w : ℕ) → IsWithinBlock t q → ((e : Seg) → Contains (edges_in fewer) e → HasHalfRoom q w e) → (e : Seg) → Contains (edges_in near) e → HasHalfRoom q w e
           at_each q w in_t all = mapped (λ o. o.edge) (λ e. HasHalfRoom q w e) near (λ o in_n. by o in_n (is_within c limit o) refl)
             where
@@ -206,6 +229,121 @@ module _ (edges : List Seg) (r : ℕ) (own near : List OwnEdge) (s : Block) (are
                   handed_down c q far (room + 1) w o.edge is.nearest (near_c q (in_s q in_t)) is.no_more
                   (subst (λ n. HasHalfRoom c n o.edge) is_limit ((reach_is c limit o.edge).1 (ltb-false (reach c o.edge) (limit * limit) fails)))
                   (all is.nearest (nearest_filtered c room limit near fewer is (omega (arith, is_limit)) filtered))
+
+-- ---- edges that face each other
+
+unit_of : (b : Bool) → cond b (pos 1) (neg_ℤ (pos 1)) *ℤ cond b (pos 1) (neg_ℤ (pos 1)) ≡ pos 1
+unit_of true = refl
+unit_of false = refl
+
+-- two sides that are not opposite are one
+one_side : (b t : Bool) → (cond b (pos 1) (neg_ℤ (pos 1)) +ℤ cond t (pos 1) (neg_ℤ (pos 1)) ≡ pos 0 → ⊥) → cond b (pos 1) (neg_ℤ (pos 1)) ≡ cond t (pos 1) (neg_ℤ (pos 1))
+one_side true true h = refl
+one_side true false h = absurd (h refl)
+one_side false true h = absurd (h refl)
+one_side false false h = refl
+
+-- an edge does not face itself
+not_itself : (k : ℤ) (e : Seg) (m l : ℤ) (f : Seg) (n : ℤ) (c : Coord) → e ≡ f → k +ℤ l ≡ pos 0 → AreFacing k e m l f n c → ⊥
+not_itself k e m l f n c same opposite is =
+    let first = is.over_first in
+    let second = is.over_second in
+    let a = pos (edge_length e) in
+    let h = half_side c e in
+    let sides : half_side c f ≡ h = ap (half_side c) (sym same) in
+    let lengths : pos (edge_length f) ≡ a = ap (λ g. pos (edge_length g)) (sym same) in
+    let all : both e f (depth k c e) (depth l c f) ≡ (a *ℤ (k *ℤ h)) +ℤ (a *ℤ (l *ℤ h)) = (λ i. (lengths i *ℤ (k *ℤ h)) +ℤ (a *ℤ (l *ℤ sides i))) in
+    let none : (a *ℤ (k *ℤ h)) +ℤ (a *ℤ (l *ℤ h)) ≡ pos 0 = by_one (a ∷ k ∷ l ∷ h ∷ []) (Var 0 ⊗ (Var 1 ⊗ Var 3) ⊕ Var 0 ⊗ (Var 2 ⊗ Var 3)) (Lit (pos 0)) (Var 0 ⊗ Var 3) (Var 1 ⊕ Var 2) (Lit (pos 0)) refl opposite in
+    let last : depth l c f ≡ l *ℤ h = ap (λ z. l *ℤ z) sides in
+    let sum : (k *ℤ h) +ℤ (l *ℤ h) ≡ pos 0 = by_one (k ∷ l ∷ h ∷ []) (Var 0 ⊗ Var 2 ⊕ Var 1 ⊗ Var 2) (Lit (pos 0)) (Var 2) (Var 0 ⊕ Var 1) (Lit (pos 0)) refl opposite in
+    omega (arith, lin)
+
+module _ (edges : List Seg) (r : ℕ) (own near : List OwnEdge) (s : Block) (are : AreOwn edges r own) (stand : StandFor own near s) where
+  -- an edge of the list is one of the region's
+  own_edge : (o : OwnEdge) → Contains near o → IsEdgeOf edges r o.edge
+  own_edge o in_n = (are.each o.edge).1 (stand.among o.edge (contains-map (λ x. x.edge) near o in_n))
+
+  front_is : (o : OwnEdge) → Contains near o → ((x : OwnEdge) → Contains near x → x.edge ≡ o.edge → front_side x ≡ front_side o) → IsFront edges r (front_side o) o.edge
+  front_is o in_n same =
+      let has = (own_edge o in_n).among in
+      record {
+        unit = unit_of (int_lt o.weight (pos 0));
+        above = λ up. (let x : OwnEdge = record { edge = o.edge; weight = neg_ℤ (pos 1) } in sym (same x (stand.twins x o (are.above o.edge has up) in_n refl) refl));
+        below = λ down. (let x : OwnEdge = record { edge = o.edge; weight = pos 1 } in sym (same x (stand.twins x o (are.below o.edge has down) in_n refl) refl));
+      }
+
+  module _ (q : Coord) (room : ℕ) (some : 1 ≤ room) (in_s : IsWithinBlock s (doubled q)) (within : IsRegionOf edges (half_point (doubled q)) r) (rooms : (e : Seg) → IsEdgeOf edges r e → HasHalfRoom (doubled q) room e) where
+    far_as : (n d : ℤ) → pos 0 <ℤ d → ((f : Seg) → Contains (edges_in near) f → IsAsFar (doubled q) n d f) → (g : Seg) → IsEdgeOf edges r g → IsAsFar (doubled q) n d g
+    far_as n d positive all g of = stand.far (doubled q) n d positive in_s all g ((are.each g).0 of)
+
+    none_by_one : IsBoundedByOne s room near → ⊥
+    none_by_one is =
+        let o = is.edge in
+        let in_n : Contains near o = subst (λ xs. Contains xs o) (sym is.only) (contains_here o []) in
+        let of = own_edge o in_n in
+        let only : (x : OwnEdge) → Contains near x → o ≡ x = λ x c. one_in o x (subst (λ xs. Contains xs x) is.only c) in
+        let front = front_is o in_n (λ x c same. ap front_side (sym (only x c))) in
+        no_room_alone edges are.planar are.distinct r are.not_outer s.lo s.hi q in_s within room some (front_side o) o.edge is.depth is.shallow is.least front of.among (rooms o.edge of)
+        (λ n d positive is_far. far_as n d positive (mapped (λ x. x.edge) (IsAsFar (doubled q) n d) near (λ x c. subst (λ y. IsAsFar (doubled q) n d y.edge) (only x c) is_far)))
+      where
+        one_in : (o x : OwnEdge) → Contains (o ∷ []) x → o ≡ x
+        one_in o x c = elim (first_or_later o [] x c) [
+          | inl here ↦ here
+          | inr later ↦ absurd (let none = later.1 in omega (arith, none))
+        ]
+
+    none_by_two : IsBoundedByTwo s room near → ⊥
+    none_by_two is =
+        let o = is.first in
+        let p = is.second in
+        let in_o : Contains near o = subst (λ xs. Contains xs o) (sym is.both) (contains_here o (p ∷ [])) in
+        let in_p : Contains near p = subst (λ xs. Contains xs p) (sym is.both) (contains_there o p (p ∷ []) (contains_here p [])) in
+        let of_o = own_edge o in_o in
+        let of_p = own_edge p in_p in
+        let either : (x : OwnEdge) → Contains near x → (o ≡ x) ⊎ (p ≡ x) = λ x c. two_in o p x (subst (λ xs. Contains xs x) is.both c) in
+        let facing = is.facing.low_left in
+        let corner_at = corner s.lo.x s.lo.y in
+        let sides : o.edge ≡ p.edge → front_side o ≡ front_side p = λ same. one_side (int_lt o.weight (pos 0)) (int_lt p.weight (pos 0)) (λ opposite. not_itself (front_side o) o.edge is.first_depth (front_side p) p.edge is.second_depth corner_at same opposite facing) in
+        let front_o = front_is o in_o (λ x c same. elim (either x c) [
+          | inl first ↦ ap front_side (sym first)
+          | inr second ↦ ap front_side (sym second) ∙ sym (sides (sym same ∙ ap (λ y. y.edge) (sym second)))
+        ]) in
+        let front_p = front_is p in_p (λ x c same. elim (either x c) [
+          | inl first ↦ ap front_side (sym first) ∙ sides (ap (λ y. y.edge) first ∙ same)
+          | inr second ↦ ap front_side (sym second)
+        ]) in
+        no_room_between edges are.planar are.distinct r are.not_outer s.lo s.hi q in_s within room some (front_side o) o.edge is.first_depth (front_side p) p.edge is.second_depth is.facing is.first_least is.second_least
+        front_o front_p of_o.among of_p.among (rooms o.edge of_o) (rooms p.edge of_p)
+        (λ n d positive far_o far_p. far_as n d positive (mapped (λ x. x.edge) (IsAsFar (doubled q) n d) near (λ x c. elim (either x c) [
+          | inl first ↦ subst (λ y. IsAsFar (doubled q) n d y.edge) first far_o
+          | inr second ↦ subst (λ y. IsAsFar (doubled q) n d y.edge) second far_p
+        ])))
+      where
+        two_in : (o p x : OwnEdge) → Contains (o ∷ p ∷ []) x → (o ≡ x) ⊎ (p ≡ x)
+        two_in o p x c = elim (first_or_later o (p ∷ []) x c) [
+          | inl here ↦ inl here
+          | inr later ↦ elim (first_or_later p [] x later) [
+            | inl here ↦ inr here
+            | inr last ↦ absurd (let none = last.1 in omega (arith, none))
+          ]
+        ]
+
+    none_bounded : IsBounded s room near → ⊥
+    none_bounded (inl one) = none_by_one one
+    none_bounded (inr two) = none_by_two two
+
+-- nothing is missed in a block that is bounded so
+pub bounded_is : (edges : List Seg) (r enough : ℕ) (own near : List OwnEdge) (s : Block) (best : ℕ) → AreOwn edges r own → StandFor own near s → IsBounded s (best + 1) near → IsBest edges r enough s best best
+bounded_is edges r enough own near s best are stand is = record {
+  no_less = omega arith;
+  reached = λ more. absurd (omega (arith, more));
+  greatest = λ less q w in_s within all. elim (le_or_more w best) [
+    | inl le ↦ le
+    | inr more ↦
+        absurd (none_bounded edges r own near s are stand q (best + 1) (omega arith) in_s ((half_region edges q r).0 within)
+        (λ e of. less_room (doubled q) (best + 1) w e (omega (arith, more)) ((doubled_room q w e).0 (all e of))) is)
+  ];
+}
 
 -- ---- halves
 

@@ -4,11 +4,10 @@ use Rattle.std.proofs.Common.{◌≡◌, refl, sym, subst, to_z, of_z, ◌<◌, 
 use Rattle.std.proofs.lemmas.Int.{ints}
 use Rattle.integer_laws.proofs.Compare.{le_refl}
 use Rattle.integer_laws.proofs.Ring.{lin}
-use Rattle.cov_types.specs.declared.coord.Coord.{Coord}
 use Rattle.cov_types.specs.declared.coord.TheConstants.{LIMIT}
 use Rattle.clearance_laws.proofs.Blocks.{across_covered, upwards_covered, in_whole}
 use Rattle.gap_width.specs.declared.block.Block.{Block}
-use Rattle.gap_width.specs.Search.{IsBlock, size, AreHalves}
+use Rattle.gap_width.specs.Search.{IsBlock, AreHalves}
 
 -- a part of a length is shorter
 shorter : (l h m : ℤ) (n : ℕ) → l ≤ℤ m → m <ℤ h → unsigned_abs (m -ℤ l) + n < unsigned_abs (h -ℤ l) + n

@@ -4,3 +4,4 @@ mod OwnSides
 mod Most
 mod Round
 mod Halves
+mod Depths

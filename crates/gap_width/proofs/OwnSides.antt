@@ -14,9 +14,11 @@ use Rattle.cov_types.specs.Range.{IsSegInRange}
 use Rattle.plane.specs.Label.{numbers_below}
 use Rattle.plane.specs.Point.{Point}
 use Rattle.plane.specs.Ray.{is_over}
+use Rattle.plane.specs.Segment.{upper, lower}
 use Rattle.plane.specs.Region.{IsOuterRegion, IsRegionOf, AreRegions}
 use Rattle.plane.proofs.Same.{same_tests}
 use Rattle.crossing_laws.specs.Crossing.{crossing_sum, int_sum_by}
+use Rattle.crossing_laws.proofs.Lists.{contains-map}
 use Rattle.crossing_laws.proofs.Located.{one_region, side_within}
 use Rattle.sector_laws.specs.Sector.{HalfEdge, left, IsHalfEdge, AreDistinct, IsPlanar}
 use Rattle.sector_laws.proofs.Numbers.{half_edge_side, half_edge_among, forwards_number, back_number, half_edge_at}
@@ -80,10 +82,11 @@ sides_more edges sides n own after o in_range at weight edge_in is so_far = subs
     | inl before ↦ (let (m, (listed, there)) = so_far.from e before in (m, (Contains-append_left sides (n ∷ []) m listed, there)))
     | inr same ↦ (n, (Contains-push sides n, at ∙ ap Some same))
   ];
-  to = λ m e c there. subst (λ xs. Contains xs e) (sym (map-append (λ x. x.edge) own (o ∷ []))) (elim (Contains-push_cases sides n m c) [
-    | inl before ↦ Contains-append_left (edges_in own) (o.edge ∷ []) e (so_far.to m e before there)
-    | inr same ↦ subst (Contains (edges_in own ++ o.edge ∷ [])) (same_Some o.edge e (sym at ∙ ap (λ k. slice_get edges (k / 2)) same ∙ there)) (Contains-push (edges_in own) o.edge)
-  ]);
+  to = λ m e c there. elim (Contains-push_cases sides n m c) [
+    | inl before ↦ Contains-append_left own (o ∷ []) (record { edge = e; weight = weight_of_side m }) (so_far.to m e before there)
+    | inr same ↦
+        subst (Contains (own ++ o ∷ [])) (λ i. record { edge = same_Some o.edge e (sym at ∙ ap (λ k. slice_get edges (k / 2)) same ∙ there) i; weight = (weight ∙ ap weight_of_side same) i }) (Contains-push own o)
+  ];
   small = All-push IsSmallEdge own o so_far.small (record { edge = edge_in; weight = one_within n o.weight weight });
 })
   where
@@ -169,29 +172,40 @@ module _ (edges : List Seg) (planar : IsPlanar edges) (distinct : AreDistinct ed
     distinct = distinct;
     not_outer = inner;
     each = λ e. (there e, back e);
+    above = above;
+    below = beneath;
     inside = λ p off.
         let same : crossing_sum (weighed own) p ≡ crossing_sum (weigh_sides test edges) p = of.sum p ∙ ap (λ ns. int_sum_by (λ n. weight_by (slice_get edges (n / 2)) n p) ns) is ∙ sum_is p in
         subst (λ z. IsRegionOf edges p r ↔ (z ≡ pos 1)) (sym same) (inside_is edges planar distinct r inner test tells p off);
   }
     where
       -- a side of the region is listed
-      listed : (n : ℕ) (e : Seg) (h : HalfEdge) → slice_get edges (n / 2) ≡ Some e → IsHalfEdge edges n h → IsRegionOf edges (left h) r → Contains (edges_in own) e
+      listed : (n : ℕ) (e : Seg) (h : HalfEdge) → slice_get edges (n / 2) ≡ Some e → IsHalfEdge edges n h → IsRegionOf edges (left h) r → Contains own (record { edge = e; weight = weight_of_side n })
       listed n e h at half of_r =
           let side = half_edge_side edges n h half in
           let number = one_region edges (left h) (slice_index numbers n) r (regions.each n (left h) side) of_r in
           let below : n < length numbers = (let within = side_within edges n (left h) side in omega (arith, within, regions.count)) in
           of.to n e (subst (λ ns. Contains ns n) (sym is) (kept (λ i. slice_index numbers i == r) (numbers_below (length numbers)) n (number_below (length numbers) n below) ((Decides-eqb (slice_index numbers n) r).1 number))) at
 
-      there : (e : Seg) → IsEdgeOf edges r e → Contains (edges_in own) e
-      there e edge =
-          let (k, below, found) = edge.among in
+      above : (e : Seg) → Contains edges e → IsRegionOf edges (upper e) r → Contains own (record { edge = e; weight = neg_ℤ (pos 1) })
+      above e (k, below, found) up =
           let at : slice_get edges k ≡ Some e = slice_get-get_or edges k e below ∙ ap Some found in
           let even : (2 * k) / 2 ≡ k = omega arith in
+          let weight : weight_of_side (2 * k) ≡ neg_ℤ (pos 1) = ap (λ b. cond b (neg_ℤ (pos 1)) (pos 1)) ((Decides-eqb ((2 * k) % 2) 0).1 (omega arith)) in
+          subst (λ w. Contains own (record { edge = e; weight = w })) weight (listed (2 * k) e (record { edge = e; forwards = true }) (ap (λ n. slice_get edges n) even ∙ at) (forwards_number edges k e at) up)
+
+      beneath : (e : Seg) → Contains edges e → IsRegionOf edges (lower e) r → Contains own (record { edge = e; weight = pos 1 })
+      beneath e (k, below, found) down =
+          let at : slice_get edges k ≡ Some e = slice_get-get_or edges k e below ∙ ap Some found in
           let odd : (2 * k + 1) / 2 ≡ k = omega arith in
-          elim edge.beside [
-            | inl up ↦ listed (2 * k) e (record { edge = e; forwards = true }) (ap (λ n. slice_get edges n) even ∙ at) (forwards_number edges k e at) up
-            | inr down ↦ listed (2 * k + 1) e (record { edge = e; forwards = false }) (ap (λ n. slice_get edges n) odd ∙ at) (back_number edges k e at) down
-          ]
+          let weight : weight_of_side (2 * k + 1) ≡ pos 1 = ap (λ b. cond b (neg_ℤ (pos 1)) (pos 1)) (ne_eqb ((2 * k + 1) % 2) 0 (λ h. omega arith)) in
+          subst (λ w. Contains own (record { edge = e; weight = w })) weight (listed (2 * k + 1) e (record { edge = e; forwards = false }) (ap (λ n. slice_get edges n) odd ∙ at) (back_number edges k e at) down)
+
+      there : (e : Seg) → IsEdgeOf edges r e → Contains (edges_in own) e
+      there e edge = elim edge.beside [
+        | inl up ↦ contains-map (λ o. o.edge) own (record { edge = e; weight = neg_ℤ (pos 1) }) (above e edge.among up)
+        | inr down ↦ contains-map (λ o. o.edge) own (record { edge = e; weight = pos 1 }) (beneath e edge.among down)
+      ]
 
       back : (e : Seg) → Contains (edges_in own) e → IsEdgeOf edges r e
       back e c =

@@ -1,16 +1,15 @@
 -- One more element of a loop.
 use mathlib.Core.List.{[], ◌∷◌}
 use mir.Syntax.{w32, w64}
-use Rattle.std.proofs.Common.{◌≡◌, refl, sym, ◌∙◌, ap, subst, ℕ, zero, suc, ◌+◌, ◌-◌, ◌*◌, ◌/◌, ◌^◌, ◌<◌, ◌≤◌, Bool, true, false, cond, List, ◌++◌, length, take, get_or, filter, inl, inr, ℤ, pos, neg_ℤ, ◌+ℤ◌, ◌-ℤ◌, ◌*ℤ◌, ◌≤ℤ◌, to_z, of_z, lit<, arith}
-use Rattle.std.proofs.Math.Nat.{mul-le-mul, mul_assoc}
+use Rattle.std.proofs.Common.{◌≡◌, sym, ◌∙◌, ap, subst, ℕ, ◌+◌, ◌-◌, ◌*◌, ◌^◌, ◌<◌, ◌≤◌, Bool, true, false, cond, List, ◌++◌, length, take, get_or, filter, inl, inr, ℤ, pos, neg_ℤ, ◌+ℤ◌, ◌≤ℤ◌, to_z, of_z, lit<, arith}
+use Rattle.std.proofs.Math.Nat.{mul-le-mul}
 use Rattle.std.proofs.lemmas.Bool.{cases_lt}
 use Rattle.std.proofs.lemmas.Int.{ints}
 use Rattle.cov_types.specs.declared.coord.Coord.{Coord}
 use Rattle.cov_types.specs.declared.coord.TheConstants.{LIMIT}
 use Rattle.std.proofs.lemmas.List.{take_more, append-nil, get_or_default}
 use Rattle.std.proofs.lemmas.List.Elements.{filter-append}
-use Rattle.integer_laws.proofs.Ring.{lin, by_ring, Var, Lit, ◌⊗◌}
-use Rattle.integer_laws.proofs.Cast.{pos_mul, pos_le}
+use Rattle.integer_laws.proofs.Ring.{lin}
 use Rattle.integer_laws.proofs.Bound.{IsWithin, within_sum}
 use Rattle.plane.specs.Length.{root}
 use Rattle.plane.proofs.Roots.{root_is}

@@ -1,2 +1,4 @@
 pub mod Own
 pub mod Search
+pub mod Facing
+pub mod Depth

@@ -5,6 +5,7 @@ use Rattle.cov_types.specs.Range.{IsSegInRange}
 use Rattle.integer_laws.specs.Bound.{IsWithin}
 use Rattle.plane.specs.Point.{Point}
 use Rattle.plane.specs.Ray.{is_over}
+use Rattle.plane.specs.Segment.{upper, lower}
 use Rattle.plane.specs.Region.{IsOuterRegion, IsRegionOf, AreRegions}
 use Rattle.crossing_laws.specs.Crossing.{WeightedEdge, crossing_sum, int_sum_by}
 use Rattle.sector_laws.specs.Sector.{AreDistinct, IsPlanar}
@@ -26,12 +27,14 @@ pub record IsSmallEdge (o : OwnEdge) : Type 0 where
   pub edge : IsSegInRange o.edge
   pub weight : IsWithin 1 o.weight
 
--- these are the edges of a region that is not outer, and off them they weigh 1 over its points alone
+-- these are the edges of a region that is not outer, each for each of its sides with the region there, and off them they weigh 1 over its points alone
 pub record AreOwn (edges : List Seg) (r : ℕ) (own : List OwnEdge) : Type 0 where
   pub planar : IsPlanar edges
   pub distinct : AreDistinct edges
   pub not_outer : ¬ IsOuterRegion edges r
   pub each : (e : Seg) → IsEdgeOf edges r e ↔ Contains (edges_in own) e
+  pub above : (e : Seg) → Contains edges e → IsRegionOf edges (upper e) r → Contains own (record { edge = e; weight = neg_ℤ (pos 1) })
+  pub below : (e : Seg) → Contains edges e → IsRegionOf edges (lower e) r → Contains own (record { edge = e; weight = pos 1 })
   pub inside : (p : Point) → IsOffOwn edges r p → IsRegionOf edges p r ↔ (crossing_sum (weighed own) p ≡ pos 1)
 
 -- what the edge of a side weighs: 1 for a lower side, -1 for an upper one
@@ -47,7 +50,7 @@ weight_by (Some e) n p = cond (is_over e p) (weight_of_side n) (pos 0)
 pub record AreOfSides (edges : List Seg) (sides : List ℕ) (own : List OwnEdge) : Type 0 where
   pub sum : (p : Point) → crossing_sum (weighed own) p ≡ int_sum_by (λ n. weight_by (slice_get edges (n / 2)) n p) sides
   pub from : (e : Seg) → Contains (edges_in own) e → (n : ℕ) × (Contains sides n × (slice_get edges (n / 2) ≡ Some e))
-  pub to : (n : ℕ) (e : Seg) → Contains sides n → slice_get edges (n / 2) ≡ Some e → Contains (edges_in own) e
+  pub to : (n : ℕ) (e : Seg) → Contains sides n → slice_get edges (n / 2) ≡ Some e → Contains own (record { edge = e; weight = weight_of_side n })
   pub small : All IsSmallEdge own
 
 -- the sides of each region of distinct planar edges, by its number

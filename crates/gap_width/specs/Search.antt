@@ -1,5 +1,5 @@
 -- What a search by blocks of grid points knows.
-use Rattle.std.specs.Prelude.{◌≡◌, ℕ, ◌+◌, ◌*◌, ◌^◌, ◌≤◌, ◌<◌, ◌⊎◌, List, filter, nat_lt, Option, Some, None, IsTrue, Contains, neg_ℤ, unsigned_abs, ◌-ℤ◌, ◌≤ℤ◌}
+use Rattle.std.specs.Prelude.{◌≡◌, ℕ, ◌+◌, ◌*◌, ◌^◌, ◌≤◌, ◌<◌, ◌⊎◌, List, filter, nat_lt, Option, Some, None, IsTrue, Contains, ℤ, pos, neg_ℤ, unsigned_abs, ◌-ℤ◌, ◌≤ℤ◌, ◌<ℤ◌}
 use Rattle.cov_types.specs.declared.coord.Coord.{Coord}
 use Rattle.cov_types.specs.declared.coord.TheConstants.{LIMIT}
 use Rattle.cov_types.specs.declared.seg.Seg.{Seg}
@@ -10,6 +10,7 @@ use Rattle.region_owners.specs.Box.{IsEdgeOf}
 use Rattle.region_owners.specs.Gap.{HasRoomWithin}
 use Rattle.clearance_laws.specs.Inside.{half_point}
 use Rattle.clearance_laws.specs.Block.{IsInBlock, centre}
+use Rattle.clearance_laws.specs.Near.{IsAsFar}
 use Rattle.gap_width.specs.declared.own.OwnEdge.{OwnEdge}
 use Rattle.gap_width.specs.declared.block.Block.{Block}
 use Rattle.gap_width.specs.declared.near.Measured.{Measured}
@@ -47,10 +48,12 @@ pub record AreHalves (s a b : Block) : Type 0 where
   pub first_less : size a < size s
   pub second_less : size b < size s
 
--- of the edges of own, near has all that can be nearest to a point of the block
+-- of the edges of own, near has all that can be nearest to a point of the block, and each with all that own has of its segment
 pub record StandFor (own near : List OwnEdge) (s : Block) : Type 0 where
   pub among : (e : Seg) → Contains (edges_in near) e → Contains (edges_in own) e
   pub room : (c : Coord) (w : ℕ) → IsWithinBlock s c → ((e : Seg) → Contains (edges_in near) e → HasHalfRoom c w e) → (e : Seg) → Contains (edges_in own) e → HasHalfRoom c w e
+  pub far : (c : Coord) (n m : ℤ) → pos 0 <ℤ m → IsWithinBlock s c → ((e : Seg) → Contains (edges_in near) e → IsAsFar c n m e) → (e : Seg) → Contains (edges_in own) e → IsAsFar c n m e
+  pub twins : (o p : OwnEdge) → Contains own o → Contains near p → o.edge ≡ p.edge → Contains near o
 
 -- where the block is known to be inside, its points are in the region
 abbrev pub IsKnown : List Seg → ℕ → Block → Type 0

@@ -51,8 +51,8 @@ impl<'a> GapSearch<'a> {
 
     /// Whether the region is narrower than w, in half grid units: from no grid point of it is twice the distance to all edges w or more.
     /// At the width 0 none is.
-    /// For n edges of the region in a box of d units it takes about n log d time, and looks besides at a block for each w units of border;
-    /// where the region is just narrower than w all along, at each grid point of it.
+    /// For n edges of the region in a box of d units it takes about n log d time, and looks besides at a block for each w units of border
+    /// where the border bends; along straight sides the blocks are as long as these are.
     pub fn narrow(&self, region: usize, w: u32) -> Result<bool, NoMemory>
         requires region { IsRegion self.now region }
         requires not_outer { ¬ IsOuterRegion self.now region }
@@ -67,8 +67,8 @@ impl<'a> GapSearch<'a> {
 
     /// The clearance of the region, in half grid units: twice the distance from all edges of the grid point of it that is furthest
     /// from them, rounded down, and 0 where there is none.
-    /// For n edges of the region in a box of d units it takes about n log d time where one part is much wider than the others; of a corridor
-    /// of even width it looks at each grid point.
+    /// For n edges of the region in a box of d units it takes about n log d time where one part is much wider than the others, and along
+    /// straight sides that face each other, however long; of a corridor with many bends it looks at the grid points near its middle.
     pub fn clearance(&self, region: usize) -> Result<u32, NoMemory>
         requires region { IsRegion self.now region }
         requires not_outer { ¬ IsOuterRegion self.now region }

@@ -7,10 +7,14 @@ ghost use Rattle.gap_width.specs.Own.{IsSmallEdge, weighed, AreOwn};
 ghost use Rattle.gap_width.specs.Search.{IsMeasured, StandFor, IsKnown, IsBest};
 
 use crate::block::Block;
+use crate::facing::is_bounded;
 use crate::near::{Measured, edges_within, halves_by_room, some_or_all};
 use crate::own::{OwnEdge, weight_over};
 use cov_types::{Coord, NoMemory};
 use std::alloc::Global;
+
+// In smaller blocks, asking what edges that face each other tell takes longer than it saves.
+const SMALL: u32 = 4;
 
 /// The greater of best and the room of the grid points of the block that are in the region with these own edges; where that comes to
 /// enough, the search stops. Of the own edges near has those that can be nearest to a point of the block.
@@ -45,10 +49,15 @@ pub fn most_room(
     if decides && !inside {
         return Ok(best);
     }
-    if block.size() == 0 {
+    let size = block.size();
+    if size == 0 {
         return Ok(room);
     }
-    let near_centre = edges_within(alloc, near, centre, room as u64 + 1 + 2 * far as u64)?;
+    let limit = room as u64 + 1 + 2 * far as u64;
+    if size >= SMALL && is_bounded(near, block, centre, limit, best + 1) {
+        return Ok(best);
+    }
+    let near_centre = edges_within(alloc, near, centre, limit)?;
     let near = some_or_all(&near_centre, near);
     let known = Block {
         inside: block.inside || inside && far < room,

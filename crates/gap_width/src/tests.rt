@@ -186,3 +186,25 @@ fn a_long_sloping_sliver_is_as_wide_as_its_middle_line_tells(rt: HostRuntime) ->
     assert_eq!(&rt; search.clearance(region)?, 3);
     Ok(())
 }
+
+// In each a point at the middle of its height, or half a unit beside it, is the best: of 8 units up a slope of a half it is 4 units
+// below the upper side, so 8/root(5) from both, and twice that is 7.16; of 9 units it is 4 from one side and 5 from the other.
+#[test]
+fn corridors_of_sixteen_million_units_are_as_wide_as_their_middle_is(
+    rt: HostRuntime,
+) -> Result<(), Fail> {
+    let sloping = [
+        (0, 0, 0, 8),
+        (0, 0, 16777216, 8388608),
+        (0, 8, 16777216, 8388616),
+        (16777216, 8388608, 16777216, 8388616),
+    ];
+    expect_clearances(rt.alloc(), &rt, &sloping, &[(1, 7)])?;
+    let straight = [
+        (0, 0, 0, 9),
+        (0, 0, 16777216, 0),
+        (0, 9, 16777216, 9),
+        (16777216, 0, 16777216, 9),
+    ];
+    expect_clearances(rt.alloc(), &rt, &straight, &[(1, 8)])
+}

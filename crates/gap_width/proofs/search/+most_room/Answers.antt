@@ -1,9 +1,8 @@
-use Rattle.std.proofs.Common.{◌≡◌, ◌∙◌, refl, sym, subst, ◌+◌, ◌*◌, ◌<◌, ◌≤◌, ◌⊎◌, true, true≢false, IsTrue, All, nat_lt, inl, inr, arith}
+use Rattle.std.proofs.Common.{◌≡◌, ◌∙◌, refl, sym, subst, ◌+◌, ◌*◌, ◌<◌, ◌⊎◌, true, true≢false, IsTrue, filter, inl, inr, arith}
 use Rattle.std.proofs.lemmas.Bool.{ltb-true}
 use Rattle.clearance_laws.specs.Block.{centre}
-use Rattle.gap_width.specs.Own.{IsSmallEdge}
 use Rattle.gap_width.specs.Search.{size, IsRoom, IsBest, IsKnown}
-use Rattle.gap_width.proofs.Blocks.{dropped, outside, centre_within, in_region, single, fewer_are, small_kept, handed, two_is, if_ok}
+use Rattle.gap_width.proofs.Blocks.{dropped, outside, centre_within, in_region, single, fewer_are, small_kept, handed, bounded_is, is_within, two_is, if_ok}
 use Rattle.gap_width.proofs.search.+most_room.Goals as goal
 use Rattle.gap_width.proofs.search.+most_room.Goals.{then-block, else-block+then-inside, else-block+else-inside}
 
@@ -28,7 +27,7 @@ returns-then-size-eq0-clause-best t c = λ edges r are stand know.
     let far = c.half_diagonal-far.result in
     let at = c.centre-centre.ensures.exact in
     let is = subst (λ p. IsRoom c.args.near.now p room) (sym at) c.requires.here.room in
-    let zero : size s ≡ 0 = sym c.size.ensures ∙ c.if-size-eq0.true in
+    let zero : size s ≡ 0 = sym c.size-size.ensures ∙ c.if-size-eq0.true in
     let none = c.half_diagonal-far.ensures.none zero in
     let more : c.args.best < room = omega (arith, none, c.if-room-far.false) in
     let decides = c.does_decide-decides.ensures.1 (omega (arith, more), omega (arith, none)) in
@@ -40,6 +39,21 @@ returns-then-size-eq0-clause-best t c = λ edges r are stand know.
     c.is_inside-inside.result c.does_decide-decides.result know c.is_inside-inside.ensures.inside (λ d. (c.does_decide-decides.ensures.0 d).0) inside in
     single edges r c.args.own.now c.args.near.now s are stand c.centre-centre.result at far room c.requires.here.block c.half_diagonal-far.ensures.reaches is
     zero none c.args.enough c.args.best more within
+
+pub returns-then-is_bounded-clause-best : goal.returns-then-is_bounded-clause-best
+returns-then-is_bounded-clause-best t c = λ edges r are stand know.
+    let s = c.args.here.block in
+    let near = c.args.near.now in
+    let room = c.args.here.room in
+    let far = c.half_diagonal-far.result in
+    let centre_is = c.centre-centre.result in
+    let at = c.centre-centre.ensures.exact in
+    let is = subst (λ p. IsRoom near p room) (sym at) c.requires.here.room in
+    let limit = room + 1 + 2 * far in
+    let few = filter (is_within centre_is limit) near in
+    bounded_is edges r c.args.enough c.args.own.now few s c.args.best are
+    (handed edges r c.args.own.now near s are stand centre_is at far room c.requires.here.block c.half_diagonal-far.ensures.reaches is s (λ q in_s. in_s) limit refl few (inr refl))
+    (c.is_bounded.ensures c.if-is_bounded.true)
 
 pub halves_by_room-requires-clause-edges : goal.halves_by_room-requires-clause-edges
 halves_by_room-requires-clause-edges t c =

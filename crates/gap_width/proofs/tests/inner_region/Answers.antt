@@ -1,4 +1,4 @@
-use Rattle.std.proofs.Common.{◌≡◌, ◌∙◌, sym, subst, ℕ, ◌*◌, ◌<◌, length, arith}
+use Rattle.std.proofs.Common.{sym, subst, ◌*◌, ◌<◌, length, arith}
 use Rattle.plane.specs.Region.{IsOuterRegion}
 use Rattle.arrangement.specs.Overlay.{IsRegion}
 use Rattle.gap_width.proofs.Most.{region_from, one_outer, outer_at}

@@ -68,7 +68,7 @@ returns-clause-most c =
     let same : c.deref-in-Some-2.result.now ≡ c.deref-in-Some-3.result.now = c.deref-in-Some-2.ensures.value ∙ sym c.deref-in-Some-3.ensures.value in
     let whole = c.measure-whole.result.block in
     let is_whole = c.measure-whole.ensures.block in
-    let stand : StandFor c.deref-in-Some-2.result.now c.deref-in-Some-3.result.now whole = subst (λ xs. StandFor c.deref-in-Some-2.result.now xs whole) same (record { among = λ e k. k; room = λ q w in_s all. all }) in
+    let stand : StandFor c.deref-in-Some-2.result.now c.deref-in-Some-3.result.now whole = subst (λ xs. StandFor c.deref-in-Some-2.result.now xs whole) same (record { among = λ e k. k; room = λ q w in_s all. all; far = λ q n m positive in_s all. all; twins = λ o p in_own in_near is. in_own }) in
     if_ok (IsBest edges r c.args.enough whole c.args.best) (IsMost edges r c.args.enough c.args.best) c.most_room.result
     (c.most_room.ensures.best edges r (subst (AreOwn edges r) (sym c.deref-in-Some-2.ensures.value) own) stand (λ t. absurd (true≢false (sym t ∙ (λ i. (is_whole i).inside) ∙ c.in-Some.ensures.unknown))))
     (λ found best. most_is edges c.self.invariant.planar c.self.invariant.distinct r inner c.args.enough c.args.best found whole

@@ -36,12 +36,11 @@ impl Faults {
     }
 
     /// Notes a number's fault, if it has one.
-    pub(crate) fn with_number(self, at: u64, value: i32, whole: bool) -> Faults
-        ensures { result ≡ with_number at value whole self }
+    pub(crate) fn add_number(&mut self, at: u64, value: i32, whole: bool)
+        ensures { self.new ≡ with_number at value whole self.old }
     {
-        Faults {
-            number: self.number.or(number_fault(at, value, whole)),
-            ..self
+        if self.number.is_none() {
+            self.number = number_fault(at, value, whole);
         }
     }
 

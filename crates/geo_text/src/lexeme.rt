@@ -1,8 +1,9 @@
-ghost use Rattle.std.specs.Prelude.{◌≡◌, IfSome};
+ghost use Rattle.std.specs.Prelude.{◌≡◌, Some, None, IsErrOf, OnOk};
 ghost use Rattle.geo_text.specs.Machine.{goes_on, typed_on, is_letter, is_number_byte, IsLexeme};
 ghost use Rattle.geo_text.specs.Token.{is_white};
 ghost use Rattle.geo_text.specs.declared.number.TheConstants.{CAP};
 
+use crate::error::Stop;
 use crate::keyword::Keyword;
 use crate::number::Number;
 
@@ -40,8 +41,8 @@ pub(crate) fn is_number_byte(byte: u8) -> bool
 
 impl Lexeme {
     /// Whether the byte goes on with the lexeme, rightly or not.
-    pub(crate) fn goes_on(self, byte: u8) -> bool
-        ensures { result ≡ goes_on self byte }
+    pub(crate) fn goes_on(&self, byte: u8) -> bool
+        ensures { result ≡ goes_on self.now byte }
     {
         match self {
             Lexeme::Blank => false,
@@ -50,19 +51,26 @@ impl Lexeme {
         }
     }
 
-    /// The lexeme with a byte that goes on with it.
-    pub(crate) fn typed_on(self, byte: u8) -> Option<Lexeme>
-        requires { IsLexeme self }
-        ensures value { result ≡ typed_on CAP self byte }
-        ensures kept { IfSome result IsLexeme }
+    /// Takes a byte that goes on with the lexeme, where it is the next.
+    pub(crate) fn type_on(&mut self, byte: u8) -> Result<(), Stop>
+        requires { IsLexeme self.old }
+        ensures ok { OnOk result (typed_on CAP self.old byte ≡ Some self.new) }
+        ensures kept { OnOk result (IsLexeme self.new) }
+        ensures refused { IsErrOf result Stop.Refused → typed_on CAP self.old byte ≡ None }
     {
         match self {
-            Lexeme::Blank => None,
-            Lexeme::Word { at, keyword, typed } => {
-                let typed = keyword.letter_on(typed, byte)?;
-                Some(Lexeme::Word { at, keyword, typed })
+            Lexeme::Blank => Err(Stop::Refused),
+            Lexeme::Word { keyword, typed, .. } => {
+                *typed = keyword.letter_on(*typed, byte).ok_or(Stop::Refused)?;
+                Ok(())
             }
-            Lexeme::Number(number) => number.typed_on(byte).map(Lexeme::Number),
+            Lexeme::Number(number) => {
+                if number.type_on(byte) {
+                    Ok(())
+                } else {
+                    Err(Stop::Refused)
+                }
+            }
         }
     }
 }

@@ -1,4 +1,4 @@
-ghost use Rattle.std.specs.Prelude.{◌≡◌, ◌≤◌, IfSome, IsTrue};
+ghost use Rattle.std.specs.Prelude.{◌≡◌, ◌≤◌, Some, None, IfSome, IsTrue, false};
 ghost use Rattle.geo_text.specs.Token.{is_digit};
 ghost use Rattle.geo_text.specs.Decimal.{IsScale};
 
@@ -50,47 +50,44 @@ impl Number {
         match byte {
             b'-' => Some(Number::empty(at, true, scale)),
             b'+' => Some(Number::empty(at, false, scale)),
-            _ => Number::empty(at, false, scale).typed_on(byte),
+            _ => {
+                let mut number = Number::empty(at, false, scale);
+                if number.type_on(byte) {
+                    Some(number)
+                } else {
+                    None
+                }
+            }
         }
     }
 
-    /// The number with one byte more, where it may have it.
-    pub(crate) fn typed_on(self, byte: u8) -> Option<Number>
-        requires { IsCapped self }
-        ensures value { result ≡ number_on CAP self byte }
-        ensures capped { IfSome result IsCapped }
+    /// Takes one byte more where it may have it, and tells whether it may.
+    pub(crate) fn type_on(&mut self, byte: u8) -> bool
+        requires { IsCapped self.old }
+        ensures taken { IsTrue result → number_on CAP self.old byte ≡ Some self.new }
+        ensures capped { IsTrue result → IsCapped self.new }
+        ensures refused { result ≡ false → number_on CAP self.old byte ≡ None }
     {
         match byte {
-            b'0'..=b'9' => Some(self.with_digit(byte)),
-            b'.' if !self.point => Some(Number {
-                point: true,
-                ..self
-            }),
-            _ => None,
+            b'0'..=b'9' => self.add_digit(byte),
+            b'.' if !self.point => self.point = true,
+            _ => return false,
         }
+        true
     }
 
-    fn with_digit(self, byte: u8) -> Number
-        requires capped { IsCapped self }
+    fn add_digit(&mut self, byte: u8)
+        requires capped { IsCapped self.old }
         requires digit { IsTrue (is_digit byte) }
-        ensures value { result ≡ with_digit CAP self byte }
-        ensures capped { IsCapped result }
+        ensures value { self.new ≡ with_digit CAP self.old byte }
+        ensures capped { IsCapped self.new }
     {
-        let size = if self.point && !self.fraction.takes_digit() {
-            self.size
-        } else {
-            CAP.min(10 * self.size + u32::from(byte - b'0'))
-        };
-        let fraction = if self.point {
-            self.fraction.with_digit(byte)
-        } else {
-            self.fraction
-        };
-        Number {
-            some_digit: true,
-            fraction,
-            size,
-            ..self
+        self.some_digit = true;
+        if !self.point || self.fraction.takes_digit() {
+            self.size = CAP.min(10 * self.size + u32::from(byte - b'0'));
+        }
+        if self.point {
+            self.fraction = self.fraction.with_digit(byte);
         }
     }
 

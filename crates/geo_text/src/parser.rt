@@ -171,7 +171,7 @@ impl Parser {
             Place::PositionEnd { further: 1 } => self.place = Place::PositionEnd { further: 2 },
             _ => return Err(Stop::Refused),
         }
-        self.faults = self.faults.with_number(at, value, whole);
+        self.faults.add_number(at, value, whole);
         Ok(())
     }
 

@@ -23,16 +23,16 @@ use std::alloc::Global;
 pub const LONGEST_INPUT: usize = 67_108_864;
 
 /// Ends a lexeme: the parser takes the token that it is.
-fn end(lexeme: Lexeme, parser: &mut Parser) -> Result<(), Stop>
-    requires { IsLexeme lexeme }
-    ensures ok { OnOk result (ending CAP lexeme parser.old ≡ Some parser.new) }
-    ensures refused { IsErrOf result Stop.Refused → ending CAP lexeme parser.old ≡ None }
+fn end(lexeme: &Lexeme, parser: &mut Parser) -> Result<(), Stop>
+    requires { IsLexeme lexeme.now }
+    ensures ok { OnOk result (ending CAP lexeme.now parser.old ≡ Some parser.new) }
+    ensures refused { IsErrOf result Stop.Refused → ending CAP lexeme.now parser.old ≡ None }
     ensures rings { OnOk result (parser.new.kept.faults.rings ≡ parser.old.kept.faults.rings) }
 {
     match lexeme {
         Lexeme::Blank => Ok(()),
-        Lexeme::Word { at, keyword, typed } if keyword.is_complete(typed) => {
-            parser.word(keyword, at)
+        Lexeme::Word { at, keyword, typed } if keyword.is_complete(*typed) => {
+            parser.word(*keyword, *at)
         }
         Lexeme::Number(number) if number.some_digit => {
             parser.number(number.at, number.value(), number.fraction.is_fine())
@@ -84,24 +84,25 @@ fn begin(at: u64, parser: &mut Parser, byte: u8, scale: Option<u8>) -> Result<Le
 /// Takes one byte more, behind `at` bytes.
 fn read_byte(
     at: u64,
-    lexeme: Lexeme,
+    lexeme: &mut Lexeme,
     parser: &mut Parser,
     byte: u8,
     scale: Option<u8>,
-) -> Result<Lexeme, Stop>
+) -> Result<(), Stop>
     requires scale { IsScale scale }
-    requires kept { IsLexeme lexeme }
+    requires kept { IsLexeme lexeme.old }
     requires room { parser.old.kept.faults.rings + 1 < 2 ^ 32 }
-    ensures ok { IfOk result (λ next. read_byte (precision_at scale) at lexeme parser.old byte ≡ Some (next, parser.new)) }
-    ensures kept { IfOk result IsLexeme }
-    ensures refused { IsErrOf result Stop.Refused → read_byte (precision_at scale) at lexeme parser.old byte ≡ None }
+    ensures ok { OnOk result (read_byte (precision_at scale) at lexeme.old parser.old byte ≡ Some (lexeme.new, parser.new)) }
+    ensures kept { OnOk result (IsLexeme lexeme.new) }
+    ensures refused { IsErrOf result Stop.Refused → read_byte (precision_at scale) at lexeme.old parser.old byte ≡ None }
     ensures rings { OnOk result (parser.new.kept.faults.rings ≤ parser.old.kept.faults.rings + 1) }
 {
     if lexeme.goes_on(byte) {
-        return lexeme.typed_on(byte).ok_or(Stop::Refused);
+        return lexeme.type_on(byte);
     }
     end(lexeme, parser)?;
-    begin(at, parser, byte, scale)
+    *lexeme = begin(at, parser, byte, scale)?;
+    Ok(())
 }
 
 /// What a refusal behind `at` bytes means.
@@ -122,13 +123,12 @@ fn read_all(alloc: Global, bytes: &[u8], scale: Option<u8>) -> Result<Coverage, 
     let mut parser = Parser::new(alloc);
     let mut lexeme = Lexeme::Blank;
     for (at, byte) in bytes.iter().enumerate() {
-        match read_byte(at as u64, lexeme, &mut parser, *byte, scale) {
-            Ok(next) => lexeme = next,
-            Err(stop) => return Err(stopped(stop, at as u64)),
+        if let Err(stop) = read_byte(at as u64, &mut lexeme, &mut parser, *byte, scale) {
+            return Err(stopped(stop, at as u64));
         }
     }
     let at = bytes.len() as u64;
-    match end(lexeme, &mut parser) {
+    match end(&lexeme, &mut parser) {
         Ok(()) => parser.finish(at),
         Err(stop) => Err(stopped(stop, at)),
     }

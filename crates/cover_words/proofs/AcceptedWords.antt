@@ -20,10 +20,10 @@ use Rattle.clap.proofs.CallerReads.{signed_reads}
 use Rattle.clap.proofs.ValueTestLemmas.{accepts-Accepts, Accepts-accepts}
 use Rattle.clap.proofs.WalkLemmas.{both}
 use Rattle.cover_words.specs.Accepted.{AcceptedLaw, has_a_rule, is_accepted_by, suits_files, suits_input}
-use Rattle.cover_words.specs.Commands.{lengths, validate_command, clean_command, simplify_command, union_command, node_command, regions_command, locate_command, sample_command}
+use Rattle.cover_words.specs.Commands.{lengths, validate_command, clean_command, simplify_command, union_command, node_command, regions_command, locate_command, sample_command, overlay_command}
 use Rattle.cover_words.specs.Values.{flag_at, number_at, number_up_to, text_at, truth_of}
 use Rattle.cover_words.specs.declared.rule_name.RuleName.{RuleName}
-use Rattle.cover_words.specs.Words.{Operation, Validate, Clean, Simplify, Union, Node, Regions, clean_in, clean_with, locate_in, locate_with, node_in, node_with, operation_by, regions_in, regions_with, simplify_in, simplify_with, suits, taken, union_in, union_with, validate_in, validate_with, sample_in, sample_with}
+use Rattle.cover_words.specs.Words.{Operation, Validate, Clean, Simplify, Union, Node, Regions, clean_in, clean_with, locate_in, locate_with, overlay_in, overlay_with, node_in, node_with, operation_by, regions_in, regions_with, simplify_in, simplify_with, suits, taken, union_in, union_with, validate_in, validate_with, sample_in, sample_with}
 use Rattle.cover_words.proofs.SoundRows.{AllOwn, AllSound, Present, defaults_have, defaults_sound, given_has, present, settled_sound, walk_sound}
 
 -- ---- the values of a command that takes the words
@@ -206,6 +206,12 @@ locate_some (Some f) (Some p) None x y z = z
 locate_some (Some f) None t x y z = y
 locate_some None p t x y z = x
 
+overlay_some : (a b t : Option Text) → is_some a ≡ true → is_some b ≡ true → is_some t ≡ true → is_some (overlay_with a b t) ≡ true
+overlay_some (Some a) (Some b) (Some t) x y z = refl
+overlay_some (Some a) (Some b) None x y z = z
+overlay_some (Some a) None t x y z = y
+overlay_some None b t x y z = x
+
 name_there : (r : Rule) (id : Text) (rows : List Row) → r.id ≡ id → Present r rows → is_some (text_at id rows) ≡ true
 name_there r id rows same p = subst (λ (i : Text). is_some (first_of i rows) ≡ true) same (ap is_some p.first)
 
@@ -247,6 +253,9 @@ own_sample = ((refl, refl), ((refl, refl), ((refl, refl), ((refl, refl), tt))))
 
 pub own_locate : AllOwn (built locate_command).top.rules (built locate_command).top.rules
 own_locate = ((refl, refl), ((refl, refl), ((refl, refl), ((refl, refl), tt))))
+
+pub own_overlay : AllOwn (built overlay_command).top.rules (built overlay_command).top.rules
+own_overlay = ((refl, refl), ((refl, refl), ((refl, refl), ((refl, refl), tt))))
 
 -- the argument of this id is one of the command, and is required or has a default
 abbrev pub is_at : App → Text → Type 0
@@ -304,6 +313,11 @@ module _ (words : List Text) where
       (name_in locate_command words own_locate refl by (codes "POINTS") (refl, refl, refl))
       (name_in locate_command words own_locate refl by (codes "OUT") (refl, refl, refl))
 
+  overlays : takes overlay_command words ≡ true → is_some (overlay_in (matches_of overlay_command words)) ≡ true
+  overlays by = overlay_some _ _ _ (name_in overlay_command words own_overlay refl by (codes "A") (refl, refl, refl))
+      (name_in overlay_command words own_overlay refl by (codes "B") (refl, refl, refl))
+      (name_in overlay_command words own_overlay refl by (codes "OUT") (refl, refl, refl))
+
 -- ---- the law
 
 taken_where : (a : App) (f : List Row → Option Operation) (words : List Text) (q : Bool) → (takes a words ≡ true → is_some (f (matches_of a words)) ≡ q)
@@ -335,7 +349,8 @@ accepted_by word words =
     (by_word (bytes_eq word (codes "node")) _ _ _ _ (taken_where node_command node_in words (suits_input node_command words) (nodes words))
     (by_word (bytes_eq word (codes "regions")) _ _ _ _ (taken_where regions_command regions_in words (suits_input regions_command words) (lists_regions words))
     (by_word (bytes_eq word (codes "sample")) _ _ _ _ (taken_some sample_command sample_in words (samples words))
-    (by_word (bytes_eq word (codes "locate")) _ _ _ _ (taken_some locate_command locate_in words (locates words)) refl)))))))
+    (by_word (bytes_eq word (codes "locate")) _ _ _ _ (taken_some locate_command locate_in words (locates words))
+    (by_word (bytes_eq word (codes "overlay")) _ _ _ _ (taken_some overlay_command overlay_in words (overlays words)) refl))))))))
 
 -- words name an operation exactly where they are accepted
 pub accepted : AcceptedLaw

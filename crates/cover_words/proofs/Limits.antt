@@ -13,10 +13,10 @@ use Rattle.clap.specs.Simple.{App, built, matches_of}
 use Rattle.clap.specs.Takes.{takes}
 use Rattle.geo_text.specs.Decimal.{IsScale}
 use Rattle.cover_words.specs.Accepted.{is_accepted}
-use Rattle.cover_words.specs.Commands.{lengths, scales, validate_command, clean_command, simplify_command, union_command, node_command, regions_command, locate_command, sample_command}
+use Rattle.cover_words.specs.Commands.{lengths, scales, validate_command, clean_command, simplify_command, union_command, node_command, regions_command, locate_command, sample_command, overlay_command}
 use Rattle.cover_words.specs.Values.{number_at, number_up_to, scale_at}
 use Rattle.cover_words.specs.declared.rule_name.RuleName.{RuleName}
-use Rattle.cover_words.specs.Words.{Operation, Union, Node, Regions, Locate, Validate, Clean, Simplify, clean_in, clean_with, locate_in, locate_with, node_in, node_with, IsWithinLimit, operation_by, operation_of, regions_in, regions_with, simplify_in, simplify_with, suits, taken, union_in, union_with, validate_in, validate_with, Sample, sample_in, sample_with}
+use Rattle.cover_words.specs.Words.{Operation, Union, Node, Regions, Locate, Overlay, Validate, Clean, Simplify, clean_in, clean_with, locate_in, locate_with, overlay_in, overlay_with, node_in, node_with, IsWithinLimit, operation_by, operation_of, regions_in, regions_with, simplify_in, simplify_with, suits, taken, union_in, union_with, validate_in, validate_with, Sample, sample_in, sample_with}
 use Rattle.cover_words.proofs.SoundRows.{AllOwn, Present}
 use Rattle.cover_words.specs.declared.operation.Operation as code
 use Rattle.cover_words.specs.Named.{IsNamed, named}
@@ -138,6 +138,12 @@ locate_within (Some f) (Some p) None o e = absurd (not_some o e)
 locate_within (Some f) None t o e = absurd (not_some o e)
 locate_within None p t o e = absurd (not_some o e)
 
+overlay_within : (a b t : Option Text) (o : Operation) → overlay_with a b t ≡ Some o → IsWithinLimit o
+overlay_within (Some a) (Some b) (Some t) o e = this_one (Overlay a b t) o e (record { length = tt; scale = tt })
+overlay_within (Some a) (Some b) None o e = absurd (not_some o e)
+overlay_within (Some a) None t o e = absurd (not_some o e)
+overlay_within None b t o e = absurd (not_some o e)
+
 taken_within : (a : App) (f : List Row → Option Operation) (words : List Text) (o : Operation) → (takes a words ≡ true → f (matches_of a words) ≡ Some o → IsWithinLimit o)
     → taken a f words ≡ Some o → IsWithinLimit o
 taken_within a f words o h e = go (takes a words) h e
@@ -170,7 +176,8 @@ within_by word words o =
     (either_within (bytes_eq word (codes "sample")) _ _ o (taken_within sample_command sample_in words o (λ by.
     sample_within _ _ _ o (most_in sample_command words own_sample refl by 1 400 (omega arith) (codes "N") (refl, refl, refl) refl)))
     (either_within (bytes_eq word (codes "locate")) _ _ o (taken_within locate_command locate_in words o (λ by. locate_within _ _ _ o))
-    (λ e. absurd (not_some o e)))))))))
+    (either_within (bytes_eq word (codes "overlay")) _ _ o (taken_within overlay_command overlay_in words o (λ by. overlay_within _ _ _ o))
+    (λ e. absurd (not_some o e))))))))))
 
 within : (words : List Text) (o : Operation) → operation_of words ≡ Some o → IsWithinLimit o
 within [] o e = absurd (not_some o e)

@@ -5,7 +5,7 @@ use Rattle.std.specs.Str.{bytes_eq}
 use Rattle.clap.specs.Walk.{Text}
 use Rattle.clap.specs.Simple.{App, matches_of}
 use Rattle.clap.specs.Takes.{takes}
-use Rattle.cover_words.specs.Commands.{validate_command, clean_command, simplify_command, union_command, node_command, regions_command, locate_command, sample_command}
+use Rattle.cover_words.specs.Commands.{validate_command, clean_command, simplify_command, union_command, node_command, regions_command, locate_command, sample_command, overlay_command}
 use Rattle.cover_words.specs.Values.{scale_at, text_at}
 use Rattle.cover_words.specs.Words.{operation_of, rule_named, suits}
 
@@ -36,7 +36,8 @@ is_accepted_by word words =
     else (if bytes_eq word (codes "regions") then takes regions_command words && suits_input regions_command words
     else (if bytes_eq word (codes "sample") then takes sample_command words
     else (if bytes_eq word (codes "locate") then takes locate_command words
-    else false)))))))
+    else (if bytes_eq word (codes "overlay") then takes overlay_command words
+    else false))))))))
 
 -- there is a first word, and the words are accepted by it
 abbrev pub is_accepted : List Text → Bool

@@ -93,3 +93,7 @@ sample_command = fold with_rule (new_app (codes "sample")) (side ∷ seed ∷ na
 -- `locate IN POINTS OUT`
 abbrev pub locate_command : App
 locate_command = fold with_rule (new_app (codes "locate")) (name (codes "IN") ∷ name (codes "POINTS") ∷ name (codes "OUT") ∷ [])
+
+-- `overlay A B OUT`
+abbrev pub overlay_command : App
+overlay_command = fold with_rule (new_app (codes "overlay")) (name (codes "A") ∷ name (codes "B") ∷ name (codes "OUT") ∷ [])

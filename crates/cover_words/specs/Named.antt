@@ -5,7 +5,7 @@ use Rattle.cover_words.specs.declared.inputs.Inputs.{Inputs}
 use Rattle.cover_words.specs.declared.inputs.Inputs.TheVariants.{Nothing, One, Two}
 use Rattle.cover_words.specs.declared.operation.Operation as code
 use Rattle.cover_words.specs.declared.operation.Operation.TheVariants as operations
-use Rattle.cover_words.specs.Words.{Operation, Validate, Clean, Simplify, Union, Node, Regions, Locate, Sample}
+use Rattle.cover_words.specs.Words.{Operation, Validate, Clean, Simplify, Union, Node, Regions, Locate, Sample, Overlay}
 
 -- the operation with the names that its texts hold
 abbrev pub named : code.Operation → Operation
@@ -17,6 +17,7 @@ named (operations.Node scale from to) = Node scale from.now to.now
 named (operations.Regions scale from to) = Regions scale from.now to.now
 named (operations.Sample side seed to) = Sample side seed to.now
 named (operations.Locate from points to) = Locate from.now points.now to.now
+named (operations.Overlay first second to) = Overlay first.now second.now to.now
 
 -- the names, as their texts
 abbrev pub names_in : Inputs → List Text

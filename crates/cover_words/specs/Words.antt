@@ -6,7 +6,7 @@ use Rattle.clap.specs.Simple.{App, matches_of}
 use Rattle.clap.specs.Takes.{takes}
 use Rattle.file_form.specs.Name.{is_json}
 use Rattle.geo_text.specs.Decimal.{IsScale}
-use Rattle.cover_words.specs.Commands.{validate_command, clean_command, simplify_command, union_command, node_command, regions_command, locate_command, sample_command}
+use Rattle.cover_words.specs.Commands.{validate_command, clean_command, simplify_command, union_command, node_command, regions_command, locate_command, sample_command, overlay_command}
 use Rattle.cover_words.specs.Values.{text_at, number_at, scale_at, flag_at}
 use Rattle.cover_words.specs.declared.rule_name.RuleName.{RuleName}
 use Rattle.cover_words.specs.declared.rule_name.RuleName.TheVariants.{LeastIndex, GreatestArea, LeastArea, LongestBorder}
@@ -29,6 +29,8 @@ pub data Operation : Type 0 where
   Sample : ℕ → ℕ → Text → Operation
   -- the input, the points; the output
   Locate : Text → Text → Text → Operation
+  -- the first coverage, the second; the output
+  Overlay : Text → Text → Text → Operation
 
 -- the names of the files that the operation reads, in the order in which it reads them
 abbrev pub inputs_of : Operation → List Text
@@ -40,6 +42,7 @@ inputs_of (Node scale from to) = from ∷ []
 inputs_of (Regions scale from to) = from ∷ []
 inputs_of (Sample side seed to) = []
 inputs_of (Locate from points to) = from ∷ points ∷ []
+inputs_of (Overlay first second to) = first ∷ second ∷ []
 
 -- the name of the file that the operation writes
 abbrev pub output_of : Operation → Text
@@ -51,6 +54,7 @@ output_of (Node scale from to) = to
 output_of (Regions scale from to) = to
 output_of (Sample side seed to) = to
 output_of (Locate from points to) = to
+output_of (Overlay first second to) = to
 
 -- the scale of the texts that the operation reads and writes, if they have one
 abbrev pub scale_of : Operation → Option ℕ
@@ -62,6 +66,7 @@ scale_of (Node scale from to) = scale
 scale_of (Regions scale from to) = scale
 scale_of (Sample side seed to) = None
 scale_of (Locate from points to) = None
+scale_of (Overlay first second to) = None
 
 -- the gap width or the tolerance of the operation is at most 2^30 grid units, and a sample has at most 400 cells on a side
 abbrev pub IsLengthWithin : Operation → Type 0
@@ -132,6 +137,11 @@ abbrev pub locate_with : Option Text → Option Text → Option Text → Option 
 locate_with (Some from) (Some points) (Some to) = Some (Locate from points to)
 locate_with _ _ _ = None
 
+-- the overlay of the files that were found, where all are there
+abbrev pub overlay_with : Option Text → Option Text → Option Text → Option Operation
+overlay_with (Some first) (Some second) (Some to) = Some (Overlay first second to)
+overlay_with _ _ _ = None
+
 -- the validation that the matches name, by the ids of its arguments
 abbrev pub validate_in : List Row → Option Operation
 validate_in rows = validate_with (text_at (codes "IN") rows) (text_at (codes "OUT") rows) (number_at (codes "gap") rows) (scale_at rows)
@@ -164,6 +174,10 @@ sample_in rows = sample_with (number_at (codes "N") rows) (number_at (codes "SEE
 abbrev pub locate_in : List Row → Option Operation
 locate_in rows = locate_with (text_at (codes "IN") rows) (text_at (codes "POINTS") rows) (text_at (codes "OUT") rows)
 
+-- the overlay that they name
+abbrev pub overlay_in : List Row → Option Operation
+overlay_in rows = overlay_with (text_at (codes "A") rows) (text_at (codes "B") rows) (text_at (codes "OUT") rows)
+
 -- ---- the words
 
 -- the operation that the matches name, where the command takes the words after the first
@@ -181,7 +195,8 @@ operation_by word words =
     else (if bytes_eq word (codes "regions") then taken regions_command regions_in words
     else (if bytes_eq word (codes "sample") then taken sample_command sample_in words
     else (if bytes_eq word (codes "locate") then taken locate_command locate_in words
-    else None)))))))
+    else (if bytes_eq word (codes "overlay") then taken overlay_command overlay_in words
+    else None))))))))
 
 -- the operation that the words name, where they are accepted
 abbrev pub operation_of : List Text → Option Operation

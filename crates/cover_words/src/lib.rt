@@ -18,6 +18,7 @@ mod locate;
 mod matched;
 mod node;
 mod operation;
+mod overlay;
 mod regions;
 mod rule_name;
 mod sample;

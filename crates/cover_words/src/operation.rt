@@ -59,6 +59,12 @@ pub enum Operation<'a> {
         points: &'a str,
         to: &'a str,
     },
+    /// `first` and `second` name the two coverages.
+    Overlay {
+        first: &'a str,
+        second: &'a str,
+        to: &'a str,
+    },
 }
 
 impl<'a> Operation<'a> {
@@ -75,6 +81,7 @@ impl<'a> Operation<'a> {
             Operation::Regions { from, .. } => Inputs::One(from),
             Operation::Sample { .. } => Inputs::Nothing,
             Operation::Locate { from, points, .. } => Inputs::Two(from, points),
+            Operation::Overlay { first, second, .. } => Inputs::Two(first, second),
         }
     }
 
@@ -91,6 +98,7 @@ impl<'a> Operation<'a> {
             Operation::Regions { to, .. } => to,
             Operation::Sample { to, .. } => to,
             Operation::Locate { to, .. } => to,
+            Operation::Overlay { to, .. } => to,
         }
     }
 }

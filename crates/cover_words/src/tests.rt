@@ -25,7 +25,7 @@ fn names(alloc: Global, line: &str, wanted: Operation) -> Result<bool, NoMemory>
     Ok(operation_named(alloc, &words)? == Some(wanted))
 }
 
-static REFUSED: [&str; 38] = [
+static REFUSED: [&str; 41] = [
     "_",
     "measure a b",
     "clean",
@@ -46,6 +46,8 @@ static REFUSED: [&str; 38] = [
     "locate a b",
     "locate a b c d",
     "locate a b c --gap 3",
+    "overlay a b",
+    "overlay a b c d",
     "simplify a b --inner",
     "simplify a b --tolerance 8 --inner=true",
     "clean a.json b --rule least-index --scale 2",
@@ -57,6 +59,7 @@ static REFUSED: [&str; 38] = [
     "node a b --scale 8",
     "node a b --scale 2 --scale 2",
     "locate a b c --scale 2",
+    "overlay a b c --scale 2",
     "sample 0 1 a",
     "sample 401 1 a",
     "sample 1 4294967296 a",
@@ -226,5 +229,13 @@ fn files_of_an_operation(rt: HostRuntime) -> Result<(), Fail> {
     assert!(rt; names(rt.alloc(), "locate a b c", locate)?);
     assert_eq!(rt; locate.inputs(), Inputs::Two("a", "b"));
     assert_eq!(rt; locate.output(), "c");
+    let overlay = Operation::Overlay {
+        first: "a",
+        second: "b",
+        to: "c",
+    };
+    assert!(rt; names(rt.alloc(), "overlay a b c", overlay)?);
+    assert_eq!(rt; overlay.inputs(), Inputs::Two("a", "b"));
+    assert_eq!(rt; overlay.output(), "c");
     Ok(())
 }

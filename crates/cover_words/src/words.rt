@@ -8,6 +8,7 @@ use crate::clean::clean_named;
 use crate::locate::locate_named;
 use crate::node::node_named;
 use crate::operation::Operation;
+use crate::overlay::overlay_named;
 use crate::regions::regions_named;
 use crate::sample::sample_named;
 use crate::simplify::simplify_named;
@@ -47,6 +48,9 @@ fn operation_by<'a>(
     }
     if word == "locate" {
         return locate_named(alloc, words);
+    }
+    if word == "overlay" {
+        return overlay_named(alloc, words);
     }
     Ok(None)
 }

@@ -19,6 +19,8 @@ mod hostile;
 #[cfg(test)]
 mod locating;
 #[cfg(test)]
+mod overlaying;
+#[cfg(test)]
 mod rows;
 #[cfg(test)]
 mod sampling;

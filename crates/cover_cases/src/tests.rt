@@ -548,7 +548,7 @@ fn each_refusal_has_its_status_and_its_message(rt: HostRuntime) -> Result<(), te
         (
             Outcome::Usage,
             2,
-            "usage: cover validate|clean|simplify|union|node|regions|sample|locate",
+            "usage: cover validate|clean|simplify|union|node|regions|sample|locate|overlay",
         ),
         (
             Outcome::NotValid {

@@ -1,7 +1,6 @@
 -- The pairs of the sides between the live edges of two coverages, their places, and what is built of them.
-use mathlib.Core.List.{[]}
 use Rattle.std.proofs.Common.{◌≡◌, refl, sym, ◌∙◌, ap, subst, ℕ, ◌*◌, ◌<◌, ◌==◌, ◌↔◌, Bool, true, false, cond, List, ◌++◌, length, map, get_or, IsTrue, arith}
-use Rattle.std.specs.Prelude.{All, AllPairs, Contains, Option, Some, None, IfSome, slice_index}
+use Rattle.std.specs.Prelude.{All, AllPairs, Contains, Option, Some, None, IfSome}
 use Rattle.std.proofs.lemmas.Bool.{eq-eqb}
 use Rattle.std.proofs.lemmas.Bool.Decides.{Decides-eqb}
 use Rattle.std.proofs.lemmas.List.{length-map}

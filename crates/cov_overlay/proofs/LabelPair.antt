@@ -7,7 +7,6 @@ use Rattle.std.proofs.lemmas.Bool.{cases_eq, ltb-false}
 use Rattle.std.proofs.lemmas.Bool.Decides.{nat_tests}
 use Rattle.std.proofs.lemmas.List.{get_or-drop, length-drop}
 use Rattle.std.proofs.lemmas.Option.{slice_get_within, get_or_from_slice_get}
-use Rattle.overlaid_laws.specs.declared.pair.Pair.{Pair}
 use Rattle.overlaid_laws.specs.Pairs.{pair_with, least_of_first, least_of_second, pair_of}
 
 -- ---- a list that passes a test up to a place, or from there on

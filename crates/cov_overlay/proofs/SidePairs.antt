@@ -1,6 +1,6 @@
 -- The pairs of sides, by the labels of regions.
 use mathlib.Core.List.{[], ◌∷◌}
-use Rattle.std.proofs.Common.{◌≡◌, sym, ◌∙◌, ap, ℕ, zero, suc, ◌<◌, ◌==◌, Bool, true, cond, nat_lt, List, length, get_or, arith}
+use Rattle.std.proofs.Common.{◌≡◌, sym, ◌∙◌, ap, ℕ, ◌<◌, Bool, true, cond, nat_lt, List, get_or, arith}
 use Rattle.std.specs.Prelude.{AllPairs, Option, None}
 use Rattle.std.proofs.lemmas.Bool.{and_parts, eq-eqb, ne_eqb}
 use Rattle.std.proofs.lemmas.Bool.Decides.{nat_tests}

@@ -1,6 +1,6 @@
 -- The pairs of the sides that have one.
 use mathlib.Core.List.{[], ◌∷◌}
-use Rattle.std.proofs.Common.{◌≡◌, inl, inr, subst, ◌↔◌, List, Option, Some, None, arith}
+use Rattle.std.proofs.Common.{inl, inr, subst, ◌↔◌, List, Option, Some, None, arith}
 use Rattle.std.specs.Prelude.{Contains}
 use Rattle.std.specs.List.{filter_map}
 use Rattle.std.proofs.lemmas.Option.{none-some, same_Some}

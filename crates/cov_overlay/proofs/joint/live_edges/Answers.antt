@@ -1,4 +1,4 @@
-use Rattle.std.proofs.Common.{◌<◌, sym, ◌∙◌, subst, List, ◌++◌, length}
+use Rattle.std.proofs.Common.{sym, ◌∙◌, subst, List, ◌++◌, length}
 use Rattle.std.specs.Prelude.{All}
 use Rattle.cov_types.specs.Coverage.{Members, AllInRange}
 use Rattle.cov_types.specs.Range.{IsSegInRange}

@@ -13,7 +13,7 @@ use Rattle.cover_cli.specs.Refusal.{IsRefusedFor, IsUnread}
 use Rattle.cover_words.specs.Words.{Operation, inputs_of, output_of}
 use Rattle.cover_cli.specs.Written.{IsTextWritten, IsWrittenWhole, IsWrittenInPart}
 use Rattle.cover_cli.specs.declared.outcome.Outcome.{Outcome}
-use Rattle.cover_cli.specs.declared.outcome.Outcome.TheVariants.{Done, Marked, Usage, ReadFault, WriteFault, TooLong, BadText, BadJson, BadPoints, NotValid, NoMemory, Sampled}
+use Rattle.cover_cli.specs.declared.outcome.Outcome.TheVariants.{Done, Marked, Usage, ReadFault, WriteFault, TooLong, BadText, BadJson, BadPoints, NotValid, TooMany, NoMemory, Sampled}
 use Rattle.cover_cli.specs.declared.making.Made.{Made}
 use Rattle.cover_cli.proofs.Causes.{one_refusal, refuses_refusal, not_both, makes_success, makes_marked, makes_sampled, makes_some, differs, refusal_no_success, refusal_no_touch, success_touches, marked_success, success_no_refusal, untouching_no_success}
 use Rattle.cover_cli.proofs.Inputs.{same_inputs, none_too_long, promised_after}
@@ -117,6 +117,7 @@ unread operation old new (BadText fault) cause kept promised = absurd cause
 unread operation old new (BadJson fault) cause kept promised = absurd cause
 unread operation old new (BadPoints fault) cause kept promised = absurd cause
 unread operation old new (NotValid mark) cause kept promised = absurd cause
+unread operation old new (TooMany count) cause kept promised = absurd cause
 
 -- the inputs were read, and are a cause for the refusal
 refused_for : (operation : Operation) (old new : State) (inputs : List (List ℕ)) (o : Outcome) → (IsTrue old.tells_files → AreInputs old (inputs_of operation) inputs)

@@ -1,7 +1,10 @@
 -- Causes of refusals: each input has one cause at most, and none where a text is made of it.
-use Rattle.std.proofs.Common.{◌≡◌, ◌≢◌, ℕ, zero, suc, List, [], ◌∷◌, Bool, true, false, IsTrue, Option, Some, None, refl, ap, subst, ◌∙◌, sym, inl, inr}
+use Rattle.std.proofs.Common.{◌≡◌, ◌≢◌, ℕ, zero, suc, ◌+◌, ◌<◌, ◌^◌, List, [], ◌∷◌, length, Bool, true, false, IsTrue, Option, Some, None, refl, ap, subst, ◌∙◌, sym, inl, inr, arith}
 use Rattle.cover_cli.specs.Answers.{is_validate, is_success, is_refusal, is_marked, touches_output, is_sample, is_sampled}
-use Rattle.cov_types.specs.Coverage.{Members}
+use Rattle.cov_overlay.specs.TooMany.{IsCause}
+use Rattle.cov_overlay.specs.declared.error.OverlayError.{OverlayError}
+use Rattle.cov_overlay.specs.declared.error.OverlayError.TheVariants as overlays
+use Rattle.cov_types.specs.Coverage.{Members, IsFormed}
 use Rattle.cov_types.specs.Uses.{uses_of}
 use Rattle.plane.specs.Validity.{IsValid}
 use Rattle.cov_admit.specs.Admission.{IsRefusal}
@@ -23,12 +26,17 @@ use Rattle.cov_types.specs.declared.coord.Coord.{Coord}
 use Rattle.cover_cli.specs.Invalid.{TellsMark, RefusesInvalid}
 use Rattle.cover_cli.specs.Locate.{TellsPointsFault, RefusesPoints}
 use Rattle.cover_cli.specs.Made.{IsOneAnd, IsTwoAnd, Makes, Refuses}
-use Rattle.cover_cli.specs.Refusal.{outcome_of_file, outcome_of_refusal, outcome_of_points, IsRefusedFor}
+use Rattle.cover_cli.specs.Overlay.{IsAdmitted, IsOverlaying, TellsTooMany, RefusesBoth, RefusesSecond, RefusesOverlay}
+use Rattle.overlaid_laws.proofs.Joint.{joint_in_range}
+use Rattle.overlaid_laws.proofs.OnePairs.{one_joint_pairs}
+use Rattle.overlaid_laws.specs.Overlaid.{AreJointPairs}
+use Rattle.overlaid_laws.specs.declared.pair.Pair.{Pair}
+use Rattle.cover_cli.specs.Refusal.{outcome_of_file, outcome_of_refusal, outcome_of_points, outcome_of_overlay, IsRefusedFor}
 use Rattle.cover_cli.specs.Text.{IsReadAnd, RefusesInput}
 use Rattle.cover_cli.specs.Validate.{marking}
-use Rattle.cover_words.specs.Words.{Operation, Validate, Clean, Simplify, Union, Node, Regions, Locate, Sample}
+use Rattle.cover_words.specs.Words.{Operation, Validate, Clean, Simplify, Union, Node, Regions, Locate, Sample, Overlay}
 use Rattle.cover_cli.specs.declared.outcome.Outcome.{Outcome}
-use Rattle.cover_cli.specs.declared.outcome.Outcome.TheVariants.{Done, Marked, Usage, ReadFault, WriteFault, TooLong, BadText, BadJson, BadPoints, NotValid, NoMemory, Sampled}
+use Rattle.cover_cli.specs.declared.outcome.Outcome.TheVariants.{Done, Marked, Usage, ReadFault, WriteFault, TooLong, BadText, BadJson, BadPoints, NotValid, TooMany, NoMemory, Sampled}
 
 -- ---- inputs with a fault
 
@@ -54,6 +62,7 @@ one_input_refusal name scale input (BadText f) TooLong first second = absurd sec
 one_input_refusal name scale input (BadText f) NoMemory first second = absurd second
 one_input_refusal name scale input (BadText f) (NotValid mark) first second = absurd second
 one_input_refusal name scale input (BadText f) (BadPoints g) first second = absurd second
+one_input_refusal name scale input (BadText f) (TooMany count) first second = absurd second
 one_input_refusal name scale input (BadJson f) Done first second = absurd second
 one_input_refusal name scale input (BadJson f) (Marked edges) first second = absurd second
 one_input_refusal name scale input (BadJson f) (Sampled m p q) first second = absurd second
@@ -64,6 +73,7 @@ one_input_refusal name scale input (BadJson f) TooLong first second = absurd sec
 one_input_refusal name scale input (BadJson f) NoMemory first second = absurd second
 one_input_refusal name scale input (BadJson f) (NotValid mark) first second = absurd second
 one_input_refusal name scale input (BadJson f) (BadPoints g) first second = absurd second
+one_input_refusal name scale input (BadJson f) (TooMany count) first second = absurd second
 one_input_refusal name scale input _ p first second = absurd first
 
 input_refusal : (name : List ℕ) (scale : Option ℕ) (input : List ℕ) (o : Outcome) → RefusesInput name scale input o → IsTrue (is_refusal o)
@@ -102,6 +112,7 @@ one_mark members (NotValid m) TooLong first second = absurd second
 one_mark members (NotValid m) (BadText f) first second = absurd second
 one_mark members (NotValid m) (BadJson f) first second = absurd second
 one_mark members (NotValid m) (BadPoints f) first second = absurd second
+one_mark members (NotValid m) (TooMany count) first second = absurd second
 one_mark members (NotValid m) NoMemory first second = absurd second
 one_mark members _ p first second = absurd first
 
@@ -172,6 +183,138 @@ not_listed_and_refused name input file P list p are read (inr other) =
     let none : None ≡ Some fault.0 = sym are.faultless ∙ fault.1.1 in
     cc
 
+-- ---- overlays
+
+-- two coverages that have no overlay are refused for its cause
+pub overlay_refused : (a b : Members) (e : OverlayError) → IsCause a b e → IsRefusedFor (TellsTooMany a b) (outcome_of_overlay e)
+overlay_refused a b (overlays.TooMany count) cause = inr cause
+overlay_refused a b overlays.NoMemory cause = inl refl
+
+-- the first coverage is not admitted, or the second is not
+pub first_refused : (a b : Members) (e : AdmitError) → IsRefusal a e → IsRefusedFor (RefusesBoth a b) (outcome_of_refusal e)
+first_refused a b (NotAdmitted coverage mark) refusal = inr (inl (refusal.1, refusal.2))
+first_refused a b (NoAdmitMemory coverage) refusal = inl refl
+
+pub second_refused : (a b : Members) (e : AdmitError) → IsAdmitted a → IsRefusal b e → IsRefusedFor (RefusesBoth a b) (outcome_of_refusal e)
+second_refused a b (NotAdmitted coverage mark) admitted refusal = inr (inr (inl (admitted, (refusal.1, refusal.2))))
+second_refused a b (NoAdmitMemory coverage) admitted refusal = inl refl
+
+-- what refuses two coverages that are admitted, refuses the two
+pub too_many_refused : (a b : Members) (o : Outcome) → IsAdmitted a → IsAdmitted b → IsRefusedFor (TellsTooMany a b) o → IsRefusedFor (RefusesBoth a b) o
+too_many_refused a b o first second (inl none) = inl none
+too_many_refused a b o first second (inr tells) = inr (inr (inr (first, second, tells)))
+
+-- what refuses the first input, the second one, or the coverages that they are read as, refuses the two inputs
+pub first_input_refused : (first second a b : List ℕ) (o : Outcome) → IsRefusedFor (RefusesInput first None a) o → IsRefusedFor (RefusesOverlay first second a b) o
+first_input_refused first second a b o (inl none) = inl none
+first_input_refused first second a b o (inr refuses) = inr (inl refuses)
+
+pub second_input_refused : (first second a b : List ℕ) (r : Reading) (o : Outcome) → IsRead first None a r → IsRefusedFor (RefusesInput second None b) o → IsRefusedFor (RefusesOverlay first second a b) o
+second_input_refused first second a b r o reads (inl none) = inl none
+second_input_refused first second a b r o reads (inr refuses) = inr (inr (record { reading = r; reads = reads; holds = inl refuses }))
+
+pub both_refused : (first second a b : List ℕ) (r s : Reading) (o : Outcome) → IsRead first None a r → IsRead second None b s → IsRefusedFor (RefusesBoth r.members s.members) o
+    → IsRefusedFor (RefusesOverlay first second a b) o
+both_refused first second a b r s o reads reads_too (inl none) = inl none
+both_refused first second a b r s o reads reads_too (inr refuses) =
+    inr (inr (record { reading = r; reads = reads; holds = inr (record { reading = s; reads = reads_too; holds = refuses }) }))
+
+-- the number that an outcome tells
+told_count : (a b : Members) (o : Outcome) → TellsTooMany a b o → (count : ℕ) × ((o ≡ TooMany count) × IsCause a b (overlays.TooMany count))
+told_count a b (TooMany count) tells = (count, (refl, tells))
+told_count a b _ tells = absurd tells
+
+module _ (a b : Members) (first : IsAdmitted a) (second : IsAdmitted b) where
+  -- where two coverages have few members, they have one list of pairs
+  one_list : length a + length b < 2 ^ 32 → (pairs others : List Pair) → AreJointPairs a b pairs → AreJointPairs a b others → pairs ≡ others
+  one_list few = one_joint_pairs a b (joint_in_range a b first.formed.in_range second.formed.in_range few)
+
+  -- they have too many in one way
+  one_count : (m n : ℕ) → IsCause a b (overlays.TooMany m) → IsCause a b (overlays.TooMany n) → m ≡ n
+  one_count m n (inl h) (inl k) = h.counted ∙ sym k.counted
+  one_count m n (inl h) (inr k) = absurd (omega (arith, h.many, k.few))
+  one_count m n (inr h) (inl k) = absurd (omega (arith, h.few, k.many))
+  one_count m n (inr h) (inr k) = h.counted ∙ ap length (one_list h.few h.pairs k.pairs h.are_pairs k.are_pairs) ∙ sym k.counted
+
+  -- an overlay has not too many
+  not_too_many : (count : ℕ) (pairs : List Pair) → length a + length b < 2 ^ 32 → length pairs < 2 ^ 32 → AreJointPairs a b pairs → IsCause a b (overlays.TooMany count) → ⊥
+  not_too_many count pairs few few_pairs are (inl h) = absurd (omega (arith, h.many, few))
+  not_too_many count pairs few few_pairs are (inr h) =
+      absurd (omega (arith, h.many, few_pairs, ap length (one_list few h.pairs pairs h.are_pairs are)))
+
+one_both_refusal : (a b : Members) (o p : Outcome) → RefusesBoth a b o → RefusesBoth a b p → o ≡ p
+one_both_refusal a b o p (inl h) (inl k) = one_mark a o p h k
+one_both_refusal a b o p (inl h) (inr (inl k)) = absurd (told_invalid a o h k.0.valid)
+one_both_refusal a b o p (inl h) (inr (inr k)) = absurd (told_invalid a o h k.0.valid)
+one_both_refusal a b o p (inr (inl h)) (inl k) = absurd (told_invalid a p k h.0.valid)
+one_both_refusal a b o p (inr (inl h)) (inr (inl k)) = one_mark b o p h.1 k.1
+one_both_refusal a b o p (inr (inl h)) (inr (inr k)) = absurd (told_invalid b o h.1 k.1.valid)
+one_both_refusal a b o p (inr (inr h)) (inl k) = absurd (told_invalid a p k h.0.valid)
+one_both_refusal a b o p (inr (inr h)) (inr (inl k)) = absurd (told_invalid b p k.1 h.1.valid)
+one_both_refusal a b o p (inr (inr h)) (inr (inr k)) =
+    let told = told_count a b o h.2 in
+    let told_too = told_count a b p k.2 in
+    told.1.0 ∙ ap TooMany (one_count a b h.0 h.1 told.0 told_too.0 told.1.1 told_too.1.1) ∙ sym told_too.1.0
+
+one_second_refusal : (a : Members) (name input : List ℕ) (o p : Outcome) → RefusesSecond a name input o → RefusesSecond a name input p → o ≡ p
+one_second_refusal a name input o p (inl h) (inl k) = one_input_refusal name None input o p h k
+one_second_refusal a name input o p (inl h) (inr k) = absurd (not_read_and_refused name None input _ o k h)
+one_second_refusal a name input o p (inr h) (inl k) = absurd (not_read_and_refused name None input _ p h k)
+one_second_refusal a name input o p (inr h) (inr k) =
+    let same : k.reading ≡ h.reading = one_reading name None input k.reading h.reading k.reads h.reads in
+    one_both_refusal a h.reading.members o p h.holds (subst (λ (s : Reading). RefusesBoth a s.members p) same k.holds)
+
+-- two inputs are refused with one outcome
+one_overlay_refusal : (first second a b : List ℕ) (o p : Outcome) → RefusesOverlay first second a b o → RefusesOverlay first second a b p → o ≡ p
+one_overlay_refusal first second a b o p (inl h) (inl k) = one_input_refusal first None a o p h k
+one_overlay_refusal first second a b o p (inl h) (inr k) = absurd (not_read_and_refused first None a _ o k h)
+one_overlay_refusal first second a b o p (inr h) (inl k) = absurd (not_read_and_refused first None a _ p h k)
+one_overlay_refusal first second a b o p (inr h) (inr k) =
+    let same : k.reading ≡ h.reading = one_reading first None a k.reading h.reading k.reads h.reads in
+    one_second_refusal h.reading.members second b o p h.holds (subst (λ (r : Reading). RefusesSecond r.members second b p) same k.holds)
+
+both_refusal : (a b : Members) (o : Outcome) → RefusesBoth a b o → IsTrue (is_refusal o)
+both_refusal a b o (inl h) = mark_refusal a o h
+both_refusal a b o (inr (inl h)) = mark_refusal b o h.1
+both_refusal a b o (inr (inr h)) = ap is_refusal (told_count a b o h.2).1.0
+
+second_refusal : (a : Members) (name input : List ℕ) (o : Outcome) → RefusesSecond a name input o → IsTrue (is_refusal o)
+second_refusal a name input o (inl refuses) = input_refusal name None input o refuses
+second_refusal a name input o (inr read) = both_refusal a read.reading.members o read.holds
+
+overlay_refusal : (first second a b : List ℕ) (o : Outcome) → RefusesOverlay first second a b o → IsTrue (is_refusal o)
+overlay_refusal first second a b o (inl refuses) = input_refusal first None a o refuses
+overlay_refusal first second a b o (inr read) = second_refusal read.reading.members second b o read.holds
+
+-- two valid coverages that have not too many are not refused
+not_both_refused : (a b : Members) (p : Outcome) → IsValid (uses_of a) → IsValid (uses_of b) → ¬ TellsTooMany a b p → RefusesBoth a b p → ⊥
+not_both_refused a b p valid valid_too few (inl h) = told_invalid a p h valid
+not_both_refused a b p valid valid_too few (inr (inl h)) = told_invalid b p h.1 valid_too
+not_both_refused a b p valid valid_too few (inr (inr h)) = few h.2
+
+not_second_refused : (a : Members) (name input : List ℕ) (s : Reading) (p : Outcome) → IsRead name None input s → (RefusesBoth a s.members p → ⊥) → RefusesSecond a name input p → ⊥
+not_second_refused a name input s p reads not (inl refuses) = not_read_and_refused name None input (λ t. t ≡ s) p (record { reading = s; reads = reads; holds = refl }) refuses
+not_second_refused a name input s p reads not (inr other) =
+    let same : other.reading ≡ s = one_reading name None input other.reading s other.reads reads in
+    not (subst (λ (t : Reading). RefusesBoth a t.members p) same other.holds)
+
+-- two inputs that are read as such coverages are not refused
+pub not_overlaid_and_refused : (first second a b : List ℕ) (r s : Reading) (p : Outcome) → IsRead first None a r → IsRead second None b s → IsValid (uses_of r.members) → IsValid (uses_of s.members)
+    → ¬ TellsTooMany r.members s.members p → RefusesOverlay first second a b p → ⊥
+not_overlaid_and_refused first second a b r s p reads reads_too valid valid_too few (inl refuses) =
+    not_read_and_refused first None a (λ t. t ≡ r) p (record { reading = r; reads = reads; holds = refl }) refuses
+not_overlaid_and_refused first second a b r s p reads reads_too valid valid_too few (inr other) =
+    let same : other.reading ≡ r = one_reading first None a other.reading r other.reads reads in
+    not_second_refused r.members second b s p reads_too (not_both_refused r.members s.members p valid valid_too few)
+    (subst (λ (t : Reading). RefusesSecond t.members second b p) same other.holds)
+
+-- what is overlaid has not too many
+not_told_too_many : (to : List ℕ) (a b : Members) (o p : Outcome) (text : List ℕ) → IsOverlaying to a b o text → TellsTooMany a b p → ⊥
+not_told_too_many to a b o p text made tells =
+    let told = told_count a b p tells in
+    let pairs : AreJointPairs a b made.pairs = record { overlay = made.overlaid.overlay; is_overlay = made.overlaid.is_overlay; are_pairs = made.overlaid.are_pairs } in
+    not_too_many a b made.first made.second told.0 made.pairs made.few_members made.few_pairs pairs told.1.1
+
 -- ---- operations
 
 -- what follows for one input, follows for the inputs where there is one
@@ -207,6 +350,7 @@ one_refusal (Node scale from to) inputs o p = of_both inputs _ _ (o ≡ p) (λ i
 one_refusal (Regions scale from to) inputs o p = of_both inputs _ _ (o ≡ p) (λ input. one_input_refusal from scale input o p)
 one_refusal (Sample side seed to) inputs o p = λ first second. absurd first
 one_refusal (Locate from points to) inputs o p = of_both_two inputs _ _ (o ≡ p) (λ input file. one_points_refusal from input file o p)
+one_refusal (Overlay first second to) inputs o p = of_both_two inputs _ _ (o ≡ p) (λ a b. one_overlay_refusal first second a b o p)
 
 pub refuses_refusal : (operation : Operation) (inputs : List (List ℕ)) (o : Outcome) → Refuses operation inputs o → IsTrue (is_refusal o)
 refuses_refusal (Validate gap scale from to) inputs o = of_one inputs _ (IsTrue (is_refusal o)) (λ input. input_refusal from scale input o)
@@ -217,6 +361,7 @@ refuses_refusal (Node scale from to) inputs o = of_one inputs _ (IsTrue (is_refu
 refuses_refusal (Regions scale from to) inputs o = of_one inputs _ (IsTrue (is_refusal o)) (λ input. input_refusal from scale input o)
 refuses_refusal (Sample side seed to) inputs o = λ refuses. absurd refuses
 refuses_refusal (Locate from points to) inputs o = of_two inputs _ (IsTrue (is_refusal o)) (λ input file. points_refusal from input file o)
+refuses_refusal (Overlay first second to) inputs o = of_two inputs _ (IsTrue (is_refusal o)) (λ a b. overlay_refusal first second a b o)
 
 -- of inputs that are refused no text is made
 pub not_both : (operation : Operation) (inputs : List (List ℕ)) (o p : Outcome) (text : List ℕ) → Makes operation inputs o text → Refuses operation inputs p → ⊥
@@ -228,6 +373,9 @@ not_both (Node scale from to) inputs o p text = of_both inputs _ _ ⊥ (λ input
 not_both (Regions scale from to) inputs o p text = of_both inputs _ _ ⊥ (λ input. not_read_and_refused from scale input _ p)
 not_both (Sample side seed to) inputs o p text = λ makes refuses. refuses
 not_both (Locate from points to) inputs o p text = of_both_two inputs _ _ ⊥ (λ input file made. not_listed_and_refused from input file _ made.holds.points p made.holds.points_are made)
+not_both (Overlay first second to) inputs o p text = of_both_two inputs _ _ ⊥ (λ a b made.
+    not_overlaid_and_refused first second a b made.reading made.holds.reading p made.reads made.holds.reads made.holds.holds.first.valid made.holds.holds.second.valid
+    (not_told_too_many to made.reading.members made.holds.reading.members o p text made.holds.holds))
 
 marking_success : (edges : ℕ) → IsTrue (is_success (marking edges))
 marking_success zero = refl
@@ -243,6 +391,7 @@ makes_success (Node scale from to) inputs o text = of_one inputs _ (IsTrue (is_s
 makes_success (Regions scale from to) inputs o text = of_one inputs _ (IsTrue (is_success o)) (λ input makes. ap is_success makes.holds.done)
 makes_success (Sample side seed to) inputs o text = λ makes. ap is_success makes.counted
 makes_success (Locate from points to) inputs o text = of_two inputs _ (IsTrue (is_success o)) (λ input file makes. ap is_success makes.holds.done)
+makes_success (Overlay first second to) inputs o text = of_two inputs _ (IsTrue (is_success o)) (λ a b makes. ap is_success makes.holds.holds.done)
 
 -- only validate answers marks
 pub makes_marked : (operation : Operation) (inputs : List (List ℕ)) (o : Outcome) (text : List ℕ) → Makes operation inputs o text → IsTrue (is_marked o) → IsTrue (is_validate operation)
@@ -254,6 +403,7 @@ makes_marked (Node scale from to) inputs o text makes marks = of_one inputs _ (I
 makes_marked (Regions scale from to) inputs o text makes marks = of_one inputs _ (IsTrue false) (λ input listing. sym (ap is_marked listing.holds.done) ∙ marks) makes
 makes_marked (Sample side seed to) inputs o text makes marks = sym (ap is_marked makes.counted) ∙ marks
 makes_marked (Locate from points to) inputs o text makes marks = of_two inputs _ (IsTrue false) (λ input file locating. sym (ap is_marked locating.holds.done) ∙ marks) makes
+makes_marked (Overlay first second to) inputs o text makes marks = of_two inputs _ (IsTrue false) (λ a b overlaying. sym (ap is_marked overlaying.holds.holds.done) ∙ marks) makes
 
 marking_some : (edges : ℕ) → marking edges ≢ Marked 0
 marking_some zero h = cc
@@ -269,6 +419,7 @@ makes_some (Node scale from to) inputs o text makes h = of_one inputs _ ⊥ (λ 
 makes_some (Regions scale from to) inputs o text makes h = of_one inputs _ ⊥ (λ input listing. (let e : Done ≡ Marked 0 = sym listing.holds.done ∙ h in cc)) makes
 makes_some (Sample side seed to) inputs o text makes h = (let e : true ≡ false = sym (ap is_sampled makes.counted) ∙ ap is_sampled h in cc)
 makes_some (Locate from points to) inputs o text makes h = of_two inputs _ ⊥ (λ input file locating. (let e : Done ≡ Marked 0 = sym locating.holds.done ∙ h in cc)) makes
+makes_some (Overlay first second to) inputs o text makes h = of_two inputs _ ⊥ (λ a b overlaying. (let e : Done ≡ Marked 0 = sym overlaying.holds.holds.done ∙ h in cc)) makes
 
 marking_none_sampled : (edges : ℕ) → is_sampled (marking edges) ≡ false
 marking_none_sampled zero = refl
@@ -284,6 +435,7 @@ makes_sampled (Node scale from to) inputs o text = of_one inputs _ (is_sampled o
 makes_sampled (Regions scale from to) inputs o text = of_one inputs _ (is_sampled o ≡ false) (λ input makes. ap is_sampled makes.holds.done)
 makes_sampled (Sample side seed to) inputs o text = λ makes. ap is_sampled makes.counted
 makes_sampled (Locate from points to) inputs o text = of_two inputs _ (is_sampled o ≡ false) (λ input file locating. ap is_sampled locating.holds.done)
+makes_sampled (Overlay first second to) inputs o text = of_two inputs _ (is_sampled o ≡ false) (λ a b overlaying. ap is_sampled overlaying.holds.holds.done)
 
 -- ---- the kinds of answers
 
@@ -302,6 +454,7 @@ pub refusal_no_touch : (o : Outcome) → IsTrue (is_refusal o) → touches_outpu
 refusal_no_touch (BadText fault) refusal = refl
 refusal_no_touch (BadJson fault) refusal = refl
 refusal_no_touch (BadPoints fault) refusal = refl
+refusal_no_touch (TooMany count) refusal = refl
 refusal_no_touch _ refusal = cc
 
 pub success_touches : (o : Outcome) → IsTrue (is_success o) → IsTrue (touches_output o)
@@ -319,6 +472,7 @@ success_no_refusal (BadText fault) success = cc
 success_no_refusal (BadJson fault) success = cc
 success_no_refusal (BadPoints fault) success = cc
 success_no_refusal (NotValid mark) success = cc
+success_no_refusal (TooMany count) success = cc
 success_no_refusal _ success = refl
 
 -- what doesn't touch the output is no success

@@ -7,6 +7,7 @@ pub mod Answering
 pub mod OneText
 pub mod Headline
 pub mod Located
+pub mod Overlaid
 pub mod OneAnswer
 pub mod RegionRows
 pub mod PlaceRows

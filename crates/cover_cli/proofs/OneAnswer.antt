@@ -12,7 +12,7 @@ use Rattle.cover_cli.specs.Input.{HoldsTooMuch, AreInputs}
 use Rattle.cover_cli.specs.Laws.{is_settled, HoldAlike}
 use Rattle.cover_words.specs.Words.{Operation, inputs_of, output_of}
 use Rattle.cover_cli.specs.declared.outcome.Outcome.{Outcome}
-use Rattle.cover_cli.specs.declared.outcome.Outcome.TheVariants.{Done, Marked, Usage, ReadFault, WriteFault, TooLong, BadText, BadJson, BadPoints, NotValid, NoMemory, Sampled}
+use Rattle.cover_cli.specs.declared.outcome.Outcome.TheVariants.{Done, Marked, Usage, ReadFault, WriteFault, TooLong, BadText, BadJson, BadPoints, NotValid, TooMany, NoMemory, Sampled}
 
 -- ---- files that hold the same
 
@@ -103,6 +103,7 @@ module _ (operation : Operation) (s s_after t t_after : State) (told : IsTrue s.
   one_answer_told (BadJson fault) p first second settled settled_too = (after_refusal (BadJson fault) p first second refl settled_too, λ one success. cc)
   one_answer_told (BadPoints fault) p first second settled settled_too = (after_refusal (BadPoints fault) p first second refl settled_too, λ one success. cc)
   one_answer_told (NotValid mark) p first second settled settled_too = (after_refusal (NotValid mark) p first second refl settled_too, λ one success. cc)
+  one_answer_told (TooMany count) p first second settled settled_too = (after_refusal (TooMany count) p first second refl settled_too, λ one success. cc)
   one_answer_told NoMemory p first second settled settled_too = absurd (differs is_settled NoMemory NoMemory settled refl refl)
 
 pub one_answer : (operation : Operation) (s s_after t t_after : State) (o p : Outcome) → IsTrue s.tells_files → IsTrue t.tells_files → HoldAlike operation s t

@@ -1,7 +1,7 @@
 -- An operation makes one text of its inputs.
 use Rattle.std.proofs.Common.{◌≡◌, ℕ, ◌≤◌, ◌∷◌, List, [], length, Bool, true, false, ◌&&◌, ◌⊎◌, refl, sym, ap, subst, ◌∙◌, inl, inr, Option, Some, None}
 use Rattle.std.specs.Prelude.{All, flat_map}
-use Rattle.std.proofs.lemmas.List.Elements.{All-head}
+use Rattle.std.proofs.lemmas.List.Elements.{All-head, All-map, All-replicate}
 use Rattle.std.specs.List.{AllZip, concat}
 use Rattle.arrangement.proofs.OneNoding.{one_noding}
 use Rattle.arrangement.proofs.OneOverlay.{one_snapped_overlay}
@@ -28,6 +28,11 @@ use Rattle.sound_polygons.proofs.OneCleaned.{one_cleaned}
 use Rattle.feature_files.proofs.Files.{one_reading, read_formed}
 use Rattle.feature_files.proofs.Forms.{one_form, one_text_form, bare_exact}
 use Rattle.feature_files.specs.Form.{IsWrittenAs, HasNoFloat}
+use Rattle.serde_json.specs.Data.{null}
+use Rattle.serde_json.specs.Written.{has_float}
+use Rattle.overlaid_laws.proofs.Joint.{joint_in_range}
+use Rattle.overlaid_laws.proofs.OneOverlaid.{one_overlaid}
+use Rattle.overlaid_laws.specs.declared.pair.Pair.{Pair}
 use Rattle.file_form.specs.Name.{is_json}
 use Rattle.feature_files.specs.Reading.{bare, with_members, IsReadBy, IsRead}
 use Rattle.geo_json.specs.Reading.{Reading}
@@ -41,6 +46,7 @@ use Rattle.cover_cli.specs.Lines.{member_lists, marked_uses}
 use Rattle.cover_cli.specs.Locate.{place_row, ArePlaceRows, IsLocating}
 use Rattle.cover_cli.specs.Made.{IsOneAnd, Makes, Refuses}
 use Rattle.cover_cli.specs.Node.{IsNoding}
+use Rattle.cover_cli.specs.Overlay.{pair_properties, with_pairs, IsOverlaying}
 use Rattle.cover_cli.specs.Sample.{sampled, IsSampling}
 use Rattle.cover_cli.specs.Simplify.{IsSimplifying}
 use Rattle.jittered_grid.specs.Cells.{cells}
@@ -50,7 +56,7 @@ use Rattle.cover_cli.specs.Text.{IsReadAnd}
 use Rattle.cov_union.proofs.OneUnited.{one_united}
 use Rattle.cover_cli.specs.Union.{IsUniting}
 use Rattle.cover_cli.specs.Validate.{marking, IsValidation}
-use Rattle.cover_words.specs.Words.{Operation, Validate, Clean, Simplify, Union, Node, Regions, Locate, inputs_of, Sample}
+use Rattle.cover_words.specs.Words.{Operation, Validate, Clean, Simplify, Union, Node, Regions, Locate, inputs_of, Sample, Overlay as OverlayOf}
 use Rattle.cover_cli.specs.declared.outcome.Outcome.{Outcome}
 use Rattle.cover_words.specs.declared.rule_name.RuleName.{RuleName}
 use Rattle.cover_words.specs.declared.rule_name.RuleName.TheVariants.{LongestBorder}
@@ -100,6 +106,21 @@ one_sampling : (side seed : ℕ) (to : List ℕ) (o p : Outcome) (text other : L
 one_sampling side seed to o p text other v w =
     let same : v.out ≡ w.out = one_cleaned (cells side seed) v.grid.in_range (rule_of LongestBorder) no_state 8 v.out w.out v.sample w.sample in
     (v.counted ∙ ap sampled same ∙ sym w.counted, one_form to None (bare w.out) text other (bare_exact w.out) (subst (λ (ms : Members). IsWrittenAs to None (bare ms) text) same v.written) w.written)
+
+-- the properties of pairs, and no ids, have no float
+pairs_exact : (pairs : List Pair) (out : Members) → HasNoFloat (with_pairs pairs out)
+pairs_exact pairs out = record {
+  properties = All-map pair_properties pairs (λ k pair within. refl);
+  ids = All-replicate (λ d. has_float d ≡ false) (length out) null refl;
+}
+
+one_overlaying : (to : List ℕ) (a b : Members) (o p : Outcome) (text other : List ℕ) → IsOverlaying to a b o text → IsOverlaying to a b p other → (o ≡ p) × (text ≡ other)
+one_overlaying to a b o p text other v w =
+    let in_range = joint_in_range a b v.first.formed.in_range v.second.formed.in_range v.few_members in
+    let same = one_overlaid a b in_range v.pairs w.pairs v.out w.out v.overlaid w.overlaid in
+    let features : with_pairs v.pairs v.out ≡ with_pairs w.pairs w.out = λ i. with_pairs (same.0 i) (same.1 i) in
+    (v.done ∙ sym w.done,
+    one_form to None (with_pairs w.pairs w.out) text other (pairs_exact w.pairs w.out) (subst (λ (r : Reading). IsWrittenAs to None r text) features v.written) w.written)
 
 -- a region has one clearance to tell
 one_told : (o : Overlay) (r : ℕ) (first second : Option ℕ) → IsClearanceTold o r first → IsClearanceTold o r second → first ≡ second
@@ -189,6 +210,17 @@ one_located name input file o p text other first second =
     let same : first.reading ≡ second.reading = one_reading name None input first.reading second.reading first.reads second.reads in
     one_locating second.reading.members file o p text other (subst (λ (r : Reading). IsLocating r.members file o text) same first.holds) second.holds
 
+-- two inputs give one text
+one_paired : (first second a b to : List ℕ) (o p : Outcome) (text other : List ℕ)
+    → IsReadAnd first None a (λ r. IsReadAnd second None b (λ s. IsOverlaying to r.members s.members o text))
+    → IsReadAnd first None a (λ r. IsReadAnd second None b (λ s. IsOverlaying to r.members s.members p other)) → (o ≡ p) × (text ≡ other)
+one_paired first second a b to o p text other h k =
+    let same : h.reading ≡ k.reading = one_reading first None a h.reading k.reading h.reads k.reads in
+    let again = subst (λ (r : Reading). IsReadAnd second None b (λ s. IsOverlaying to r.members s.members o text)) same h.holds in
+    let same_too : again.reading ≡ k.holds.reading = one_reading second None b again.reading k.holds.reading again.reads k.holds.reads in
+    one_overlaying to k.reading.members k.holds.reading.members o p text other
+    (subst (λ (s : Reading). IsOverlaying to k.reading.members s.members o text) same_too again.holds) k.holds.holds
+
 -- one success, and one text where it is determined
 abbrev IsOne : Operation → State → Outcome → Outcome → List ℕ → List ℕ → Type 0
 IsOne operation s o p text other = (o ≡ p) × (HasOneText operation s → text ≡ other)
@@ -216,6 +248,8 @@ one_made (Regions scale from to) s inputs o p text other =
 one_made (Sample side seed to) s inputs o p text other = λ read v w. (let one = one_sampling side seed to o p text other v w in (one.0, λ determined. one.1))
 one_made (Locate from points to) s inputs o p text other =
     λ are. of_both_two inputs _ _ (IsOne (Locate from points to) s o p text other) (λ input file v w. (let one = one_located from input file o p text other v w in (one.0, λ determined. one.1)))
+one_made (OverlayOf first second to) s inputs o p text other =
+    λ are. of_both_two inputs _ _ (IsOne (OverlayOf first second to) s o p text other) (λ a b v w. (let one = one_paired first second a b to o p text other v w in (one.0, λ determined. one.1)))
 
 -- ---- what the files hold
 

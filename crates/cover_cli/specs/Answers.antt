@@ -5,7 +5,7 @@ use Rattle.cov_io.specs.Contents.{SameFiles, HoldsNow, HoldsPrefix}
 use Rattle.cov_io.specs.Count.{Rose}
 use Rattle.cov_io.specs.State.{State}
 use Rattle.cover_cli.specs.declared.outcome.Outcome.{Outcome}
-use Rattle.cover_cli.specs.declared.outcome.Outcome.TheVariants.{Done, Marked, Usage, ReadFault, WriteFault, TooLong, BadText, BadJson, BadPoints, NotValid, NoMemory, Sampled}
+use Rattle.cover_cli.specs.declared.outcome.Outcome.TheVariants.{Done, Marked, Usage, ReadFault, WriteFault, TooLong, BadText, BadJson, BadPoints, NotValid, TooMany, NoMemory, Sampled}
 use Rattle.cover_cli.specs.Input.{HoldsTooMuch, AreInputs}
 use Rattle.cover_cli.specs.Made.{Makes, Refuses}
 use Rattle.cover_words.specs.Words.{Operation, Validate, Clean, Simplify, Sample, inputs_of, output_of, scale_of}
@@ -39,6 +39,7 @@ is_refusal (BadText fault) = true
 is_refusal (BadJson fault) = true
 is_refusal (BadPoints fault) = true
 is_refusal (NotValid mark) = true
+is_refusal (TooMany count) = true
 is_refusal _ = false
 
 -- segments are listed that are at fault

@@ -12,6 +12,7 @@ pub mod Node
 pub mod Regions
 pub mod Sample
 pub mod Locate
+pub mod Overlay
 pub mod Made
 pub mod Refusal
 pub mod Answers
@@ -20,3 +21,4 @@ pub mod Laws
 pub mod Headline
 pub mod SampleLaw
 pub mod Located
+pub mod Overlaid

@@ -3,6 +3,7 @@ use Rattle.std.specs.Prelude.{ℕ, List, [], ◌∷◌, None}
 use Rattle.cover_cli.specs.Clean.{IsCleaning}
 use Rattle.cover_cli.specs.Locate.{IsLocating, RefusesPoints}
 use Rattle.cover_cli.specs.Node.{IsNoding}
+use Rattle.cover_cli.specs.Overlay.{IsOverlaying, RefusesOverlay}
 use Rattle.cover_cli.specs.Regions.{IsRegionList}
 use Rattle.cover_cli.specs.Sample.{IsSampling}
 use Rattle.cover_cli.specs.Simplify.{IsSimplifying}
@@ -10,7 +11,7 @@ use Rattle.cover_cli.specs.Text.{IsReadAnd, RefusesInput}
 use Rattle.cover_cli.specs.Invalid.{RefusesInvalid}
 use Rattle.cover_cli.specs.Union.{IsUniting}
 use Rattle.cover_cli.specs.Validate.{IsValidation}
-use Rattle.cover_words.specs.Words.{Operation, Validate, Clean, Simplify, Union, Node, Regions, Locate, Sample}
+use Rattle.cover_words.specs.Words.{Operation, Validate, Clean, Simplify, Union, Node, Regions, Locate, Sample, Overlay}
 use Rattle.cover_cli.specs.declared.outcome.Outcome.{Outcome}
 
 -- there is one input, and this holds of it
@@ -36,6 +37,7 @@ Makes (Node scale from to) inputs outcome text = IsOneAnd inputs (λ input. IsRe
 Makes (Regions scale from to) inputs outcome text = IsOneAnd inputs (λ input. IsReadAnd from scale input (λ r. IsRegionList r.members outcome text))
 Makes (Sample side seed to) inputs outcome text = IsSampling side seed to outcome text
 Makes (Locate from points to) inputs outcome text = IsTwoAnd inputs (λ input file. IsReadAnd from None input (λ r. IsLocating r.members file outcome text))
+Makes (Overlay first second to) inputs outcome text = IsTwoAnd inputs (λ a b. IsReadAnd first None a (λ r. IsReadAnd second None b (λ s. IsOverlaying to r.members s.members outcome text)))
 
 -- these inputs are a cause for the operation to refuse them with this outcome
 abbrev pub Refuses : Operation → List (List ℕ) → Outcome → Type 0
@@ -47,3 +49,4 @@ Refuses (Node scale from to) inputs outcome = IsOneAnd inputs (λ input. Refuses
 Refuses (Regions scale from to) inputs outcome = IsOneAnd inputs (λ input. RefusesInput from scale input outcome)
 Refuses (Sample side seed to) inputs outcome = ⊥
 Refuses (Locate from points to) inputs outcome = IsTwoAnd inputs (λ input file. RefusesPoints from input file outcome)
+Refuses (Overlay first second to) inputs outcome = IsTwoAnd inputs (λ a b. RefusesOverlay first second a b outcome)

@@ -2,7 +2,7 @@
 use Rattle.std.specs.Prelude.{ℕ, List, ◌++◌, codes}
 use Rattle.std.specs.Fmt.{decimal}
 use Rattle.cover_cli.specs.declared.outcome.Outcome.{Outcome}
-use Rattle.cover_cli.specs.declared.outcome.Outcome.TheVariants.{Done, Marked, Usage, ReadFault, WriteFault, TooLong, BadText, BadJson, BadPoints, NotValid, NoMemory, Sampled}
+use Rattle.cover_cli.specs.declared.outcome.Outcome.TheVariants.{Done, Marked, Usage, ReadFault, WriteFault, TooLong, BadText, BadJson, BadPoints, NotValid, TooMany, NoMemory, Sampled}
 use Rattle.cov_locate.specs.declared.points.PointsFault.{PointsFault}
 use Rattle.cov_locate.specs.declared.points.PointsFault.TheVariants as points
 use Rattle.cov_valid.specs.declared.mark.Kind.{Kind}
@@ -26,6 +26,7 @@ status_of ReadFault = 7
 status_of WriteFault = 8
 status_of NoMemory = 9
 status_of (BadPoints fault) = 10
+status_of (TooMany count) = 11
 
 -- the text of a fault of a text
 abbrev pub fault_text : TextFault → List ℕ
@@ -69,7 +70,7 @@ abbrev pub message_of : Outcome → List ℕ
 message_of Done = codes "done"
 message_of (Marked edges) = codes "marked " ++ decimal edges
 message_of (Sampled members polygons points) = sampled_text members polygons points
-message_of Usage = codes "usage: cover validate|clean|simplify|union|node|regions|sample|locate"
+message_of Usage = codes "usage: cover validate|clean|simplify|union|node|regions|sample|locate|overlay"
 message_of ReadFault = codes "cannot read"
 message_of WriteFault = codes "cannot write"
 message_of TooLong = codes "input is longer than 67108864 bytes"
@@ -77,4 +78,5 @@ message_of (BadText fault) = fault_text fault
 message_of (BadJson fault) = json_fault_text fault
 message_of (BadPoints fault) = points_fault_text fault
 message_of (NotValid mark) = mark_text mark.member mark.place mark.kind
+message_of (TooMany count) = codes "too many: " ++ decimal count
 message_of NoMemory = codes "no memory"

@@ -8,9 +8,11 @@ use Rattle.cov_admit.specs.declared.error.AdmitError.{AdmitError}
 use Rattle.cov_admit.specs.declared.error.AdmitError.TheVariants as admits
 use Rattle.cov_locate.specs.declared.points.PointsError.{PointsError}
 use Rattle.cov_locate.specs.declared.points.PointsError.TheVariants as points
+use Rattle.cov_overlay.specs.declared.error.OverlayError.{OverlayError}
+use Rattle.cov_overlay.specs.declared.error.OverlayError.TheVariants as overlays
 use Rattle.cover_cli.specs.Input.{HoldsTooMuch}
 use Rattle.cover_cli.specs.declared.outcome.Outcome.{Outcome}
-use Rattle.cover_cli.specs.declared.outcome.Outcome.TheVariants.{ReadFault, TooLong, BadText, BadJson, BadPoints, NotValid, NoMemory}
+use Rattle.cover_cli.specs.declared.outcome.Outcome.TheVariants.{ReadFault, TooLong, BadText, BadJson, BadPoints, NotValid, TooMany, NoMemory}
 use Rattle.feature_files.specs.declared.error.FileError.{FileError}
 use Rattle.feature_files.specs.declared.error.FileError.TheVariants as files
 use Rattle.feature_files.specs.declared.error.FileFault.TheVariants.{Text, Json}
@@ -36,6 +38,11 @@ outcome_of_refusal (admits.NoMemory coverage) = NoMemory
 abbrev pub outcome_of_points : PointsError → Outcome
 outcome_of_points (points.Fault fault) = BadPoints fault
 outcome_of_points points.NoMemory = NoMemory
+
+-- the outcome where two coverages have no overlay
+abbrev pub outcome_of_overlay : OverlayError → Outcome
+outcome_of_overlay (overlays.TooMany count) = TooMany count
+outcome_of_overlay overlays.NoMemory = NoMemory
 
 -- memory ran out, or the refusal has this cause
 abbrev pub IsRefusedFor : (Outcome → Type 0) → Outcome → Type 0

@@ -1,6 +1,7 @@
 ghost use Rattle.cover_cli.specs.Headline.{HeadlineLaw};
 ghost use Rattle.cover_cli.specs.SampleLaw.{SampleLaw};
 ghost use Rattle.cover_cli.specs.Located.{LocateLaw};
+ghost use Rattle.cover_cli.specs.Overlaid.{OverlayLaw};
 ghost use Rattle.cover_cli.specs.Laws.{OneTextLaw, OneRefusalLaw, RefusedLaw, OneAnswerLaw, CompleteLaw, NoFaultLaw};
 
 /// What the files hold gives an operation one success and one text to write, or one refusal, and not both. The text is one but
@@ -21,6 +22,13 @@ pub fn headline_law()
 /// is on a segment, else the least member that holds it, else that none does. A call does nothing.
 pub fn locate_law()
     ensures { LocateLaw }
+{}
+
+/// For any two files in the grammar and range whose readings are valid, and have neither too many members nor too many pairs, `cover
+/// overlay` writes a valid coverage: each point off the jointly noded edges lies in the member of the pair of the least snapped members
+/// that hold it, one of each file. A call does nothing.
+pub fn overlay_law()
+    ensures { OverlayLaw }
 {}
 
 /// What `cover` answers, and the bytes that it writes, are a function of the words and of what the inputs hold, faults

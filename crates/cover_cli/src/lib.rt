@@ -21,6 +21,8 @@ mod making;
 mod node;
 mod outcome;
 mod output;
+mod overlay;
+mod pairs;
 mod refusal;
 mod regions;
 mod sample;
@@ -32,5 +34,5 @@ mod valid_features;
 mod validate;
 
 pub use command::cover;
-pub use laws::{answer_law, headline_law, locate_law, sample_law, written_law};
+pub use laws::{answer_law, headline_law, locate_law, overlay_law, sample_law, written_law};
 pub use outcome::{Outcome, message, status};

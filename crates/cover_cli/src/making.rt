@@ -6,7 +6,7 @@ ghost use Rattle.cover_cli.specs.Refusal.{IsRefusedFor};
 ghost use Rattle.cover_words.specs.Words.{IsWithinLimit, inputs_of};
 
 use crate::outcome::Outcome;
-use crate::{clean, locate, node, regions, sample, simplify, union, validate};
+use crate::{clean, locate, node, overlay, regions, sample, simplify, union, validate};
 use cover_words::Operation;
 use std::alloc::Global;
 
@@ -74,6 +74,10 @@ pub fn make(alloc: Global, operation: &Operation, mut inputs: Vec<Vec<u8>>) -> R
         Operation::Locate { from, .. } => {
             let file = inputs.remove(1);
             locate::make(alloc, from, inputs.remove(0), file)
+        }
+        Operation::Overlay { first, second, to } => {
+            let b = inputs.remove(1);
+            overlay::make(alloc, first, second, to, inputs.remove(0), b)
         }
     }
 }

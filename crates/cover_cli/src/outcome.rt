@@ -42,6 +42,10 @@ pub enum Outcome {
     NotValid {
         mark: Mark,
     },
+    /// Two coverages have so many members together, or so many pairs, that they have no overlay: 2^32 or more.
+    TooMany {
+        count: u64,
+    },
     /// Memory ran out before the output was created.
     NoMemory,
 }
@@ -67,6 +71,7 @@ pub fn status(o: &Outcome) -> u8
         Outcome::WriteFault => 8,
         Outcome::NoMemory => 9,
         Outcome::BadPoints(_) => 10,
+        Outcome::TooMany { count: _ } => 11,
     }
 }
 
@@ -87,11 +92,12 @@ pub fn message(alloc: Global, o: &Outcome) -> Result<String, NoMemory>
             mark.place,
             mark.kind,
         ),
+        Outcome::TooMany { count } => return Ok(format!(in alloc; "too many: {count}")?),
         Outcome::BadText(fault) => return fault_message(alloc, *fault),
         Outcome::BadJson(fault) => return json_fault_message(alloc, *fault),
         Outcome::BadPoints(fault) => return points_fault_message(alloc, *fault),
         Outcome::Done => "done",
-        Outcome::Usage => "usage: cover validate|clean|simplify|union|node|regions|sample|locate",
+        Outcome::Usage => "usage: cover validate|clean|simplify|union|node|regions|sample|locate|overlay",
         Outcome::ReadFault => "cannot read",
         Outcome::WriteFault => "cannot write",
         Outcome::TooLong => "input is longer than 67108864 bytes",

@@ -1,10 +1,11 @@
 ghost use Rattle.std.specs.Prelude.{◌≡◌};
-ghost use Rattle.cover_cli.specs.Refusal.{outcome_of_slurp, outcome_of_file, outcome_of_refusal, outcome_of_points};
+ghost use Rattle.cover_cli.specs.Refusal.{outcome_of_slurp, outcome_of_file, outcome_of_refusal, outcome_of_points, outcome_of_overlay};
 
 use crate::outcome::Outcome;
 use cov_admit::AdmitError;
 use cov_io::SlurpError;
 use cov_locate::PointsError;
+use cov_overlay::OverlayError;
 use cov_types::NoMemory;
 use feature_files::{FileError, FileFault};
 use std::alloc::AllocFailed;
@@ -51,6 +52,17 @@ impl From<PointsError> for Outcome {
         match e {
             PointsError::Fault(fault) => Outcome::BadPoints(fault),
             PointsError::NoMemory => Outcome::NoMemory,
+        }
+    }
+}
+
+impl From<OverlayError> for Outcome {
+    ghost from_gives = { λ e o. o ≡ outcome_of_overlay e };
+
+    fn from(e: OverlayError) -> Outcome {
+        match e {
+            OverlayError::TooMany { count } => Outcome::TooMany { count },
+            OverlayError::NoMemory => Outcome::NoMemory,
         }
     }
 }

@@ -110,7 +110,7 @@ one_sampling side seed to o p text other v w =
 -- the properties of pairs, and no ids, have no float
 pairs_exact : (pairs : List Pair) (out : Members) → HasNoFloat (with_pairs pairs out)
 pairs_exact pairs out = record {
-  properties = All-map pair_properties pairs (λ k pair within. refl);
+  properties = All-map (λ d. has_float d ≡ false) pair_properties pairs (λ k pair within. refl);
   ids = All-replicate (λ d. has_float d ≡ false) (length out) null refl;
 }
 

@@ -23,7 +23,8 @@ fn properties_of(alloc: Global, pairs: &[Pair]) -> Result<Vec<Value>, NoMemory>
 {
     let mut properties = Vec::new(alloc);
     for pair in pairs {
-        properties.push(properties_of_pair(alloc, *pair)?)?;
+        let value = properties_of_pair(alloc, *pair)?;
+        properties.push(value)?;
     }
     Ok(properties)
 }

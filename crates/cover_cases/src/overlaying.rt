@@ -193,8 +193,7 @@ fn both_are_parsed_before_either_is_admitted(rt: HostRuntime) -> Result<(), test
             kind,
         },
     };
-    let twice =
-        "POLYGON ((0 0, 1 0, 1 1, 0 1, 0 0))\nPOLYGON ((0 0, 1 0, 1 1, 0 1, 0 0))\n";
+    let twice = "POLYGON ((0 0, 1 0, 1 1, 0 1, 0 0))\nPOLYGON ((0 0, 1 0, 1 1, 0 1, 0 0))\n";
     let cases: [Case; 6] = [
         (
             "a first input with a fault beside a second that is not valid",
@@ -204,7 +203,13 @@ fn both_are_parsed_before_either_is_admitted(rt: HostRuntime) -> Result<(), test
             BEFORE,
         ),
         ("two inputs with a fault", "POLYGON", "x", syntax(7), BEFORE),
-        ("a second input with a fault", SQUARE, "x", syntax(0), BEFORE),
+        (
+            "a second input with a fault",
+            SQUARE,
+            "x",
+            syntax(0),
+            BEFORE,
+        ),
         (
             "a first input that is not valid beside a second with a fault",
             TOUCHED,

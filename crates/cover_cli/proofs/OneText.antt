@@ -118,9 +118,10 @@ one_overlaying : (to : List ℕ) (a b : Members) (o p : Outcome) (text other : L
 one_overlaying to a b o p text other v w =
     let in_range = joint_in_range a b v.first.formed.in_range v.second.formed.in_range v.few_members in
     let same = one_overlaid a b in_range v.pairs w.pairs v.out w.out v.overlaid w.overlaid in
-    let features : with_pairs v.pairs v.out ≡ with_pairs w.pairs w.out = λ i. with_pairs (same.0 i) (same.1 i) in
-    (v.done ∙ sym w.done,
-    one_form to None (with_pairs w.pairs w.out) text other (pairs_exact w.pairs w.out) (subst (λ (r : Reading). IsWrittenAs to None r text) features v.written) w.written)
+    let features : with_pairs v.pairs v.out ≡ with_pairs w.pairs w.out = λ i. with_pairs (same.0 i) (same.1 i) in (
+      v.done ∙ sym w.done,
+      one_form to None (with_pairs w.pairs w.out) text other (pairs_exact w.pairs w.out) (subst (λ (r : Reading). IsWrittenAs to None r text) features v.written) w.written,
+    )
 
 -- a region has one clearance to tell
 one_told : (o : Overlay) (r : ℕ) (first second : Option ℕ) → IsClearanceTold o r first → IsClearanceTold o r second → first ≡ second

@@ -97,7 +97,8 @@ pub fn message(alloc: Global, o: &Outcome) -> Result<String, NoMemory>
         Outcome::BadJson(fault) => return json_fault_message(alloc, *fault),
         Outcome::BadPoints(fault) => return points_fault_message(alloc, *fault),
         Outcome::Done => "done",
-        Outcome::Usage => "usage: cover validate|clean|simplify|union|node|regions|sample|locate|overlay",
+        Outcome::Usage =>
+            "usage: cover validate|clean|simplify|union|node|regions|sample|locate|overlay",
         Outcome::ReadFault => "cannot read",
         Outcome::WriteFault => "cannot write",
         Outcome::TooLong => "input is longer than 67108864 bytes",

@@ -24,11 +24,14 @@ mod holder;
 mod level;
 mod line;
 mod locator;
+mod near;
 mod next_ring;
 mod place;
+mod places;
 mod points;
 mod ring_index;
 mod run;
+mod tally;
 #[cfg(test)]
 mod tests;
 

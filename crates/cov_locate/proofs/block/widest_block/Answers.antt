@@ -1,7 +1,7 @@
 use Rattle.std.proofs.Common.{sym, subst, arith}
 use Rattle.box_tree.specs.Rect.{IsInside}
 use Rattle.cov_locate.proofs.Hulls.{hull_within, in_level}
-use Rattle.cov_locate.proofs.Placing.{placed_inward}
+use Rattle.cov_locate.proofs.Placing.{placed_inward, placed_within}
 use Rattle.cov_locate.proofs.block.widest_block.Goals as goal
 use Rattle.cov_locate.specs.Levels.{IsLevel}
 use Rattle.std.proofs.Common.{get_or}
@@ -15,7 +15,7 @@ index-requires c =
     omega (arith, block)
 
 pub loop-level-preserved : goal.loop-level-preserved
-loop-level-preserved c = λ boxes are ends.
+loop-level-preserved c = λ boxes p are ends inside.
     let level = c.level-item.result in
     let from = c.args.from in
     let to = c.end_of_block-to.result in
@@ -25,8 +25,9 @@ loop-level-preserved c = λ boxes are ends.
     record {
       some = omega (arith, end.begins);
       ends = end.within;
+      one = λ near. ?;
       placed = λ k d low high.
-          placed_inward (get_or boxes k d) b c.args.p c.place_of-placed.result
+          placed_inward (get_or boxes k d) b p c.place_of-placed.result
           (subst (IsInside (get_or boxes k d)) (sym c.index.ensures) (in_level boxes level from to k b d is end.block (omega (arith, end.within, ends)) low high))
-          c.place_of-placed.ensures;
+          (placed_within b c.args.round p c.place_of-placed.result inside c.place_of-placed.ensures);
     }

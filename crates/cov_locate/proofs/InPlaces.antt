@@ -1,0 +1,50 @@
+-- Places that are told one after the other, in any order.
+use Rattle.std.proofs.Common.{◌≡◌, refl, sym, ◌∙◌, ap, subst, ℕ, zero, suc, ◌+◌, ◌<◌, ◌≤◌, List, [], ◌∷◌, ◌++◌, length, get_or, take, drop, set, Contains, arith, inl, inr, ◌⊎◌}
+use Rattle.std.specs.List.{AllZip}
+use Rattle.std.proofs.lemmas.Bool.{cases_eq}
+use Rattle.std.proofs.lemmas.List.{get_or-set_same, get_or-set_other, get_or_default}
+use Rattle.std.proofs.lemmas.List.Elements.{Contains-append_cases}
+use Rattle.cov_locate.specs.Places.{IsRightAt}
+use Rattle.cov_locate.specs.Where.{IsWhere}
+use Rattle.cov_locate.specs.declared.place.Where.{Where}
+use Rattle.cov_types.specs.declared.coord.Coord.{Coord}
+use Rattle.cov_types.specs.declared.edge_use.EdgeUse.{EdgeUse}
+
+module _ (uses : List EdgeUse) (points : List Coord) where
+  -- the place that is written is right
+  pub right_here : (places : List Where) (m : ℕ) (p : Coord) (w : Where) → length places ≡ length points → p ≡ get_or points m p → IsWhere uses p w → IsRightAt uses points (set places m w) m
+  right_here places m p w count at is d e within =
+      let there : p ≡ get_or points m d = at ∙ get_or_default points m p d within in
+      subst (IsWhere uses (get_or points m d)) (sym (get_or-set_same places m w e (omega (arith, within, count)))) (subst (λ (q : Coord). IsWhere uses q w) there is)
+
+  -- the others stay right
+  pub right_still : (places : List Where) (m n : ℕ) (p : Coord) (w : Where) → length places ≡ length points → p ≡ get_or points m p → IsWhere uses p w → IsRightAt uses points places n → IsRightAt uses points (set places m w) n
+  right_still places m n p w count at is right =
+      elim (cases_eq n m) [
+        | inl e ↦ subst (IsRightAt uses points (set places m w)) (sym e) (right_here places m p w count at is)
+        | inr apart ↦ λ d e within. subst (IsWhere uses (get_or points n d)) (sym (get_or-set_other places m n w e apart)) (right d e within)
+      ]
+
+  -- each point waits or is right
+  abbrev pub AreTold : List ℕ → List Where → Type 0
+  AreTold rest places = (n : ℕ) → n < length points → Contains rest n ⊎ IsRightAt uses points places n
+
+  pub told_group : (rest group others : List ℕ) (old new : List Where) → rest ≡ group ++ others → ((n : ℕ) → Contains group n → IsRightAt uses points new n) → ((n : ℕ) → IsRightAt uses points old n → IsRightAt uses points new n)
+      → AreTold rest old → AreTold others new
+  told_group rest group others old new split own kept told n within =
+      elim (told n within) [
+        | inl waits ↦ elim (Contains-append_cases group others n (subst (λ (xs : List ℕ). Contains xs n) split waits)) [ inl now ↦ inr (own n now) | inr later ↦ inl later ]
+        | inr right ↦ inr (kept n right)
+      ]
+
+zip_all : {A B : Type 0} (R : A → B → Type 0) (xs : List A) (ys : List B) → length ys ≡ length xs → ((n : ℕ) (d : A) (e : B) → n < length xs → R (get_or xs n d) (get_or ys n e)) → AllZip R xs ys
+zip_all R [] [] count each = tt
+zip_all R [] (y ∷ ys) count each = absurd (omega (arith, count))
+zip_all R (x ∷ xs) [] count each = absurd (omega (arith, count))
+zip_all R (x ∷ xs) (y ∷ ys) count each = (each 0 x y (omega arith), zip_all R xs ys (omega (arith, count)) (λ n d e h. each (suc n) d e (omega (arith, h))))
+
+-- no point waits
+pub told_all : (uses : List EdgeUse) (points : List Coord) (rest : List ℕ) (places : List Where) → length places ≡ length points → length rest ≡ 0 → AreTold uses points rest places → AllZip (IsWhere uses) points places
+told_all uses points rest places count none told =
+    zip_all (IsWhere uses) points places count
+    (λ n d e within. elim (told n within) [ inl waits ↦ absurd (omega (arith, waits.1, none)) | inr right ↦ right d e within ])

@@ -1,15 +1,18 @@
 -- The rings near a point, one after the other.
-use Rattle.std.proofs.Common.{◌≡◌, sym, ◌∙◌, ap, subst, ℕ, suc, ◌+◌, ◌<◌, ◌≤◌, false, List, [], ◌∷◌, ◌++◌, length, get_or, drop, Contains, IsPermutation, arith, inl, inr, ◌⊎◌, append_assoc, append-nil}
+use Rattle.std.proofs.Common.{◌≡◌, refl, sym, ◌∙◌, ap, subst, ℕ, suc, ◌+◌, ◌<◌, ◌≤◌, false, List, [], ◌∷◌, ◌++◌, length, get_or, drop, Contains, IsPermutation, All, arith, inl, inr, ◌⊎◌, append_assoc, append-nil}
 use Rattle.std.specs.List.Sorted.{IsNonDecreasing}
 use Rattle.std.proofs.lemmas.Bool.{cases_lt}
 use Rattle.std.proofs.lemmas.List.{get_or_default}
-use Rattle.std.proofs.lemmas.List.Elements.{Contains-append_left, Contains-push}
+use Rattle.std.proofs.lemmas.List.Elements.{All-push, Contains-append_left, Contains-push}
 use Rattle.std.proofs.lemmas.List.Sorted.{Contains-permutation}
 use Rattle.box_tree.specs.Rect.{IsInside, box_of_point}
 use Rattle.box_tree.specs.declared.rect.Rect.{Rect}
 use Rattle.cov_locate.specs.Rings.{AreNumbersBelow}
 use Rattle.cov_types.specs.Range.{IsInRange}
-use Rattle.cov_locate.specs.Near.{AreFar, AreNear, IsNearRing}
+use Rattle.cov_locate.specs.Near.{AreFar, AreNear, IsNearRing, with_near}
+use Rattle.cov_locate.specs.declared.block.Placed.{Placed}
+use Rattle.cov_locate.specs.declared.block.Placed.TheVariants.{Beside, Higher, Near}
+use Rattle.cov_locate.proofs.Placing.{IsFar}
 use Rattle.cov_locate.specs.Parts.{IsRunTold}
 use Rattle.cov_locate.specs.declared.near.NearRing.{NearRing}
 use Rattle.cov_types.specs.declared.coord.Coord.{Coord}
@@ -118,9 +121,23 @@ module _ (uses : List EdgeUse) (runs : List RingRun) (round : Rect) (numbers : L
   passed_more from to found far so_far p hp inside k n d h absent =
       elim (cases_lt k from) [ inl early ↦ so_far p hp inside k n d early absent | inr late ↦ far p hp inside k n d late h ]
 
+  -- the numbers of one block more
+  pub search_more : (from to : ℕ) (found more : List ℕ) (number : ℕ) (placed : Placed) → from < length numbers → number ≡ get_or numbers from number → more ≡ with_near found placed number → (placed ≡ Near → to ≡ from + 1)
+      → (IsFar placed → (p : Coord) → IsInRange p → IsInside (box_of_point p) round → (k n : ℕ) (d : RingRun) → from ≤ k → k < to → IsRunTold uses (get_or runs (get_or numbers k n) d) p false)
+      → ArePassedFar uses runs round numbers from found → ArePassedFar uses runs round numbers to more
+  search_more from to found more number Beside within at is one far so_far = subst (ArePassedFar uses runs round numbers to) (sym is) (passed_more from to found (far tt) so_far)
+  search_more from to found more number Higher within at is one far so_far = subst (ArePassedFar uses runs round numbers to) (sym is) (passed_more from to found (far tt) so_far)
+  search_more from to found more number Near within at is one far so_far = subst (λ (m : ℕ). ArePassedFar uses runs round numbers m more) (sym (one refl)) (found_more from found more number within at is so_far)
+
   pub passed_all : (from : ℕ) (found sorted : List ℕ) → AreNumbersBelow (length runs) numbers → length numbers ≤ from → IsPermutation found sorted → ArePassedFar uses runs round numbers from found
       → (p : Coord) → IsInRange p → IsInside (box_of_point p) round → (n : ℕ) (d : RingRun) → n < length runs → ¬ Contains sorted n → IsRunTold uses (get_or runs n d) p false
   passed_all from found sorted all past moved so_far p hp inside n d within absent =
       let (k, inside_k, at) = all.each n within in
       subst (λ (m : ℕ). IsRunTold uses (get_or runs m d) p false) at
       (so_far p hp inside k n d (omega (arith, inside_k, past)) (λ has. absent (subst (λ (m : ℕ). Contains sorted m) at (Contains-permutation found sorted (get_or numbers k n) moved has))))
+
+-- all numbers stay below the count
+pub within_near : (count : ℕ) (found more : List ℕ) (number : ℕ) (placed : Placed) → more ≡ with_near found placed number → number < count → All (λ n. n < count) found → All (λ n. n < count) more
+within_near count found more number Beside is lt all = subst (All (λ n. n < count)) (sym is) all
+within_near count found more number Higher is lt all = subst (All (λ n. n < count)) (sym is) all
+within_near count found more number Near is lt all = subst (All (λ n. n < count)) (sym is) (All-push (λ (n : ℕ). n < count) found number all lt)

@@ -9,11 +9,12 @@ use Rattle.cov_locate.proofs.NextRing.{all_clear}
 use Rattle.cov_locate.specs.Near.{AreFar, AreNear, IsNearRing}
 use Rattle.cov_locate.specs.Parts.{AreClear, IsRunTold}
 use Rattle.cov_locate.specs.Rings.{IsNextRing}
-use Rattle.cov_locate.specs.Tally.{counted}
+use Rattle.cov_locate.specs.Tally.{IsToldWith, counted}
 use Rattle.cov_locate.specs.Where.{IsLeastHolder, IsOnEdge, IsWhere}
 use Rattle.cov_locate.specs.declared.near.NearRing.{NearRing}
 use Rattle.cov_locate.specs.declared.place.Where.TheVariants.{Member, Nowhere}
 use Rattle.cov_locate.specs.declared.tally.Tally.{Tally}
+use Rattle.cov_locate.specs.declared.tally.Told.{Told}
 use Rattle.cov_types.specs.Rings.{AreInRow, IsRing}
 use Rattle.cov_types.specs.declared.coord.Coord.{Coord}
 use Rattle.cov_types.specs.declared.edge_use.EdgeUse.{EdgeUse}
@@ -131,6 +132,18 @@ module _ (uses : List EdgeUse) (runs : List RingRun) (p : Coord) where
       tallied = λ off. ring_tallied passed t ring holds up is far told off (so_far.tallied off);
       near = are;
     }
+
+    -- one ring more, that may have been told before
+    pub told_with : (ring : NearRing) (so_far next : Told) (rest later : List NearRing) → IsToldWith uses ring p so_far next → IsNearRing uses runs p ring → AreFar uses runs p so_far.passed ring.number
+        → AreNear uses runs p (ring.number + 1) later → IsToldTo uses runs p so_far.passed so_far.tally rest → IsToldTo uses runs p next.passed next.tally later
+    told_with ring so_far next rest later step is far are before =
+        elim (cases_lt ring.number so_far.passed) [
+          | inl less ↦ subst (λ (t : Told). IsToldTo uses runs p t.passed t.tally later) (sym (step.skipped less)) (told_skipped so_far.passed ring.number so_far.tally rest later less before are)
+          | inr up ↦
+              let (holds, (told, tally_is)) = step.told up in
+              subst (λ (n : ℕ). IsToldTo uses runs p n next.tally later) (sym (step.passed up))
+              (subst (λ (t : Tally). IsToldTo uses runs p (ring.number + 1) t later) (sym tally_is) (told_more so_far.passed so_far.tally ring holds rest later up is far told before are))
+        ]
 
     -- all rings were told
     pub told_all : (passed : ℕ) (t : Tally) (rest : List NearRing) → IsToldTo uses runs p passed t rest → AreFar uses runs p passed (length runs) → IsWhere uses p (if t.odd then Member t.member else Nowhere)

@@ -1,8 +1,10 @@
 -- The rings near a point: those that may hold it, or have it on a segment.
-use Rattle.std.specs.Prelude.{◌≡◌, ℕ, ◌+◌, ◌<◌, ◌≤◌, false, List, [], ◌∷◌, length, map, slice_index_or}
+use Rattle.std.specs.Prelude.{◌≡◌, ℕ, ◌+◌, ◌<◌, ◌≤◌, false, List, [], ◌∷◌, ◌++◌, length, map, slice_index_or}
 use Rattle.box_tree.specs.Rect.{box_of_segment}
 use Rattle.cov_locate.specs.Blocks.{AreBlocks}
 use Rattle.cov_locate.specs.Parts.{IsRunTold}
+use Rattle.cov_locate.specs.declared.block.Placed.{Placed}
+use Rattle.cov_locate.specs.declared.block.Placed.TheVariants.{Beside, Higher, Near}
 use Rattle.cov_locate.specs.declared.near.NearRing.{NearRing}
 use Rattle.cov_types.specs.declared.coord.Coord.{Coord}
 use Rattle.cov_types.specs.declared.edge_use.EdgeUse.{EdgeUse}
@@ -22,3 +24,9 @@ pub record IsNearRing (uses : List EdgeUse) (runs : List RingRun) (p : Coord) (r
 abbrev pub AreNear : List EdgeUse → List RingRun → Coord → ℕ → List NearRing → Type 0
 AreNear uses runs p passed [] = AreFar uses runs p passed (length runs)
 AreNear uses runs p passed (ring ∷ rings) = IsNearRing uses runs p ring × AreFar uses runs p passed ring.number × AreNear uses runs p (ring.number + 1) rings
+
+-- with the number of a box, where that is near
+abbrev pub with_near : List ℕ → Placed → ℕ → List ℕ
+with_near numbers Beside number = numbers
+with_near numbers Higher number = numbers
+with_near numbers Near number = numbers ++ number ∷ []

@@ -1,11 +1,11 @@
-ghost use Rattle.std.specs.Prelude.{◌≡◌, ◌≤◌, ◌<◌, ℕ, false, All, Contains, IfOk, length, map, slice_index_or};
+ghost use Rattle.std.specs.Prelude.{◌≡◌, ◌≤◌, ◌<◌, ℕ, false, All, Contains, IfOk, OnOk, length, map, slice_index_or};
 ghost use Rattle.std.specs.List.Sorted.{IsNonDecreasing};
 ghost use Rattle.box_tree.specs.Rect.{IsInside, box_of_point, box_of_segment};
 ghost use Rattle.cov_types.specs.Range.{IsInRange};
 ghost use Rattle.cov_types.specs.declared.coord.Coord.{Coord};
 ghost use Rattle.cov_types.specs.declared.ring_run.RingRun.{RingRun};
 ghost use Rattle.cov_locate.specs.Blocks.{AreBlocks};
-ghost use Rattle.cov_locate.specs.Near.{AreNear, IsNearRing};
+ghost use Rattle.cov_locate.specs.Near.{AreNear, IsNearRing, with_near};
 ghost use Rattle.cov_locate.specs.Parts.{IsLevelled, IsRunTold};
 ghost use Rattle.cov_locate.specs.Rings.{IsRingIndex};
 
@@ -94,11 +94,22 @@ fn near_numbers(alloc: Global, index: &RingIndex, round: Rect) -> Result<Vec<usi
     let mut from = 0;
     while from < index.numbers.len() {
         let block = widest_block(&index.over_rings, from, index.numbers.len(), round);
-        if matches!(block.placed, Placed::Near) {
-            numbers.push(index.numbers[from])?;
-        }
+        add_near(&mut numbers, block.placed, index.numbers[from])?;
         from = block.to;
     }
     numbers.sort_unstable();
     Ok(numbers)
+}
+
+// Appends the number of a ring, where its box is near.
+fn add_near(numbers: &mut Vec<usize>, placed: Placed, number: usize) -> Result<(), NoMemory>
+    ensures { OnOk result (numbers.new.items ≡ with_near numbers.old.items placed number) }
+{
+    match placed {
+        Placed::Beside | Placed::Higher => Ok(()),
+        Placed::Near => {
+            numbers.push(number)?;
+            Ok(())
+        }
+    }
 }

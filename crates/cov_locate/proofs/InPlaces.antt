@@ -1,5 +1,5 @@
 -- Places that are told one after the other, in any order.
-use Rattle.std.proofs.Common.{◌≡◌, refl, sym, ◌∙◌, ap, subst, ℕ, zero, suc, ◌+◌, ◌<◌, ◌≤◌, List, [], ◌∷◌, ◌++◌, length, get_or, take, drop, set, Contains, arith, inl, inr, ◌⊎◌}
+use Rattle.std.proofs.Common.{◌≡◌, sym, subst, ℕ, suc, ◌<◌, List, [], ◌∷◌, ◌++◌, length, get_or, set, Contains, arith, inl, inr, ◌⊎◌}
 use Rattle.std.specs.List.{AllZip}
 use Rattle.std.proofs.lemmas.Bool.{cases_eq}
 use Rattle.std.proofs.lemmas.List.{get_or-set_same, get_or-set_other, get_or_default}
@@ -12,16 +12,15 @@ use Rattle.cov_types.specs.declared.edge_use.EdgeUse.{EdgeUse}
 
 module _ (uses : List EdgeUse) (points : List Coord) where
   -- the place that is written is right
-  pub right_here : (places : List Where) (m : ℕ) (p : Coord) (w : Where) → length places ≡ length points → p ≡ get_or points m p → IsWhere uses p w → IsRightAt uses points (set places m w) m
-  right_here places m p w count at is d e within =
-      let there : p ≡ get_or points m d = at ∙ get_or_default points m p d within in
-      subst (IsWhere uses (get_or points m d)) (sym (get_or-set_same places m w e (omega (arith, within, count)))) (subst (λ (q : Coord). IsWhere uses q w) there is)
+  pub right_here : (places : List Where) (m : ℕ) (c : Coord) (w : Where) → length places ≡ length points → IsWhere uses (get_or points m c) w → IsRightAt uses points (set places m w) m
+  right_here places m c w count is d e within =
+      subst (IsWhere uses (get_or points m d)) (sym (get_or-set_same places m w e (omega (arith, within, count)))) (subst (λ (q : Coord). IsWhere uses q w) (get_or_default points m c d within) is)
 
   -- the others stay right
-  pub right_still : (places : List Where) (m n : ℕ) (p : Coord) (w : Where) → length places ≡ length points → p ≡ get_or points m p → IsWhere uses p w → IsRightAt uses points places n → IsRightAt uses points (set places m w) n
-  right_still places m n p w count at is right =
+  pub right_still : (places : List Where) (m n : ℕ) (c : Coord) (w : Where) → length places ≡ length points → IsWhere uses (get_or points m c) w → IsRightAt uses points places n → IsRightAt uses points (set places m w) n
+  right_still places m n c w count is right =
       elim (cases_eq n m) [
-        | inl e ↦ subst (IsRightAt uses points (set places m w)) (sym e) (right_here places m p w count at is)
+        | inl e ↦ subst (IsRightAt uses points (set places m w)) (sym e) (right_here places m c w count is)
         | inr apart ↦ λ d e within. subst (IsWhere uses (get_or points n d)) (sym (get_or-set_other places m n w e apart)) (right d e within)
       ]
 

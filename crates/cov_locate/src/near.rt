@@ -33,7 +33,8 @@ pub fn near_rings(alloc: Global, index: &RingIndex, round: Rect) -> Result<Vec<N
     let numbers = near_numbers(alloc, index, round)?;
     let mut near = Vec::with_capacity(alloc, numbers.len())?;
     for number in &numbers {
-        near.push(near_ring(alloc, index, *number, round)?)?;
+        let ring = near_ring(alloc, index, *number, round)?;
+        near.push(ring)?;
     }
     Ok(near)
 }

@@ -63,15 +63,15 @@ fn place_group(
     index: &RingIndex,
     points: &[Coord],
     group: &[usize],
-    places: &mut [Where],
+    places: &mut Vec<Where>,
 ) -> Result<(), NoMemory>
     requires index { IsRingIndex index.now }
     requires points { All IsInRange points.now }
     requires some { 0 < length group.now }
     requires within { All (λ n. n < length points.now) group.now }
-    requires places { length places.old ≡ length points.now }
-    ensures group { OnOk result ((n : ℕ) → Contains group.now n → IsRightAt index.now.outline.uses.items points.now places.new n) }
-    ensures others { OnOk result ((n : ℕ) → IsRightAt index.now.outline.uses.items points.now places.old n → IsRightAt index.now.outline.uses.items points.now places.new n) }
+    requires places { length places.old.items ≡ length points.now }
+    ensures group { OnOk result ((n : ℕ) → Contains group.now n → IsRightAt index.now.outline.uses.items points.now places.new.items n) }
+    ensures others { OnOk result ((n : ℕ) → IsRightAt index.now.outline.uses.items points.now places.old.items n → IsRightAt index.now.outline.uses.items points.now places.new.items n) }
 {
     let round = box_about(points, group);
     let near = near_rings(alloc, index, round)?;

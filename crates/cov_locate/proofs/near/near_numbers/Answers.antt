@@ -12,7 +12,7 @@ pub widest_block-block-requires-clause-levels : goal.widest_block-block-requires
 widest_block-block-requires-clause-levels c =
     let about = c.requires.ring_levels in
     let count = about.boxes_are.count in
-    (about.boxes, (subst (All (IsLevel about.boxes)) (sym c.deref.ensures.value) about.levels_are, omega (arith, count, c.len-2.ensures, c.deref.ensures.len)))
+    (about.boxes, (subst (All (IsLevel about.boxes)) (sym c.deref.ensures.value) about.levels_are, omega (arith, count, c.len-in-loop-from.ensures, c.deref.ensures.len)))
 
 pub loop-from-preserved : goal.loop-from-preserved
 loop-from-preserved c =
@@ -32,7 +32,7 @@ loop-from-preserved c =
     let told = c.widest_block-block.ensures about.boxes in
     let levels = subst (All (IsLevel about.boxes)) (sym c.deref.ensures.value) about.levels_are in
     let one_block : (p : Coord) → IsInside (box_of_point p) c.args.round → IsBlock about.boxes from (length numbers) p block =
-    λ p inside. (let b = told p levels (omega (arith, count, c.len-2.ensures, c.deref.ensures.len)) inside in record { some = b.some; ends = omega (arith, b.ends, c.len-2.ensures); one = b.one; placed = b.placed }) in (
+    λ p inside. (let b = told p levels (omega (arith, count, c.len-in-loop-from.ensures, c.deref.ensures.len)) inside in record { some = b.some; ends = omega (arith, b.ends, c.len-in-loop-from.ensures); one = b.one; placed = b.placed }) in (
       within_near (length runs) found more number block.placed c.in_ok-add_near.ensures (subst (λ (m : ℕ). m < length runs) (sym at) (c.requires.numbers_are.within from number within)) c.loop-from.invariant.0,
       search_more uses runs c.args.round numbers from block.to found more number block.placed within at c.in_ok-add_near.ensures ?
           (λ far p hp inside k n d low high.

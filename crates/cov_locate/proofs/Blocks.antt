@@ -1,5 +1,5 @@
 -- Blocks of a run, one after the other.
-use Rattle.std.proofs.Common.{◌≡◌, sym, ◌∙◌, ap, subst, ℕ, suc, ◌+◌, ◌<◌, ◌≤◌, List, [], ◌∷◌, ◌++◌, length, get_or, drop, arith, append_assoc, append-nil}
+use Rattle.std.proofs.Common.{◌≡◌, sym, ◌∙◌, ap, subst, ℕ, zero, suc, ◌+◌, ◌<◌, ◌≤◌, List, [], ◌∷◌, ◌++◌, length, get_or, drop, arith, append_assoc, append-nil}
 use Rattle.box_tree.specs.declared.rect.Rect.{Rect}
 use Rattle.cov_locate.specs.Blocks.{IsBlock, AreBlocks}
 use Rattle.cov_locate.specs.declared.block.Block.{Block}
@@ -7,16 +7,23 @@ use Rattle.cov_types.specs.declared.coord.Coord.{Coord}
 
 module _ (boxes : List Rect) (end : ℕ) (p : Coord) where
   -- the block with this number and those behind it
+  block_at : (from i : ℕ) (d : Block) (blocks : List Block) → i < length blocks → AreBlocks boxes from end p (drop i blocks)
+      → IsBlock boxes from end p (get_or blocks i d) × AreBlocks boxes (get_or blocks i d).to end p (drop (suc i) blocks)
+  block_at from i d [] within are = absurd (omega (arith, within))
+  block_at from zero d (block ∷ blocks) within are = are
+  block_at from (suc i) d (block ∷ blocks) within are = block_at from i d blocks (omega (arith, within)) are
+
   pub next_block : (from i : ℕ) (d : Block) (blocks : List Block) → i < length blocks → AreBlocks boxes from end p (drop i blocks)
       → IsBlock boxes from end p (get_or blocks i d) × AreBlocks boxes (get_or blocks i d).to end p (drop (i + 1) blocks)
-  next_block from i d [] within are = absurd (omega (arith, within))
-  next_block from 0 d (block ∷ blocks) within are = are
-  next_block from (suc i) d (block ∷ blocks) within are = next_block from i d blocks (omega (arith, within)) are
+  next_block from i d blocks within are =
+      let at = block_at from i d blocks within are in
+      let more : suc i ≡ i + 1 = omega arith in
+      (at.0, subst (λ (n : ℕ). AreBlocks boxes (get_or blocks i d).to end p (drop n blocks)) more at.1)
 
   -- no block is left
   pub no_block : (from i : ℕ) (blocks : List Block) → length blocks ≤ i → AreBlocks boxes from end p (drop i blocks) → from ≡ end
   no_block from i [] past are = are
-  no_block from 0 (block ∷ blocks) past are = absurd (omega (arith, past))
+  no_block from zero (block ∷ blocks) past are = absurd (omega (arith, past))
   no_block from (suc i) (block ∷ blocks) past are = no_block from i blocks (omega (arith, past)) are
 
   -- one block more; what is still needed begins where it ends

@@ -1,9 +1,11 @@
 -- Places that are told one after the other, in any order.
-use Rattle.std.proofs.Common.{◌≡◌, sym, subst, ℕ, suc, ◌<◌, List, [], ◌∷◌, ◌++◌, length, get_or, set, Contains, arith, inl, inr, ◌⊎◌}
+use Rattle.std.proofs.Common.{◌≡◌, sym, ◌∙◌, ap, subst, ℕ, suc, ◌+◌, ◌≤◌, ◌<◌, List, [], ◌∷◌, ◌++◌, length, get_or, set, Contains, arith, inl, inr, ◌⊎◌}
 use Rattle.std.specs.List.{AllZip}
 use Rattle.std.proofs.lemmas.Bool.{cases_eq}
 use Rattle.std.proofs.lemmas.List.{get_or-set_same, get_or-set_other, get_or_default}
 use Rattle.std.proofs.lemmas.List.Elements.{Contains-append_cases}
+use Rattle.box_tree.specs.Rect.{IsInside, box_of_point}
+use Rattle.box_tree.specs.declared.rect.Rect.{Rect}
 use Rattle.cov_locate.specs.Places.{IsRightAt}
 use Rattle.cov_locate.specs.Where.{IsWhere}
 use Rattle.cov_locate.specs.declared.place.Where.{Where}
@@ -35,6 +37,14 @@ module _ (uses : List EdgeUse) (points : List Coord) where
         | inl waits ↦ elim (Contains-append_cases group others n (subst (λ (xs : List ℕ). Contains xs n) split waits)) [ inl now ↦ inr (own n now) | inr later ↦ inl later ]
         | inr right ↦ inr (kept n right)
       ]
+
+-- the point that was looked at last is in the box
+pub point_inside : (points : List Coord) (group : List ℕ) (i k n : ℕ) (c d : Coord) (b : Rect) → k < i + 1 → i ≤ k → i < length group → get_or group i 0 < length points
+    → IsInside (box_of_point (get_or points (get_or group i 0) c)) b → IsInside (box_of_point (get_or points (get_or group k n) d)) b
+point_inside points group i k n c d b below above within inside h =
+    let here : i ≡ k = omega (arith, below, above) in
+    let same : get_or group i 0 ≡ get_or group k n = get_or_default group i 0 n within ∙ ap (λ (j : ℕ). get_or group j n) here in
+    subst (λ (m : ℕ). IsInside (box_of_point (get_or points m d)) b) same (subst (λ (q : Coord). IsInside (box_of_point q) b) (get_or_default points (get_or group i 0) c d inside) h)
 
 zip_all : {A B : Type 0} (R : A → B → Type 0) (xs : List A) (ys : List B) → length ys ≡ length xs → ((n : ℕ) (d : A) (e : B) → n < length xs → R (get_or xs n d) (get_or ys n e)) → AllZip R xs ys
 zip_all R [] [] count each = tt

@@ -1,5 +1,5 @@
 -- The rings near a point, one after the other.
-use Rattle.std.proofs.Common.{◌≡◌, refl, sym, ◌∙◌, ap, subst, ℕ, suc, ◌+◌, ◌<◌, ◌≤◌, false, List, [], ◌∷◌, ◌++◌, length, get_or, drop, Contains, IsPermutation, All, arith, inl, inr, ◌⊎◌, append_assoc, append-nil}
+use Rattle.std.proofs.Common.{◌≡◌, refl, sym, ◌∙◌, ap, subst, ℕ, zero, suc, ◌+◌, ◌<◌, ◌≤◌, false, List, [], ◌∷◌, ◌++◌, length, get_or, drop, Contains, IsPermutation, All, arith, inl, inr, ◌⊎◌, append_assoc, append-nil}
 use Rattle.std.specs.List.Sorted.{IsNonDecreasing}
 use Rattle.std.proofs.lemmas.Bool.{cases_lt}
 use Rattle.std.proofs.lemmas.List.{get_or_default}
@@ -29,21 +29,28 @@ module _ (uses : List EdgeUse) (runs : List RingRun) (p : Coord) where
       absent (k, inside, at) = elim (apart k n inside) [ inl below ↦ omega (arith, below, at, low) | inr above ↦ omega (arith, above, at, high) ]
 
   -- the ring with this number and those behind it
+  near_at : (passed i : ℕ) (d : NearRing) (near : List NearRing) → i < length near → AreNear uses runs p passed (drop i near)
+      → IsNearRing uses runs p (get_or near i d) × AreFar uses runs p passed (get_or near i d).number × AreNear uses runs p ((get_or near i d).number + 1) (drop (suc i) near)
+  near_at passed i d [] within are = absurd (omega (arith, within))
+  near_at passed zero d (ring ∷ near) within are = are
+  near_at passed (suc i) d (ring ∷ near) within are = near_at passed i d near (omega (arith, within)) are
+
   pub next_near : (passed i : ℕ) (d : NearRing) (near : List NearRing) → i < length near → AreNear uses runs p passed (drop i near)
       → IsNearRing uses runs p (get_or near i d) × AreFar uses runs p passed (get_or near i d).number × AreNear uses runs p ((get_or near i d).number + 1) (drop (i + 1) near)
-  next_near passed i d [] within are = absurd (omega (arith, within))
-  next_near passed 0 d (ring ∷ near) within are = are
-  next_near passed (suc i) d (ring ∷ near) within are = next_near passed i d near (omega (arith, within)) are
+  next_near passed i d near within are =
+      let at = near_at passed i d near within are in
+      let more : suc i ≡ i + 1 = omega arith in
+      (at.0, at.1, subst (λ (n : ℕ). AreNear uses runs p ((get_or near i d).number + 1) (drop n near)) more at.2)
 
   -- no ring is left
   pub none_near : (passed i : ℕ) (near : List NearRing) → length near ≤ i → AreNear uses runs p passed (drop i near) → AreFar uses runs p passed (length runs)
   none_near passed i [] past are = are
-  none_near passed 0 (ring ∷ near) past are = absurd (omega (arith, past))
+  none_near passed zero (ring ∷ near) past are = absurd (omega (arith, past))
   none_near passed (suc i) (ring ∷ near) past are = none_near passed i near (omega (arith, past)) are
 
   -- from a greater number on
   pub near_up : (low high : ℕ) (near : List NearRing) → low ≤ high → AreNear uses runs p low near → AreNear uses runs p high near
-  near_up low high [] le are n d up below = are n d (omega (arith, le, up)) below
+  near_up low high [] le are = λ n d up below. are n d (omega (arith, le, up)) below
   near_up low high (ring ∷ near) le are = (are.0, λ n d up below. are.1 n d (omega (arith, le, up)) below, are.2)
 
   -- one ring more; what is still needed begins behind its number

@@ -1,5 +1,5 @@
 -- Where boxes lie about a point.
-use Rattle.std.specs.Prelude.{◌≡◌, ℕ, ◌+◌, ◌<◌, ◌≤◌, List, [], ◌∷◌, slice_index_or, ◌<ℤ◌, ◌⊎◌}
+use Rattle.std.specs.Prelude.{◌≡◌, ℕ, Bool, true, false, ◌+◌, ◌<◌, ◌≤◌, List, [], ◌∷◌, slice_index_or, ◌<ℤ◌, ◌⊎◌}
 use Rattle.box_tree.specs.declared.rect.Rect.{Rect}
 use Rattle.cov_locate.specs.declared.block.Block.{Block}
 use Rattle.cov_locate.specs.declared.block.Placed.{Placed}
@@ -17,6 +17,11 @@ abbrev pub IsPlacedAbout : Rect → Rect → Placed → Type 0
 IsPlacedAbout b round Beside = (round.hi.x <ℤ b.lo.x) ⊎ ((b.hi.x <ℤ round.lo.x) ⊎ (b.hi.y <ℤ round.lo.y))
 IsPlacedAbout b round Higher = round.hi.y <ℤ b.lo.y
 IsPlacedAbout b round Near = Unit {0}
+
+abbrev pub is_near : Placed → Bool
+is_near Beside = false
+is_near Higher = false
+is_near Near = true
 
 -- the block has some boxes, one where it is near, and all of them are so placed
 pub record IsBlock (boxes : List Rect) (from end : ℕ) (p : Coord) (block : Block) : Type 0 where

@@ -3,7 +3,7 @@ ghost use Rattle.box_tree.specs.declared.rect.Rect.{Rect};
 ghost use Rattle.cov_locate.specs.Levels.{IsLevel};
 ghost use Rattle.box_tree.specs.Rect.{IsInside, box_of_point};
 ghost use Rattle.cov_types.specs.declared.coord.Coord.{Coord};
-ghost use Rattle.cov_locate.specs.Blocks.{IsBlock, IsPlacedAbout};
+ghost use Rattle.cov_locate.specs.Blocks.{IsBlock, IsPlacedAbout, is_near};
 
 use crate::level::Level;
 use box_tree::Rect;
@@ -44,7 +44,10 @@ pub struct Block {
 pub fn widest_block(levels: &[Level], from: usize, end: usize, round: Rect) -> Block
     requires some { from < end }
     requires levels { (boxes : List Rect) × (All (IsLevel boxes) levels.now × (end ≤ length boxes)) }
-    ensures { (boxes : List Rect) (p : Coord) → All (IsLevel boxes) levels.now → end ≤ length boxes → IsInside (box_of_point p) round → IsBlock boxes from end p result }
+    ensures some { from < result.to }
+    ensures ends { result.to ≤ end }
+    ensures one { result.placed ≡ Placed.Near → result.to ≡ from + 1 }
+    ensures block { (boxes : List Rect) (p : Coord) → All (IsLevel boxes) levels.now → end ≤ length boxes → IsInside (box_of_point p) round → IsBlock boxes from end p result }
 {
     let mut block = Block {
         to: from + 1,
@@ -52,13 +55,19 @@ pub fn widest_block(levels: &[Level], from: usize, end: usize, round: Rect) -> B
     };
     for level in levels {
         let placed = place_of(level.hulls[from / level.width], round);
-        if matches!(placed, Placed::Near) {
+        if is_near(placed) {
             return block;
         }
         let to = end_of_block(level.width, from, end);
         block = Block { to, placed };
     }
     block
+}
+
+fn is_near(placed: Placed) -> bool
+    ensures { result ≡ is_near placed }
+{
+    matches!(placed, Placed::Near)
 }
 
 // The end of the block of so many boxes that a place is in, or of the list where that comes first.

@@ -70,6 +70,7 @@ fn place_group(
     requires some { 0 < length group.now }
     requires within { All (λ n. n < length points.now) group.now }
     requires places { length places.old.items ≡ length points.now }
+    ensures length { OnOk result (length places.new.items ≡ length points.now) }
     ensures group { OnOk result ((n : ℕ) → Contains group.now n → IsRightAt index.now.outline.uses.items points.now places.new.items n) }
     ensures others { OnOk result ((n : ℕ) → IsRightAt index.now.outline.uses.items points.now places.old.items n → IsRightAt index.now.outline.uses.items points.now places.new.items n) }
 {

@@ -1,4 +1,4 @@
-ghost use Rattle.std.specs.Prelude.{◌≡◌, ◌≤◌, ◌<◌, All, MatchOption, map, slice_index_or};
+ghost use Rattle.std.specs.Prelude.{◌≡◌, ◌≤◌, ◌<◌, ◌+◌, All, MatchOption, map, slice_index_or};
 ghost use Rattle.box_tree.specs.Rect.{box_of_segment};
 ghost use Rattle.cov_locate.specs.Blocks.{AreBlocks, IsBlock};
 ghost use Rattle.cov_types.specs.Range.{IsInRange, IsSegInRange};
@@ -118,7 +118,8 @@ fn part_of_one(outline: &Outline, run: RingRun, from: usize, p: Coord) -> Option
     requires point { IsInRange p }
     requires begins { run.from ≤ from }
     requires some { from < run.to }
-    ensures { MatchOption result (IsOnEdge outline.now.uses.items p) (λ part. IsPart outline.now.uses.items run from p part) }
+    ensures told { MatchOption result (IsOnEdge outline.now.uses.items p) (λ part. IsPart outline.now.uses.items run from p part) }
+    ensures to { MatchOption result (Unit {0}) (λ part. part.to ≡ from + 1) }
 {
     let seg = outline.uses[from].seg;
     if on_segment(p, seg) {

@@ -23,10 +23,10 @@ loop-from-preserved c =
     let run = c.args.run in
     let boxes = map (λ (u : EdgeUse). box_of_segment u.seg) uses in
     let block = c.widest_block-block.result in (
-      ?,
+      c.widest_block-block.ensures.ends,
       λ p inside later h.
           blocks_more boxes run.to p run.from c.loop-from.from c.loop-from.blocks.items c.push.new.self.items block c.in_ok-push.ensures.items
-          (c.widest_block-block.ensures boxes p c.requires.levelled.levels_are (boxes_end uses run.to c.requires.ends) inside) (c.loop-from.invariant.1 p inside) later h,
+          (c.widest_block-block.ensures.block boxes p c.requires.levelled.levels_are (boxes_end uses run.to c.requires.ends) inside) (c.loop-from.invariant.1 p inside) later h,
     )
 
 pub returns : goal.returns

@@ -29,12 +29,11 @@ loop-from-preserved c =
     let more = c.add_near.new.numbers.items in
     let within : from < length numbers = omega (arith, c.loop-from-test.true, c.len.ensures) in
     let at : number ≡ get_or numbers from number = c.index.ensures in
-    let told = c.widest_block-block.ensures about.boxes in
     let levels = subst (All (IsLevel about.boxes)) (sym c.deref.ensures.value) about.levels_are in
     let one_block : (p : Coord) → IsInside (box_of_point p) c.args.round → IsBlock about.boxes from (length numbers) p block =
-    λ p inside. (let b = told p levels (omega (arith, count, c.len-in-loop-from.ensures, c.deref.ensures.len)) inside in record { some = b.some; ends = omega (arith, b.ends, c.len-in-loop-from.ensures); one = b.one; placed = b.placed }) in (
+    λ p inside. (let b = c.widest_block-block.ensures.block about.boxes p levels (omega (arith, count, c.len-in-loop-from.ensures, c.deref.ensures.len)) inside in record { some = b.some; ends = omega (arith, b.ends, c.len-in-loop-from.ensures); one = b.one; placed = b.placed }) in (
       within_near (length runs) found more number block.placed c.in_ok-add_near.ensures (subst (λ (m : ℕ). m < length runs) (sym at) (c.requires.numbers_are.within from number within)) c.loop-from.invariant.0,
-      search_more uses runs c.args.round numbers from block.to found more number block.placed within at c.in_ok-add_near.ensures ?
+      search_more uses runs c.args.round numbers from block.to found more number block.placed within at c.in_ok-add_near.ensures c.widest_block-block.ensures.one
           (λ far p hp inside k n d low high.
           let b = one_block p inside in
           let m = get_or numbers k n in

@@ -19,7 +19,7 @@ returns-in-Beside c =
     let count = about.boxes_are.count in
     let placed = c.widest_block-block.result.placed in
     let far : IsFar placed = elim c.in-Beside.is [ inl beside ↦ subst IsFar (sym beside) tt | inr higher ↦ subst IsFar (sym higher) tt ] in
-    let block = c.widest_block-block.ensures about.boxes p (subst (All (IsLevel about.boxes)) (sym c.deref.ensures.value) about.levels_are) (omega (arith, count, c.len.ensures, c.deref.ensures.len)) (subst (IsInside (box_of_point p)) (sym c.of_point-round.ensures) (inside_refl (box_of_point p))) in
+    let block = c.widest_block-block.ensures.block about.boxes p (subst (All (IsLevel about.boxes)) (sym c.deref.ensures.value) about.levels_are) (omega (arith, count, c.len.ensures, c.deref.ensures.len)) (subst (IsInside (box_of_point p)) (sym c.of_point-round.ensures) (inside_refl (box_of_point p))) in
     let b = box_of_point p in
     let end : to ≤ length numbers = omega (arith, block.ends, c.len.ensures, c.deref.ensures.len) in
     record {

@@ -1,10 +1,14 @@
-use Rattle.std.proofs.Common.{◌≡◌, ◌<◌, ◌∙◌, ◌+◌, ℕ, length, get_or, set, length-set, sym, ap, subst, arith, inl, inr}
+use Rattle.std.proofs.Common.{◌≡◌, ◌<◌, ◌∙◌, ◌+◌, ℕ, pos, length, get_or, set, length-set, sym, ap, subst, arith, inl, inr}
 use Rattle.std.proofs.lemmas.Bool.{cases_lt}
 use Rattle.std.proofs.lemmas.List.{get_or_default}
 use Rattle.cov_locate.proofs.InPlaces.{right_here, right_still}
 use Rattle.cov_locate.proofs.places.place_group.Goals as goal
 use Rattle.cov_locate.specs.Near.{AreNear}
+use Rattle.cov_types.specs.declared.coord.Coord.{Coord}
 use Rattle.cov_locate.specs.Places.{IsRightAt}
+
+abbrev origin : Coord
+origin = record { x = pos 0; y = pos 0 }
 
 pub place_among-requires-clause-near : goal.place_among-requires-clause-near
 place_among-requires-clause-near c =
@@ -12,8 +16,8 @@ place_among-requires-clause-near c =
     let i = c.loop-number.number-index in
     let number : ℕ = get_or c.args.group.now i 0 in
     let within : number < length c.args.points.now = c.requires.within i 0 c.loop-number-test.true in
-    subst (λ near. AreNear outline.uses.items outline.rings.items _ 0 near) (sym c.deref.ensures.value)
-    (c.in_ok-near.ensures _ (c.requires.points number _ within) (c.box_about-round.ensures i 0 _ c.loop-number-test.true))
+    let p : Coord = get_or c.args.points.now number origin in
+    subst (AreNear outline.uses.items outline.rings.items p 0) (sym c.deref.ensures.value) (c.in_ok-near.ensures p (c.requires.points number origin within) (c.box_about-round.ensures i 0 origin c.loop-number-test.true))
 
 pub loop-number-init : goal.loop-number-init
 loop-number-init c = (c.requires.places, λ n right. right, λ k e h. absurd (omega (arith, h)))
@@ -28,15 +32,18 @@ loop-number-preserved c =
     let place = c.place_among.result in
     let (count, still, own) = c.loop-number.invariant in (
       length-set places number place ∙ count,
-      λ n right. right_still uses points places number n _ place count c.place_among.ensures (still n right),
+      λ n right. right_still uses points places number n origin place count c.place_among.ensures (still n right),
       λ k e h. elim (cases_lt k i) [
-        | inl early ↦ right_still uses points places number (get_or c.args.group.now k e) _ place count c.place_among.ensures (own k e early)
+        | inl early ↦ right_still uses points places number (get_or c.args.group.now k e) origin place count c.place_among.ensures (own k e early)
         | inr late ↦
             let here : i ≡ k = omega (arith, h, late) in
             let same : number ≡ get_or c.args.group.now k e = get_or_default c.args.group.now i 0 e c.loop-number-test.true ∙ ap (λ (j : ℕ). get_or c.args.group.now j e) here in
-            subst (IsRightAt uses points (set places number place)) same (right_here uses points places number _ place count c.place_among.ensures)
+            subst (IsRightAt uses points (set places number place)) same (right_here uses points places number origin place count c.place_among.ensures)
       ],
     )
+
+pub returns-clause-length : goal.returns-clause-length
+returns-clause-length c = c.loop-number.invariant.0
 
 pub returns-clause-group : goal.returns-clause-group
 returns-clause-group c = λ n (k, within, at). subst (IsRightAt c.args.index.now.outline.uses.items c.args.points.now c.loop-number.places.items) at (c.loop-number.invariant.2 k n (omega (arith, within, c.loop-number-test.false, c.loop-number.auto.number-index-end)))

@@ -6,17 +6,14 @@ use Rattle.cov_locate.proofs.Passing.{clear_joined}
 use Rattle.cov_locate.proofs.run.blocks_hold.Goals as goal
 use Rattle.cov_locate.specs.Blocks.{AreBlocks}
 use Rattle.cov_locate.specs.Parts.{AreClear}
-use Rattle.parity_laws.proofs.Parts.{part-joined, part-empty}
+use Rattle.parity_laws.proofs.Parts.{part-joined}
 use Rattle.parity_laws.specs.Paths.{differ}
 use Rattle.parity_laws.specs.Runs.{part_holds}
 use Rattle.plane.specs.Point.{at_coord}
 
-pub part_from-part-requires-clause-block : goal.part_from-part-requires-clause-block
-part_from-part-requires-clause-block c =
+pub part_from-requires-clause-block : goal.part_from-requires-clause-block
+part_from-requires-clause-block c =
     (next_block (map (λ (u : EdgeUse). box_of_segment u.seg) c.args.outline.now.uses.items) c.args.run.to c.args.p c.loop-block.from c.loop-block.block-index _ c.args.blocks.now c.loop-block-test.true c.loop-block.invariant.3).0
-
-pub loop-block-init : goal.loop-block-init
-loop-block-init c = let x = c.requires.blocks in ?
 
 pub loop-block-preserved : goal.loop-block-preserved
 loop-block-preserved c =

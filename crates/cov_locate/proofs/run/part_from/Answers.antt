@@ -1,4 +1,6 @@
 use Rattle.std.proofs.Common.{◌≡◌, get_or, map, sym, ap, ◌∙◌, subst, arith}
+use Rattle.std.specs.Prelude.{MatchOption}
+use Rattle.cov_locate.specs.declared.run.Part.{Part}
 use Rattle.box_tree.specs.Rect.{box_of_segment}
 use Rattle.cov_types.specs.declared.edge_use.EdgeUse.{EdgeUse}
 use Rattle.cov_locate.proofs.Passing.{ArePlaced, placed_uses, placed_clear, beside_holds, above_part}
@@ -45,3 +47,6 @@ returns-in-Higher-clause-told c =
     let are : ArePlaced uses from to p Higher =
     placed_uses uses from to p Higher (omega (arith, block.ends, c.requires.ring.uses_end)) (λ k b low high. subst (IsPlaced (get_or boxes k b) p) c.in-Higher.is (block.placed k b low high)) in
     above_part uses outline.starts.items c.args.run from to p part c.requires.uses_in_range c.requires.ring c.requires.begins block.some block.ends are c.part_above.ensures.to (c.part_above.ensures.holds p)
+
+pub returns-in-Near-clause-to : goal.returns-in-Near-clause-to
+returns-in-Near-clause-to c = subst (λ n. MatchOption c.part_of_one.result (Unit {0}) (λ (part : Part). part.to ≡ n)) (sym (c.requires.block.one c.in-Near.is)) c.part_of_one.ensures.to

@@ -12,10 +12,10 @@ pub widest_block-block-requires-clause-levels : goal.widest_block-block-requires
 widest_block-block-requires-clause-levels c =
     (map (λ (u : EdgeUse). box_of_segment u.seg) c.args.outline.now.uses.items, (c.requires.levelled.levels_are, boxes_end c.args.outline.now.uses.items c.args.run.to c.requires.ring.uses_end))
 
-pub part_from-part-requires-clause-block : goal.part_from-part-requires-clause-block
-part_from-part-requires-clause-block c =
+pub part_from-requires-clause-block : goal.part_from-requires-clause-block
+part_from-requires-clause-block c =
     let p = c.args.p in
-    c.widest_block-block.ensures (map (λ (u : EdgeUse). box_of_segment u.seg) c.args.outline.now.uses.items) p c.requires.levelled.levels_are (boxes_end c.args.outline.now.uses.items c.args.run.to c.requires.ring.uses_end)
+    c.widest_block-block.ensures.block (map (λ (u : EdgeUse). box_of_segment u.seg) c.args.outline.now.uses.items) p c.requires.levelled.levels_are (boxes_end c.args.outline.now.uses.items c.args.run.to c.requires.ring.uses_end)
     (subst (IsInside (box_of_point p)) (sym c.of_point.ensures) (inside_refl (box_of_point p)))
 
 pub loop-from-preserved : goal.loop-from-preserved

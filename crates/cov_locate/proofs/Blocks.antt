@@ -22,7 +22,8 @@ module _ (boxes : List Rect) (end : ℕ) (p : Coord) where
 
   -- no block is left
   pub no_block : (from i : ℕ) (blocks : List Block) → length blocks ≤ i → AreBlocks boxes from end p (drop i blocks) → from ≡ end
-  no_block from i [] past are = are
+  no_block from zero [] past are = are
+  no_block from (suc i) [] past are = are
   no_block from zero (block ∷ blocks) past are = absurd (omega (arith, past))
   no_block from (suc i) (block ∷ blocks) past are = no_block from i blocks (omega (arith, past)) are
 

@@ -44,7 +44,8 @@ module _ (uses : List EdgeUse) (runs : List RingRun) (p : Coord) where
 
   -- no ring is left
   pub none_near : (passed i : ℕ) (near : List NearRing) → length near ≤ i → AreNear uses runs p passed (drop i near) → AreFar uses runs p passed (length runs)
-  none_near passed i [] past are = are
+  none_near passed zero [] past are = are
+  none_near passed (suc i) [] past are = are
   none_near passed zero (ring ∷ near) past are = absurd (omega (arith, past))
   none_near passed (suc i) (ring ∷ near) past are = none_near passed i near (omega (arith, past)) are
 

@@ -31,10 +31,10 @@ fn rows_of(alloc: Global, locator: &Locator, points: &[Coord]) -> Result<Vec<u8>
     requires { All IsInRange points.now }
     ensures { IfOk result (λ text. ArePlaceRows locator.now points.now text.items) }
 {
+    let places = locator.places(alloc, points)?;
     let mut text = Vec::new(alloc);
-    for p in points {
-        let place = locator.at(*p);
-        append_place(&mut text, place)?;
+    for place in &places {
+        append_place(&mut text, *place)?;
     }
     Ok(text)
 }

@@ -1,5 +1,5 @@
 -- The tally of the rings near a point, one ring after the other.
-use Rattle.std.proofs.Common.{◌≡◌, refl, sym, ◌∙◌, ap, subst, ℕ, ◌+◌, ◌<◌, ◌≤◌, ◌==◌, Bool, true, false, not, cond, List, length, get_or, drop, All, arith, inl, inr}
+use Rattle.std.proofs.Common.{◌≡◌, refl, sym, ◌∙◌, ap, subst, ℕ, ◌+◌, ◌<◌, ◌≤◌, ◌==◌, Bool, true, false, not, List, length, get_or, All, arith, inl, inr}
 use Rattle.std.specs.Prelude.{AllPairs, if◌then◌else◌}
 use Rattle.std.proofs.lemmas.Bool.{cases_lt, eqb-true, eqb-false}
 use Rattle.std.proofs.lemmas.List.{get_or_default}
@@ -60,7 +60,7 @@ module _ (uses : List EdgeUse) (runs : List RingRun) (p : Coord) where
   module _ (starts : List Coord) (row : AreInRow 0 runs (length uses)) (rings : All (IsRing uses starts) runs) (ascending : AllPairs (λ r s. r.member ≤ s.member) runs) where
     counted_by : (n : ℕ) (run : RingRun) (member : ℕ) (odd same : Bool) → IsNextRing uses runs p n n → n < length runs → run ≡ get_or runs n run → IsSeen uses runs p n member odd → (run.member == member) ≡ same
         → IsTallied uses runs p (n + 1) (if same then record { settled = false; member = member; odd = not odd }
-            else if odd then record { settled = true; member = member; odd = true } else record { settled = false; member = run.member; odd = true })
+        else if odd then record { settled = true; member = member; odd = true } else record { settled = false; member = run.member; odd = true })
     counted_by n run member odd true is within at seen e =
         seen_more uses runs p n n member member odd (not odd) run ascending seen is within at (sym (eqb-true run.member member e)) (λ f. refl) (λ apart. absurd (apart refl))
     counted_by n run member true false is within at seen e =

@@ -16,11 +16,7 @@ use cov_types::{Coord, NoMemory};
 use std::alloc::Global;
 
 /// Where each of the points lies. Neighbours along a curve are located together.
-pub fn places_of(
-    alloc: Global,
-    index: &RingIndex,
-    points: &[Coord],
-) -> Result<Vec<Where>, NoMemory>
+pub fn places_of(alloc: Global, index: &RingIndex, points: &[Coord]) -> Result<Vec<Where>, NoMemory>
     requires index { IsRingIndex index.now }
     requires points { All IsInRange points.now }
     ensures { IfOk result (λ places. AllZip (IsWhere index.now.outline.uses.items) points.now places.items) }

@@ -62,13 +62,7 @@ pub struct Part {
 
 // The part of the run that is a block from a place on: of uses that lie beside or above the point, or of one use; None where its segment
 // has the point.
-fn part_from(
-    outline: &Outline,
-    run: RingRun,
-    from: usize,
-    block: Block,
-    p: Coord,
-) -> Option<Part>
+fn part_from(outline: &Outline, run: RingRun, from: usize, block: Block, p: Coord) -> Option<Part>
     requires uses_in_range { All (λ u. IsSegInRange u.seg) outline.now.uses.items }
     requires ring { IsRing outline.now.uses.items outline.now.starts.items run }
     requires point { IsInRange p }

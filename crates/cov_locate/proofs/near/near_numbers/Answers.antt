@@ -1,4 +1,4 @@
-use Rattle.std.proofs.Common.{◌≡◌, ◌<◌, ◌≤◌, ℕ, All, length, get_or, sym, subst, arith, inl, inr}
+use Rattle.std.proofs.Common.{◌≡◌, ◌<◌, ℕ, All, length, get_or, sym, subst, arith}
 use Rattle.std.proofs.lemmas.List.Sorted.{All-permutation, IsNonDecreasingBy-from_sort}
 use Rattle.box_tree.specs.Rect.{IsInside, box_of_point}
 use Rattle.cov_locate.proofs.NearRings.{passed_all, search_more, within_near}

@@ -1,4 +1,4 @@
-use Rattle.std.proofs.Common.{◌<◌, ℕ, pos, length, get_or, subst, arith, inl, inr}
+use Rattle.std.proofs.Common.{pos, subst, inl, inr}
 use Rattle.std.proofs.lemmas.Bool.{cases_lt}
 use Rattle.box_tree.proofs.Within.{inside_trans}
 use Rattle.box_tree.specs.Rect.{IsInside}

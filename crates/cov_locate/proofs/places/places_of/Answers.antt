@@ -1,8 +1,8 @@
-use Rattle.std.proofs.Common.{◌≡◌, ◌<◌, ◌++◌, ◌∙◌, ℕ, List, length, take, drop, All, Contains, sym, ap₂, subst, arith, inl}
+use Rattle.std.proofs.Common.{◌≡◌, ◌<◌, ◌++◌, ◌∙◌, ℕ, List, length, All, Contains, sym, ap₂, subst, arith, inl}
 use Rattle.std.proofs.lemmas.Bool.{eqb-true, eqb-false}
 use Rattle.std.proofs.lemmas.List.{take-append-drop}
 use Rattle.std.proofs.lemmas.List.Elements.{All-drop, All-take}
-use Rattle.cov_locate.proofs.InPlaces.{AreTold, told_group, told_all}
+use Rattle.cov_locate.proofs.InPlaces.{told_group, told_all}
 use Rattle.cov_locate.proofs.places.places_of.Goals as goal
 
 pub loop-rest-init : goal.loop-rest-init

@@ -1,4 +1,4 @@
-use Rattle.std.proofs.Common.{◌≡◌, get_or, map, sym, ap, ◌∙◌, subst, arith}
+use Rattle.std.proofs.Common.{◌≡◌, get_or, map, sym, subst, arith}
 use Rattle.std.specs.Prelude.{MatchOption}
 use Rattle.cov_locate.specs.declared.run.Part.{Part}
 use Rattle.box_tree.specs.Rect.{box_of_segment}

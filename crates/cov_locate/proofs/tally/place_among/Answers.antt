@@ -1,4 +1,4 @@
-use Rattle.std.proofs.Common.{◌≡◌, ◌<◌, ◌+◌, List, length, get_or, drop, sym, subst, ap, arith}
+use Rattle.std.proofs.Common.{◌+◌, drop, sym, subst, arith}
 use Rattle.cov_locate.proofs.NearRings.{next_near, none_near}
 use Rattle.cov_locate.proofs.Tallying.{IsToldTo, told_none, told_with, told_all}
 use Rattle.cov_locate.proofs.tally.place_among.Goals as goal
@@ -6,7 +6,6 @@ use Rattle.cov_locate.specs.Near.{AreFar, AreNear, IsNearRing}
 use Rattle.cov_locate.specs.Where.{IsWhere}
 use Rattle.cov_locate.specs.declared.near.NearRing.{NearRing}
 use Rattle.cov_types.specs.Rings.{IsRing}
-use Rattle.cov_types.specs.declared.ring_run.RingRun.{RingRun}
 
 pub told_with-requires-clause-ring : goal.told_with-requires-clause-ring
 told_with-requires-clause-ring c =

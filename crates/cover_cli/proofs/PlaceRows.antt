@@ -20,5 +20,10 @@ row_more places k place before after within at so_far appended =
     ∙ ap (λ (w : Where). flat_map place_row (take k places ++ w ∷ [])) at
     ∙ sym (ap (flat_map place_row) (take_more places k place within))
 
-pub rows_all : (uses : List EdgeUse) (points : List Coord) (places : List Where) (k : ℕ) (text : List ℕ) → AllZip (IsWhere uses) points places → length places ≤ k → text ≡ flat_map place_row (take k places) → ArePlaceRows uses points text
-rows_all uses points places k text each past rows = record { places = places; each = each; rows = rows ∙ ap (flat_map place_row) (take_all k places past) }
+-- all places have their rows
+pub all_rows : (places : List Where) (k : ℕ) (text : List ℕ) → length places ≤ k → text ≡ flat_map place_row (take k places) → text ≡ flat_map place_row places
+all_rows places k text past rows = rows ∙ ap (flat_map place_row) (take_all k places past)
+
+-- which are the rows of the points that lie there
+pub rows_of_points : (uses : List EdgeUse) (points : List Coord) (places : List Where) (text : List ℕ) → AllZip (IsWhere uses) points places → text ≡ flat_map place_row places → ArePlaceRows uses points text
+rows_of_points uses points places text each rows = record { places = places; each = each; rows = rows }

@@ -1,10 +1,9 @@
--- One row more.
-use Rattle.std.proofs.Common.{rules, arith, sym}
-use Rattle.cover_cli.proofs.PlaceRows.{row_more, rows_all}
+-- The rows of the places at which the points lie.
+use Rattle.std.proofs.Common.{◌∙◌, ap, rules}
+use Rattle.std.specs.Prelude.{flat_map}
+use Rattle.cover_cli.proofs.PlaceRows.{rows_of_points}
+use Rattle.cover_cli.specs.Locate.{place_row}
 use Rattle.cover_cli.proofs.locate.rows_of.Goals as goal
 
-pub loop-place-preserved : goal.loop-place-preserved
-loop-place-preserved c = row_more _ _ c.place-item.result _ _ c.loop-place-test.true (search rules) c.loop-place.invariant c.in_ok-append_place.ensures
-
 pub returns : goal.returns
-returns c = rows_all _ _ c.in_ok-places.places.items c.loop-place.place-index _ c.in_ok-places.ensures (omega arith) c.loop-place.invariant
+returns c = rows_of_points _ _ _ _ c.in_ok-places.ensures (c.in_ok-text.ensures ∙ ap (flat_map place_row) (search rules))

@@ -75,6 +75,19 @@ module _ (uses : List EdgeUse) (runs : List RingRun) (p : Coord) where
   no_run : RingRun
   no_run = record { member = 0; from = 0; to = 0 }
 
+  -- runs that do not hold the point change nothing
+  pub seen_past : (passed next member : ℕ) (odd : Bool) → passed ≤ next → next ≤ length runs → ((k : ℕ) (d : RingRun) → passed ≤ k → k < next → run_holds uses (at_coord p) (get_or runs k d) ≡ false)
+      → IsSeen uses runs p passed member odd → IsSeen uses runs p next member odd
+  seen_past passed next member odd up within none seen =
+      let so_far : (m : ℕ) → odd_to uses runs p next m ≡ odd_to uses runs p passed m =
+      λ m. none_to passed next m no_run up within (λ k low high. and_right ((get_or runs k no_run).member == m) (run_holds uses (at_coord p) (get_or runs k no_run)) (none k no_run low high)) in
+      record {
+        within = within;
+        own = seen.own ∙ sym (so_far member);
+        others = λ m apart. so_far m ∙ seen.others m apart;
+        later = λ k d low high. seen.later k d (omega (arith, up, low)) high;
+      }
+
   -- up to the next run that holds the point
   to_next : (passed next member : ℕ) → passed ≤ next → IsNextRing uses runs p passed next → odd_to uses runs p next member ≡ odd_to uses runs p passed member
   to_next passed next member up is =

@@ -1,10 +1,14 @@
 pub mod Hulls
 pub mod Placing
 pub mod Passing
+pub mod Blocks
 pub mod Numbering
 pub mod RingBoxes
 pub mod NextRing
 pub mod LeastHolder
+pub mod NearRings
+pub mod Tallying
+pub mod InPlaces
 pub mod OneWhere
 pub mod Positions
 pub mod Words

@@ -121,7 +121,7 @@ run_of_use i (run ∷ runs) end k (at, some, rest) low high =
     ]
 
 -- where all runs are clear, no segment has the point
-all_clear : (uses : List EdgeUse) (runs : List RingRun) (p : Coord) → AreInRow 0 runs (length uses) → ((n : ℕ) (d : RingRun) → n < length runs → AreClear uses (get_or runs n d).from (get_or runs n d).to p) → ¬ IsOnEdge uses p
+pub all_clear : (uses : List EdgeUse) (runs : List RingRun) (p : Coord) → AreInRow 0 runs (length uses) → ((n : ℕ) (d : RingRun) → n < length runs → AreClear uses (get_or runs n d).from (get_or runs n d).to p) → ¬ IsOnEdge uses p
 all_clear uses runs p row clear (u, ((k, within, at), on)) =
     let (n, inside, found) = run_of_use 0 runs (length uses) k row (omega arith) within in
     let none : RingRun = record { member = 0; from = 0; to = 0 } in

@@ -1,10 +1,10 @@
 -- Where boxes lie about a grid point, and what that tells of the segments in them.
 use Rattle.std.proofs.Common.{◌≡◌, ◌^◌, false, inl, inr, ℤ, pos, neg_ℤ, ◌+ℤ◌, ◌*ℤ◌, ◌≤ℤ◌, arith}
 use Rattle.std.proofs.lemmas.Bool.{cases_Bool}
-use Rattle.box_tree.specs.Rect.{IsInside, box_of_segment}
+use Rattle.box_tree.specs.Rect.{IsInside, box_of_point, box_of_segment}
 use Rattle.box_tree.specs.declared.rect.Rect.{Rect}
 use Rattle.box_tree.proofs.CommonPoint.{in_box-on, least_first, least_second, greatest_first, greatest_second}
-use Rattle.cov_locate.specs.Blocks.{IsPlaced}
+use Rattle.cov_locate.specs.Blocks.{IsPlaced, IsPlacedAbout}
 use Rattle.cov_locate.specs.declared.block.Placed.{Placed}
 use Rattle.cov_locate.specs.declared.block.Placed.TheVariants.{Beside, Higher, Near}
 use Rattle.cov_types.specs.Coord.{is_before}
@@ -33,6 +33,19 @@ placed_inward a b p Beside inside h =
     ]
 placed_inward a b p Higher inside h = omega (arith, lin, h, inside.bottom)
 placed_inward a b p Near inside h = tt
+
+-- a box that is so placed about all points of another
+pub placed_within : (b round : Rect) (p : Coord) (placed : Placed) → IsInside (box_of_point p) round → IsPlacedAbout b round placed → IsPlaced b p placed
+placed_within b round p Beside inside h =
+    elim h [
+      | inl left ↦ inl (omega (arith, lin, left, inside.right))
+      | inr rest ↦ elim rest [
+        | inl right ↦ inr (inl (omega (arith, lin, right, inside.left)))
+        | inr below ↦ inr (inr (omega (arith, lin, below, inside.bottom)))
+      ]
+    ]
+placed_within b round p Higher inside h = omega (arith, lin, h, inside.top)
+placed_within b round p Near inside h = tt
 
 -- ---- a segment whose box is beside or above the point
 

@@ -1,7 +1,10 @@
 pub mod Blocks
 pub mod Levels
+pub mod Near
 pub mod Parts
+pub mod Places
 pub mod Points
 pub mod Reading
 pub mod Rings
+pub mod Tally
 pub mod Where

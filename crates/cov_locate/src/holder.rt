@@ -36,8 +36,8 @@ pub fn place_in(index: &RingIndex, p: Coord) -> Where
     }
 }
 
-// The member, where it holds the point.
-fn settled(member: u32, odd: bool) -> Where
+/// The member, where it holds the point.
+pub fn settled(member: u32, odd: bool) -> Where
     ensures { result ≡ (if odd then Where.Member member else Where.Nowhere) }
 {
     if odd {

@@ -9,10 +9,16 @@
 //! whose box has the point can hold it. A ring is walked along its uses, in blocks: one whose box is beside or below the point does not
 //! count, and one that is above it counts by its two ends.
 //!
+//! `Locator::places` answers for many points what `at` answers for each, in less time: it takes some points at once that are neighbours
+//! along a curve, finds the rings near the box about them, and cuts each of these into blocks that are beside or above the box as a
+//! whole and single uses near it. Each of the points then looks at these alone.
+//!
 //! A crate above takes a lemma by `use Rattle.cov_locate.proofs.FILE.{NAME}` in its `proofs/`. The files, lowest first:
 //!
 //! - `Hulls`: the hulls of boxes, so many at a time. `Placing`: what a box beside or above a grid point tells of the segments in it.
 //! - `Passing`: parts of a run (`above_part`, `clear_joined`). `Numbering`, `RingBoxes`: how the index over the rings is made.
+//! - `Blocks`: the blocks of a run, one after the other. `NearRings`: the rings near a box, and the search for them. `Tallying`: what
+//!   they tell of a point (`told_all`). `InPlaces`: places that are told in any order (`told_all`).
 //! - `NextRing`: the next ring that holds a point (`next_joined`, `next_all`). `LeastHolder`: one member after the other (`seen_more`,
 //!   `settled_where`). `OneWhere`: a point lies in one place (`one_where`).
 //! - `Positions`, `Words`: the words of a line (`first_word`). `Numbers`, `Capped`: numbers with a capped size (`point_in`, `number_is`).
@@ -24,11 +30,14 @@ mod holder;
 mod level;
 mod line;
 mod locator;
+mod near;
 mod next_ring;
 mod place;
+mod places;
 mod points;
 mod ring_index;
 mod run;
+mod tally;
 #[cfg(test)]
 mod tests;
 

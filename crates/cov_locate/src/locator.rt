@@ -1,10 +1,11 @@
-ghost use Rattle.std.specs.Prelude.{◌≡◌, IfOk, length};
+ghost use Rattle.std.specs.Prelude.{◌≡◌, All, IfOk};
 ghost use Rattle.cov_types.specs.Coverage.{AllInRange};
 ghost use Rattle.cov_types.specs.Range.{IsInRange};
 ghost use Rattle.cov_types.specs.Uses.{uses_of};
 
 use crate::holder::place_in;
 use crate::place::Where;
+use crate::places::places_of;
 use crate::ring_index::RingIndex;
 use cov_types::{Coord, Coverage, NoMemory, Outline};
 use std::alloc::Global;
@@ -29,6 +30,7 @@ impl Model for Locator {
 }
 
 impl Locator {
+    ghost use Rattle.std.specs.List.{AllZip};
     ghost use Rattle.cov_locate.specs.Where.{IsWhere};
 
     /// Takes n log n time and memory in proportion to n, for n segments.
@@ -49,5 +51,15 @@ impl Locator {
         ensures { IsWhere self.now p result }
     {
         place_in(&self.index, p)
+    }
+
+    /// Where each of the points lies, in their order: what `at` answers for each. Points near one another are located together, so
+    /// many points take less time than as many calls of `at`: for m points k log k time for k = n + m where few boxes of rings
+    /// overlap, and memory in proportion to m and to the segments near a few neighbouring points.
+    pub fn places(&self, alloc: Global, points: &[Coord]) -> Result<Vec<Where>, NoMemory>
+        requires { All IsInRange points.now }
+        ensures { IfOk result (λ places. AllZip (IsWhere self.now) points.now places.items) }
+    {
+        places_of(alloc, &self.index, points)
     }
 }

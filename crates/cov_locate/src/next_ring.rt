@@ -6,6 +6,7 @@ ghost use Rattle.cov_locate.specs.Where.{IsOnEdge};
 use crate::block::{Placed, widest_block};
 use crate::ring_index::RingIndex;
 use crate::run::run_holds;
+use box_tree::Rect;
 use cov_types::Coord;
 
 /// The least number from `least` on of a ring that holds the point, and the count of the rings where none does; None where the point
@@ -41,7 +42,8 @@ fn rings_from(index: &RingIndex, least: usize, from: usize, p: Coord) -> Option<
     ensures { MatchOption result (IsOnEdge index.now.outline.uses.items p) (λ part. IsRingPart index.now p least from part) }
 {
     let none = index.outline.rings.len();
-    let block = widest_block(&index.over_rings, from, index.numbers.len(), p);
+    let round = Rect::of_point(p);
+    let block = widest_block(&index.over_rings, from, index.numbers.len(), round);
     match block.placed {
         Placed::Beside | Placed::Higher => Some(RingPart {
             to: block.to,

@@ -80,7 +80,8 @@ fn numbers_along(alloc: Global, outline: &Outline) -> Result<Vec<usize>, NoMemor
     Ok(numbers)
 }
 
-fn without_keys(alloc: Global, keyed: &[(u64, usize)]) -> Result<Vec<usize>, NoMemory>
+/// What stands beside the keys.
+pub fn without_keys(alloc: Global, keyed: &[(u64, usize)]) -> Result<Vec<usize>, NoMemory>
     ensures { IfOk result (λ numbers. numbers.items ≡ map (λ p. p.1) keyed.now) }
 {
     let numbers = keyed.iter().map(|(_, number)| *number).collect(alloc)?;

@@ -1,4 +1,6 @@
-ghost use Rattle.std.specs.Prelude.{◌≡◌, ◌≤◌, ◌<◌, All, MatchOption, slice_index_or};
+ghost use Rattle.std.specs.Prelude.{◌≡◌, ◌≤◌, ◌<◌, ◌+◌, All, MatchOption, map, slice_index_or};
+ghost use Rattle.box_tree.specs.Rect.{box_of_segment};
+ghost use Rattle.cov_locate.specs.Blocks.{AreBlocks, IsBlock};
 ghost use Rattle.cov_types.specs.Range.{IsInRange, IsSegInRange};
 ghost use Rattle.cov_types.specs.Rings.{IsRing};
 ghost use Rattle.cov_types.specs.declared.coord.Coord.{Coord};
@@ -10,6 +12,7 @@ ghost use Rattle.plane.specs.Point.{at_coord};
 
 use crate::block::{Block, Placed, widest_block};
 use crate::level::Level;
+use box_tree::Rect;
 use cov_types::{Coord, Outline, RingRun};
 use grid_pred::{on_segment, over};
 
@@ -24,7 +27,26 @@ pub fn run_holds(outline: &Outline, levels: &[Level], run: RingRun, p: Coord) ->
     let mut holds = false;
     let mut from = run.from;
     while from < run.to {
-        let part = part_from(outline, levels, run, from, p)?;
+        let block = widest_block(levels, from, run.to, Rect::of_point(p));
+        let part = part_from(outline, run, from, block, p)?;
+        holds = holds != part.holds;
+        from = part.to;
+    }
+    Some(holds)
+}
+
+/// Whether the uses in the run hold the point; None where one of their segments has it. By blocks of the run about a box with the point.
+pub fn blocks_hold(outline: &Outline, run: RingRun, blocks: &[Block], p: Coord) -> Option<bool>
+    requires uses_in_range { All (λ u. IsSegInRange u.seg) outline.now.uses.items }
+    requires ring { IsRing outline.now.uses.items outline.now.starts.items run }
+    requires point { IsInRange p }
+    requires blocks { AreBlocks (map (λ u. box_of_segment u.seg) outline.now.uses.items) run.from run.to p blocks.now }
+    ensures { MatchOption result (IsOnEdge outline.now.uses.items p) (λ holds. IsRunTold outline.now.uses.items run p holds) }
+{
+    let mut holds = false;
+    let mut from = run.from;
+    for block in blocks {
+        let part = part_from(outline, run, from, *block, p)?;
         holds = holds != part.holds;
         from = part.to;
     }
@@ -38,23 +60,17 @@ pub struct Part {
     pub holds: bool,
 }
 
-// The part of the run from a place on: a block of uses that lies beside or above the point, or one use; None where its segment has the
-// point.
-fn part_from(
-    outline: &Outline,
-    levels: &[Level],
-    run: RingRun,
-    from: usize,
-    p: Coord,
-) -> Option<Part>
-    requires levelled { IsLevelled outline.now levels.now }
+// The part of the run that is a block from a place on: of uses that lie beside or above the point, or of one use; None where its segment
+// has the point.
+fn part_from(outline: &Outline, run: RingRun, from: usize, block: Block, p: Coord) -> Option<Part>
+    requires uses_in_range { All (λ u. IsSegInRange u.seg) outline.now.uses.items }
     requires ring { IsRing outline.now.uses.items outline.now.starts.items run }
     requires point { IsInRange p }
     requires begins { run.from ≤ from }
-    requires some { from < run.to }
-    ensures { MatchOption result (IsOnEdge outline.now.uses.items p) (λ part. IsPart outline.now.uses.items run from p part) }
+    requires block { IsBlock (map (λ u. box_of_segment u.seg) outline.now.uses.items) from run.to p block }
+    ensures told { MatchOption result (IsOnEdge outline.now.uses.items p) (λ part. IsPart outline.now.uses.items run from p part) }
+    ensures to { MatchOption result (Unit {0}) (λ part. part.to ≡ block.to) }
 {
-    let block = widest_block(levels, from, run.to, p);
     match block.placed {
         Placed::Beside => Some(Part {
             to: block.to,
@@ -96,7 +112,8 @@ fn part_of_one(outline: &Outline, run: RingRun, from: usize, p: Coord) -> Option
     requires point { IsInRange p }
     requires begins { run.from ≤ from }
     requires some { from < run.to }
-    ensures { MatchOption result (IsOnEdge outline.now.uses.items p) (λ part. IsPart outline.now.uses.items run from p part) }
+    ensures told { MatchOption result (IsOnEdge outline.now.uses.items p) (λ part. IsPart outline.now.uses.items run from p part) }
+    ensures to { MatchOption result (Unit {0}) (λ part. part.to ≡ from + 1) }
 {
     let seg = outline.uses[from].seg;
     if on_segment(p, seg) {

@@ -1,3 +1,6 @@
+ghost use Rattle.std.specs.Prelude.{All};
+ghost use Rattle.cov_types.specs.Range.{IsInRange};
+
 use crate::{Locator, PointsError, PointsFault, Where, read_points};
 use cov_types::{Coord, Coverage, LIMIT, Member, NoMemory, Poly, Ring, in_range};
 use std::alloc::Global;
@@ -20,6 +23,31 @@ fn two_squares_that_overlap(rt: HostRuntime) -> Result<(), Fail> {
     assert_eq!(rt; at(&rt, &locator, 12, 5), Where::Member(1));
     for (x, y) in [(20, 5), (-1, 0), (7, 11), (7, -1), (5, -3), (15, 11)] {
         assert_eq!(rt; at(&rt, &locator, x, y), Where::Nowhere);
+    }
+    Ok(())
+}
+
+#[test]
+fn points_located_together(rt: HostRuntime) -> Result<(), Fail> {
+    let alloc = rt.alloc();
+    let mut members = Vec::new(alloc);
+    members.push(member(alloc, &[(0, 0, 10, 10), (3, 3, 6, 6)])?)?;
+    members.push(member(alloc, &[(2, 2, 8, 8)])?)?;
+    let locator = locator_of(&rt, Coverage { members })?;
+    let points = points_of(&rt, alloc, b"20 5\n1 1\n6 5\n4 4\n7 7\n1 1\n5 -3\n");
+    let places = locator.places(alloc, &points)?;
+    let wanted = [
+        Where::Nowhere,
+        Where::Member(0),
+        Where::Edge,
+        Where::Member(1),
+        Where::Member(0),
+        Where::Member(0),
+        Where::Nowhere,
+    ];
+    assert_eq!(rt; places.len(), wanted.len());
+    for (place, expected) in places.iter().zip(wanted.iter()) {
+        assert_eq!(rt; *place, *expected);
     }
     Ok(())
 }
@@ -125,9 +153,14 @@ fn at(rt: &impl Abort, locator: &Locator, x: i32, y: i32) -> Where {
     locator.at(p)
 }
 
-fn points_of(rt: &impl Abort, alloc: Global, bytes: &[u8]) -> Vec<Coord> {
+fn points_of(rt: &impl Abort, alloc: Global, bytes: &[u8]) -> Vec<Coord>
+    ensures { All IsInRange result.items }
+{
     assert!(rt; bytes.len() < 100);
-    read_points(alloc, bytes).expect(rt, "points")
+    match read_points(alloc, bytes) {
+        Ok(points) => points,
+        Err(_) => panic!(rt; "no points"),
+    }
 }
 
 fn fault_of(rt: &impl Abort, alloc: Global, bytes: &[u8]) -> PointsFault {

@@ -1,4 +1,4 @@
-ghost use Rattle.std.specs.Prelude.{◌≡◌, ◌≤◌, ◌++◌, All, length, None, IfOk, IfErr, OnOk};
+ghost use Rattle.std.specs.Prelude.{◌≡◌, ◌≤◌, ◌++◌, All, flat_map, length, None, IfOk, IfErr, OnOk};
 ghost use Rattle.cov_types.specs.Coverage.{AllInRange};
 ghost use Rattle.cov_types.specs.Range.{IsInRange};
 ghost use Rattle.cov_types.specs.Uses.{uses_of};
@@ -31,10 +31,18 @@ fn rows_of(alloc: Global, locator: &Locator, points: &[Coord]) -> Result<Vec<u8>
     requires { All IsInRange points.now }
     ensures { IfOk result (λ text. ArePlaceRows locator.now points.now text.items) }
 {
+    let places = locator.places(alloc, points)?;
+    let text = rows_of_places(alloc, &places)?;
+    Ok(text)
+}
+
+// A row for each of the places.
+fn rows_of_places(alloc: Global, places: &[Where]) -> Result<Vec<u8>, NoMemory>
+    ensures { IfOk result (λ text. text.items ≡ flat_map place_row places.now) }
+{
     let mut text = Vec::new(alloc);
-    for p in points {
-        let place = locator.at(*p);
-        append_place(&mut text, place)?;
+    for place in places {
+        append_place(&mut text, *place)?;
     }
     Ok(text)
 }

@@ -1,5 +1,6 @@
 use Rattle.std.proofs.Common.{◌<◌, ◌≤◌, All, length, get_or, sym, subst, arith, inl, inr}
-use Rattle.box_tree.specs.Rect.{box_of_point}
+use Rattle.box_tree.proofs.Within.{inside_refl}
+use Rattle.box_tree.specs.Rect.{IsInside, box_of_point}
 use Rattle.cov_locate.specs.Levels.{IsLevel}
 use Rattle.cov_locate.proofs.NextRing.{next_far, far_run}
 use Rattle.cov_locate.proofs.Placing.{IsFar}
@@ -18,7 +19,7 @@ returns-in-Beside c =
     let count = about.boxes_are.count in
     let placed = c.widest_block-block.result.placed in
     let far : IsFar placed = elim c.in-Beside.is [ inl beside ↦ subst IsFar (sym beside) tt | inr higher ↦ subst IsFar (sym higher) tt ] in
-    let block = c.widest_block-block.ensures about.boxes (subst (All (IsLevel about.boxes)) (sym c.deref.ensures.value) about.levels_are) (omega (arith, count, c.len.ensures, c.deref.ensures.len)) in
+    let block = c.widest_block-block.ensures.block about.boxes p (subst (All (IsLevel about.boxes)) (sym c.deref.ensures.value) about.levels_are) (omega (arith, count, c.len.ensures, c.deref.ensures.len)) (subst (IsInside (box_of_point p)) (sym c.of_point-round.ensures) (inside_refl (box_of_point p))) in
     let b = box_of_point p in
     let end : to ≤ length numbers = omega (arith, block.ends, c.len.ensures, c.deref.ensures.len) in
     record {

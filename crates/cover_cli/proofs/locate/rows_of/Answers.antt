@@ -1,10 +1,9 @@
--- One point more.
-use Rattle.std.proofs.Common.{rules}
-use Rattle.cover_cli.proofs.PlaceRows.{no_places, places_more}
+-- The rows of the places at which the points lie.
+use Rattle.std.proofs.Common.{◌∙◌, ap, rules}
+use Rattle.std.specs.Prelude.{flat_map}
+use Rattle.cover_cli.proofs.PlaceRows.{rows_of_points}
+use Rattle.cover_cli.specs.Locate.{place_row}
 use Rattle.cover_cli.proofs.locate.rows_of.Goals as goal
 
-pub loop-p-init : goal.loop-p-init
-loop-p-init c = no_places _ _ c.new-text.ensures.items
-
-pub loop-p-preserved : goal.loop-p-preserved
-loop-p-preserved c = places_more _ _ _ _ c.at-place.result _ _ c.loop-p-test.true (search rules) c.loop-p.invariant c.at-place.ensures c.in_ok-append_place.ensures
+pub returns : goal.returns
+returns c = rows_of_points _ _ _ _ c.in_ok-places.ensures (c.in_ok-text.ensures ∙ ap (flat_map place_row) (search rules))

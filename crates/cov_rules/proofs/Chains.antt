@@ -195,9 +195,10 @@ asked_at parts now facts k part place less none there picks some is =
     let rules = map state_of parts in
     let long : k < length rules = omega (arith, length-map parts state_of) in
     let here : place ≡ simple_pick (get_or rules k (state_of part)) facts = picks ∙ ap (λ r. simple_pick r facts) there in
-    let found : first_pick rules facts ≡ place = given_at (λ r. simple_pick r facts) k rules (state_of part) long none ∙ option_some (simple_pick (get_or rules k (state_of part)) facts) (first_pick (drop (suc k) rules) facts) (ap is_some (sym here) ∙ some) ∙ sym here in
-    (sym found ∙ sym (pick_is parts facts),
-      ap kept_by (is ∙ ap (λ n. changed_first (asked facts) n rules) (add-one k) ∙ sym (next_at facts k rules (state_of part) long none (ap is_some (sym here) ∙ some))) ∙ sym (next_is parts facts))
+    let found : first_pick rules facts ≡ place = given_at (λ r. simple_pick r facts) k rules (state_of part) long none ∙ option_some (simple_pick (get_or rules k (state_of part)) facts) (first_pick (drop (suc k) rules) facts) (ap is_some (sym here) ∙ some) ∙ sym here in (
+      sym found ∙ sym (pick_is parts facts),
+      ap kept_by (is ∙ ap (λ n. changed_first (asked facts) n rules) (add-one k) ∙ sym (next_at facts k rules (state_of part) long none (ap is_some (sym here) ∙ some))) ∙ sym (next_is parts facts),
+    )
 
 -- and where none picked
 pub asked_all : (parts now : List Part) (facts : RegionFacts) (k : ℕ) → length parts ≤ k → first_pick (take k (map state_of parts)) facts ≡ None

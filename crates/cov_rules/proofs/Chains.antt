@@ -1,6 +1,6 @@
 -- The lists of a chain are read back, and its parts change one after the other.
 use mathlib.Core.List.{[], ◌∷◌}
-use Rattle.std.proofs.Common.{◌≡◌, refl, sym, ◌∙◌, ap, ℕ, zero, suc, ◌+◌, ◌<◌, ◌≤◌, ◌==◌, Bool, true, false, cond, ◌&&◌, List, ◌++◌, length, map, take, drop, get_or, set, Option, Some, None, ℤ, pos, add-one, arith}
+use Rattle.std.proofs.Common.{◌≡◌, refl, sym, ◌∙◌, ap, ℕ, zero, suc, ◌+◌, ◌<◌, ◌≤◌, ◌==◌, true, false, cond, ◌&&◌, List, ◌++◌, length, map, take, drop, get_or, set, Option, Some, None, ℤ, pos, add-one, arith}
 use Rattle.std.specs.Prelude.{flat_map, option_map, is_some}
 use Rattle.std.specs.List.{list_all, zip}
 use Rattle.std.specs.Option.{option_map_or}

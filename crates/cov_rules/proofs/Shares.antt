@@ -1,5 +1,5 @@
 -- The candidate that got the least, and the numbers of those that got more.
-use Rattle.std.proofs.Common.{◌≡◌, refl, sym, ◌∙◌, ap, ℕ, ◌<◌, ◌≤◌, Bool, cond, nat_lt, List, length, get_or, Option, Some, None, arith}
+use Rattle.std.proofs.Common.{◌≡◌, refl, sym, ◌∙◌, ap, ℕ, ◌<◌, Bool, cond, nat_lt, List, length, get_or, Option, Some, None}
 use Rattle.std.specs.Prelude.{ℤ, slice_get, option_and_then}
 use Rattle.std.specs.Cmp.{IsStrictWeakOrder}
 use Rattle.std.specs.List.{IsFirstBest}

@@ -1,5 +1,5 @@
 -- Kind 4, a chain: its parts are asked one after the other, up to the first that picks.
-use Rattle.std.specs.Prelude.{Bool, ◌&&◌, ◌==◌, if◌then◌else◌, is_some, ℕ, zero, suc, List, [], ◌∷◌, ◌++◌, length, map, take, drop, flat_map, Option, Some, None, option_map, ℤ, pos, negsuc}
+use Rattle.std.specs.Prelude.{◌&&◌, ◌==◌, if◌then◌else◌, is_some, ℕ, zero, suc, List, [], ◌∷◌, ◌++◌, length, map, take, drop, flat_map, Option, Some, None, option_map, ℤ, pos, negsuc}
 use Rattle.std.specs.List.{list_all, zip}
 use Rattle.region_owners.specs.Facts.{RegionFacts}
 use Rattle.merge_rule.specs.RuleState.{RuleState}

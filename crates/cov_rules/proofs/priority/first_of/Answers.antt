@@ -1,5 +1,5 @@
 -- One member more, and the last.
-use Rattle.std.proofs.Common.{◌∙◌, sym, refl, get_or, arith}
+use Rattle.std.proofs.Common.{◌∙◌, sym, refl, get_or}
 use Rattle.cov_rules.proofs.Orders.{none_more, found_at, none_at_all}
 use Rattle.cov_rules.proofs.priority.first_of.Goals as goal
 

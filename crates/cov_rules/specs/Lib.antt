@@ -1,0 +1,11 @@
+pub mod FirstGiven
+pub mod EvenShare
+pub mod Priority
+pub mod ClearBorder
+pub mod Simple
+pub mod Chain
+pub mod Kinds
+pub mod Parts
+pub mod Hired
+pub mod Places
+pub mod Laws

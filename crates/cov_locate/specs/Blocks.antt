@@ -18,6 +18,7 @@ IsPlacedAbout b round Beside = (round.hi.x <ℤ b.lo.x) ⊎ ((b.hi.x <ℤ round.
 IsPlacedAbout b round Higher = round.hi.y <ℤ b.lo.y
 IsPlacedAbout b round Near = Unit {0}
 
+-- it is near, neither beside nor above all of them
 abbrev pub is_near : Placed → Bool
 is_near Beside = false
 is_near Higher = false

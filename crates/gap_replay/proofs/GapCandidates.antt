@@ -1,5 +1,4 @@
 -- The candidates for a gap, and the one list of narrow gaps.
-use mathlib.Core.List.{[], ◌∷◌}
 use Rattle.std.proofs.Common.{◌≡◌, ap, ℕ, zero, suc, ◌<◌, true, nat_lt, List, length, get_or, arith}
 use Rattle.std.specs.Prelude.{AllPairs, Contains, Option}
 use Rattle.std.proofs.lemmas.Bool.Decides.{nat_tests}

@@ -122,8 +122,9 @@ module _ {State : Type 0} (members : Members) (in_range : AllInRange members) (r
       empty none wide = elim region_or_not [
         | inl there ↦ held_by there.0 there.1 None (label_owned there.0 there.1 (wide there.0 there.1) ∙ ap (owner_by rule state o there.0) none)
         | inr outer ↦ (λ m. (
-            (λ holds. absurd (outer_free o h.owners (length members) are out h.built o.edges are.planar.in_range (in_edges o h.owners (length members) are out h.built) m p outer holds)),
-            (λ is. absurd (none-some m is))))
+          (λ holds. absurd (outer_free o h.owners (length members) are out h.built o.edges are.planar.in_range (in_edges o h.owners (length members) are out h.built) m p outer holds)),
+          (λ is. absurd (none-some m is)),
+        ))
       ]
 
       held_by_replay : IsHeldByReplay rule state o w h.gaps out label p

@@ -4,7 +4,7 @@ use Rattle.std.proofs.Common.{◌≡◌, ◌⊎◌, inl, inr, refl, sym, ◌∙�
 use Rattle.std.specs.Prelude.{◌↔◌, Option, slice_get}
 use Rattle.std.specs.List.{list_any, position_or_len}
 use Rattle.cov_types.specs.Coverage.{Members, AllInRange}
-use Rattle.arrangement.specs.Overlay.{Overlay, IsRegion}
+use Rattle.arrangement.specs.Overlay.{Overlay}
 use Rattle.region_owners.specs.declared.candidate.Candidate.{Candidate}
 use Rattle.region_owners.specs.Owner.{rule_by, first_best, longest_border, last_state, label_owner, neighbours_of, neighbour_of, IsNarrowGap, IsOwner}
 use Rattle.sound_polygons.specs.Cleaned.{IsCleaned}
@@ -22,7 +22,7 @@ any_map test f (x ∷ xs) = ap (λ b. test (f x) || b) (any_map test f xs)
 
 position_map : {X Y : Type 0} (test : Y → Bool) (f : X → Y) (xs : List X) → position_or_len test (map f xs) ≡ position_or_len (λ x. test (f x)) xs
 position_map test f [] = refl
-position_map test f (x ∷ xs) = ap (λ n. cond (test (f x)) 0 (1 + n)) (position_map test f xs)
+position_map test f (x ∷ xs) = ap (λ n. cond (not (test (f x))) (1 + n) 0) (position_map test f xs)
 
 first_best_map : {X Y : Type 0} (beats : Y → Y → Bool) (f : X → Y) (xs : List X) → first_best beats (map f xs) ≡ first_best (λ x y. beats (f x) (f y)) xs
 first_best_map beats f xs =

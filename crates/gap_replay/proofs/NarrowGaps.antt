@@ -87,8 +87,7 @@ module _ (o : Overlay) (w : ℕ) (regions : AreRegions o.edges o.numbers) (told 
 
   pub narrow_gaps_exist : (gaps : List ℕ) × AreNarrowGaps o w gaps
   narrow_gaps_exist =
-      let all = gaps_below (2 * length o.edges) (omega arith) in
-      (
+      let all = gaps_below (2 * length o.edges) (omega arith) in (
         all.0,
         record {
           ascending = all.1.ascending;

@@ -1,5 +1,5 @@
 -- The owners of regions with those of gaps filled in.
-use Rattle.std.specs.Prelude.{◌≡◌, ℕ, ◌<◌, Bool, true, false, nat_lt, List, [], length, filter, take, All, Contains, Option, option_map, slice_get}
+use Rattle.std.specs.Prelude.{◌≡◌, ℕ, ◌<◌, Bool, true, false, nat_lt, List, [], length, filter, take, Contains, Option, option_map, slice_get}
 use Rattle.arrangement.specs.Overlay.{Overlay}
 use Rattle.region_owners.specs.Owner.{Rule, neighbours_of, neighbour_of}
 use Rattle.gap_replay.specs.Replay.{gap_candidates, gap_facts, state_after_gaps}

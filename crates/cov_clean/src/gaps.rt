@@ -1,4 +1,4 @@
-ghost use Rattle.std.specs.Prelude.{◌≡◌, ◌*◌, ◌<◌, ◌^◌, false, All, AllPairs, length, IfOk, IfErr, IfSome};
+ghost use Rattle.std.specs.Prelude.{◌≡◌, ◌*◌, ◌<◌, ◌^◌, All, AllPairs, length, IfOk, IfErr, IfSome};
 ghost use Rattle.arrangement.specs.Overlay.{Overlay, IsRegion};
 ghost use Rattle.region_owners.specs.Owner.{neighbour_of};
 ghost use Rattle.owner_label.specs.Labelled.{IsOverlay, owner_in};

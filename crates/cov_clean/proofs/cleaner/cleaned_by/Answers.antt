@@ -215,4 +215,3 @@ returns-clause-no_memory g c = if_err c.polygons.result _ (λ o is.
     c.in_ok-labels.labels c.in_ok-labels.ensures c.len.result (c.len.ensures.count ∙ ap (λ (es : List Seg). 2 * length es) between) c.in_ok-owners.owners.items c.in_ok-owners.ensures.owners
     c.args.gap c.in_ok-gaps.gaps.items c.in_ok-gaps.ensures.exact c.in_ok-gaps.ensures.ascending o is (g.R.MergeRule.state c.owners_of_sides.new.rule) (c.in_ok-owners.ensures.state o labels) c.args.gaps_too (g.R.MergeRule.state c.owners_with_gaps.new.rule)
     (subst (λ (ns : List ℕ). g.R.MergeRule.state c.owners_with_gaps.new.rule ≡ state_after_gaps g.R.MergeRule.rule (g.R.MergeRule.state c.owners_of_sides.new.rule) o (owner_in c.in_ok-owners.owners.items) (asked_gaps c.args.gaps_too ns)) c.deref-4.ensures.value (c.in_ok-filled.ensures.state o labels (is.overlay.count ∙ sym long)))))
-

@@ -1,11 +1,11 @@
 -- One gap more, and after the last.
-use Rattle.std.proofs.Common.{◌≡◌, sym, ◌∙◌, ap, ℕ, ◌<◌, true, List, length, get_or, Option, Some, arith}
+use Rattle.std.proofs.Common.{◌≡◌, ◌∙◌, ap, ℕ, ◌<◌, true, List, length, get_or, Option, Some, arith}
 use Rattle.std.proofs.lemmas.List.{length-set, get_or_default, take_all}
 use Rattle.crossing_laws.proofs.Located.{side_within}
 use Rattle.gap_replay.specs.Replay.{state_after_gaps}
 use Rattle.owner_label.specs.Labelled.{owner_in}
 use Rattle.cov_clean.specs.Filled.{filler_by}
-use Rattle.cov_clean.proofs.Filling.{filled_none, filled_more, filled_all}
+use Rattle.cov_clean.proofs.Filling.{filled_more, filled_all}
 use Rattle.cov_clean.proofs.LesserGaps.{filler_there, asked_more}
 use Rattle.cov_clean.proofs.Results.{if_err}
 use Rattle.cov_clean.proofs.fillers.filled_by_rule.Goals as goal

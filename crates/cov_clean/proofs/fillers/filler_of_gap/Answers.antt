@@ -1,5 +1,5 @@
 -- The rule picks one of the candidates, which is the filler.
-use Rattle.std.proofs.Common.{◌≡◌, ◌∙◌, ap, ◌<◌, length, rules, vec_len, arith}
+use Rattle.std.proofs.Common.{◌≡◌, ◌∙◌, ap, length, rules, vec_len, arith}
 use Rattle.region_owners.specs.Facts.{RegionFacts}
 use Rattle.gap_replay.specs.Replay.{gap_candidates, gap_facts}
 use Rattle.owner_label.specs.Labelled.{owner_in}

@@ -1,6 +1,6 @@
 -- One candidate more, and after the last.
 use mir.Syntax.{w128}
-use Rattle.std.proofs.Common.{◌≡◌, sym, ◌∙◌, ap, List, [], ◌∷◌, ◌++◌, map, take, get_or, pos, FitsSigned, rules, ℤ}
+use Rattle.std.proofs.Common.{sym, ◌∙◌, ap, List, [], ◌∷◌, ◌++◌, map, take, get_or, pos, FitsSigned, rules, ℤ}
 use Rattle.std.proofs.lemmas.Int.{to_z-of_z}
 use Rattle.std.proofs.lemmas.List.{map-append, take_more, take_all}
 use Rattle.owner_label.specs.declared.owned_side.OwnedSide.{OwnedSide}

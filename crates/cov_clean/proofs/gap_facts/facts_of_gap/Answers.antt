@@ -3,7 +3,6 @@ use mir.Syntax.{w128}
 use Rattle.std.proofs.Common.{◌≡◌, sym, ◌∙◌, ap, subst, ℕ, ◌<◌, List, length, map, pos, FitsSigned, rules, arith}
 use Rattle.std.specs.Prelude.{All}
 use Rattle.std.proofs.lemmas.Int.{to_z-of_z}
-use Rattle.region_owners.specs.declared.candidate.Candidate.{Candidate}
 use Rattle.gap_replay.specs.Replay.{gap_facts}
 use Rattle.owner_label.specs.Labelled.{owner_in}
 use Rattle.owner_label.specs.OwnedSides.{owned_length}

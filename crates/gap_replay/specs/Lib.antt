@@ -1,0 +1,4 @@
+pub mod Replay
+pub mod Cleaned
+pub mod HeldByReplay
+pub mod Laws

@@ -28,6 +28,8 @@ pub fn union_of(alloc: Global, v: &ValidCoverage) -> Result<Member, NoMemory>
     let regions = Regions::build(alloc, &arena)?;
     let labels = Labels::build(alloc, &arena, &regions, &rim)?;
     let owners = union_owners(alloc, &regions, &labels)?;
+    drop(labels);
+    drop(rim);
     let union = polygons(alloc, &arena, &regions, &owners, 1)?;
     Ok(only_member(union))
 }

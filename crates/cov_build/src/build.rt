@@ -38,7 +38,8 @@ pub fn polygons(
     let edges = a.edges();
     let parts = parts_of_sides(alloc, r, edges.len(), owners)?;
     let boundaries = boundaries(alloc, edges, &parts)?;
-    let unsorted = polygons_of_parts(alloc, &boundaries, owners, members)?;
+    drop(parts);
+    let unsorted = polygons_of_parts(alloc, a, &boundaries, owners, members)?;
     let members = all_by_shells(alloc, unsorted)?;
     Ok(Coverage { members })
 }
@@ -57,6 +58,7 @@ fn all_by_shells(alloc: Global, unsorted: Vec<Member>) -> Result<Vec<Member>, No
 // For each member the polygons of its parts, in the order of the parts.
 fn polygons_of_parts(
     alloc: Global,
+    a: &Arena,
     boundaries: &[Vec<BoundaryEdge>],
     owners: &[Option<u32>],
     members: u32,
@@ -71,7 +73,7 @@ fn polygons_of_parts(
     for (part, boundary) in boundaries.iter().enumerate() {
         match owner_of_boundary(boundary, owners[part]) {
             Some(owner) => {
-                let polygon = polygon(alloc, boundary)?;
+                let polygon = polygon(alloc, a, boundary)?;
                 let member = &mut list[owner as usize];
                 member.polys.push(polygon)?;
             }

@@ -1,4 +1,4 @@
-ghost use Rattle.std.specs.Prelude.{◌≡◌, ℕ, ◌+◌, ◌-◌, ◌*◌, ◌<◌, ◌≤◌, ◌^◌, ◌++◌, List, length, IfOk, OnOk, vec_len};
+ghost use Rattle.std.specs.Prelude.{◌≡◌, ℕ, ◌+◌, ◌-◌, ◌*◌, ◌<◌, ◌≤◌, ◌^◌, ◌++◌, List, length, IfOk, OnOk, IsTrue, vec_len};
 ghost use Rattle.cov_build.specs.Boundaries.{boundary_edges};
 ghost use Rattle.std.specs.List.Sorted.{IsPermutation};
 ghost use Rattle.cov_build.specs.Rings.{outside_of, IsBoundary, AreRingsBack, AreClosedRings, AreBoundaryRings, AreHolesSorted, IsInFront, IsBoundaryPolygon};
@@ -18,13 +18,40 @@ struct RingList {
 }
 
 /// The polygon of the part with this boundary: its shell, and then its holes by their points. Takes memory in proportion to the edges,
-/// and time in proportion to them and their logarithm.
-pub fn polygon(alloc: Global, boundary: &[BoundaryEdge]) -> Result<Poly, NoMemory>
+/// and time in proportion to them and their logarithm. Where they are all edges of the arena, it serves for the boundary too.
+pub fn polygon(alloc: Global, a: &Arena, boundary: &[BoundaryEdge]) -> Result<Poly, NoMemory>
     requires { IsBoundary boundary.now }
     ensures { IfOk result (λ poly. IsBoundaryPolygon boundary.now poly) }
 {
+    if has_edges(boundary, a.edges()) {
+        return polygon_in(alloc, a, boundary);
+    }
     let arena = Arena::build(alloc, edges_of(alloc, boundary)?)?;
-    let rings = walked_rings(alloc, &arena, boundary)?;
+    polygon_in(alloc, &arena, boundary)
+}
+
+// Whether the edges of the boundary are these, in their order.
+fn has_edges(boundary: &[BoundaryEdge], edges: &[Seg]) -> bool
+    ensures { IsTrue result → edges.now ≡ boundary_edges boundary.now }
+{
+    if boundary.len() != edges.len() {
+        return false;
+    }
+    for (k, b) in boundary.iter().enumerate() {
+        if !b.edge.is_same(edges[k]) {
+            return false;
+        }
+    }
+    true
+}
+
+// The polygon of the part with this boundary, by an arena of its edges.
+fn polygon_in(alloc: Global, a: &Arena, boundary: &[BoundaryEdge]) -> Result<Poly, NoMemory>
+    requires boundary { IsBoundary boundary.now }
+    requires arena { a.now ≡ boundary_edges boundary.now }
+    ensures { IfOk result (λ poly. IsBoundaryPolygon boundary.now poly) }
+{
+    let rings = walked_rings(alloc, a, boundary)?;
     let polygon = in_order(rings)?;
     Ok(polygon)
 }

@@ -53,5 +53,7 @@ fn removed_from(
     let live = edges_of_valid(alloc, c)?;
     let lines = lines_of(alloc, &live.edges)?;
     let marks = open_lines(alloc, &live, &lines, inner)?;
+    // The run needs the lines alone.
+    drop(live);
     removed_points(alloc, &lines, &marks, tolerance)
 }

@@ -1,5 +1,9 @@
 pub mod ByLabel
 pub mod Merged
+pub mod Times
+pub mod Lasts
+pub mod Cancelled
+pub mod RimEdges
 pub mod Existing
 pub mod Parts
 pub mod OnRim

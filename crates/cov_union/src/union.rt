@@ -1,21 +1,18 @@
 ghost use Rattle.std.specs.Prelude.{◌≡◌, ◌∷◌, [], length, IfOk};
-ghost use Rattle.arrangement.specs.Noding.{AreLiveEdges, odd_uses};
-ghost use Rattle.cov_types.specs.Coverage.{AllInRange, IsFormed};
-ghost use Rattle.cov_types.specs.Uses.{uses_of, HasEvenEnds};
+ghost use Rattle.cov_types.specs.Coverage.{IsFormed};
+ghost use Rattle.cov_types.specs.Uses.{uses_of};
 ghost use Rattle.plane.specs.Validity.{IsValid};
-ghost use Rattle.sector_laws.specs.Sector.{AreDistinct, IsPlanar};
-ghost use Rattle.cov_union.specs.Rim.{merged};
 ghost use Rattle.cov_union.specs.United.{IsUnited};
 ghost use Rattle.sound_polygons.specs.Holding.{IsUnionOf};
 
 use crate::owners::union_owners;
+use crate::rim::rim_of;
 use cov_admit::ValidCoverage;
 use cov_build::polygons;
-use cov_types::{Coverage, EdgeUse, Member, NoMemory, uses};
+use cov_types::{Coverage, Member, NoMemory};
 use face_walk::Regions;
 use half_edge::Arena;
 use owner_label::Labels;
-use snap_noder::{LiveEdges, live, plain};
 use std::alloc::Global;
 
 /// The union of a valid coverage: one member that holds what some member of it holds, in canonical order. Takes n log n time in the
@@ -31,37 +28,10 @@ pub fn union_of(alloc: Global, v: &ValidCoverage) -> Result<Member, NoMemory>
     let regions = Regions::build(alloc, &arena)?;
     let labels = Labels::build(alloc, &arena, &regions, &rim)?;
     let owners = union_owners(alloc, &regions, &labels)?;
+    drop(labels);
+    drop(rim);
     let union = polygons(alloc, &arena, &regions, &owners, 1)?;
     Ok(only_member(union))
-}
-
-// The segments that one member has, and no other: those that two have are within the union.
-fn rim_of(alloc: Global, c: &Coverage) -> Result<LiveEdges, NoMemory>
-    requires in_range { AllInRange c.now }
-    requires valid { IsValid (uses_of c.now) }
-    ensures exact { IfOk result (λ l. AreLiveEdges (merged (uses_of c.now)) l.edges.items l.odd.items) }
-    ensures planar { IfOk result (λ l. IsPlanar l.edges.items) }
-    ensures distinct { IfOk result (λ l. AreDistinct l.edges.items) }
-    ensures even { IfOk result (λ l. HasEvenEnds (odd_uses l.edges.items l.odd.items)) }
-{
-    let uses = uses(alloc, c)?;
-    let merged = merged_uses(alloc, &uses)?;
-    let noded = plain(alloc, &merged)?;
-    Ok(live(alloc, &noded)?)
-}
-
-// The uses as those of one member, which has twice what two members have.
-fn merged_uses(alloc: Global, uses: &[EdgeUse]) -> Result<Vec<EdgeUse>, NoMemory>
-    ensures { IfOk result (λ v. v.items ≡ merged uses.now) }
-{
-    let merged = uses
-        .iter()
-        .map(|u| EdgeUse {
-            member: 0,
-            seg: u.seg,
-        })
-        .collect(alloc)?;
-    Ok(merged)
 }
 
 // The member of a coverage that has just one.

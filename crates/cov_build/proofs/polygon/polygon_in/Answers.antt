@@ -2,7 +2,7 @@ use Rattle.std.proofs.Common.{arith}
 use Rattle.cov_build.specs.Boundaries.{boundary_edges}
 use Rattle.cov_build.proofs.ClosedRings.{closed_front}
 use Rattle.cov_build.proofs.Passed.{in_other_order}
-use Rattle.cov_build.proofs.polygon.polygon.Goals as goal
+use Rattle.cov_build.proofs.polygon.polygon_in.Goals as goal
 
 pub returns : goal.returns
 returns c =

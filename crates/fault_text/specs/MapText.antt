@@ -29,6 +29,14 @@ scaled_ring scale points = in_brackets (separated (scaled_position scale) (point
 abbrev pub scaled_polygon : Option ℕ → List (List Coord) → List ℕ
 scaled_polygon scale rings = in_brackets (separated (scaled_ring scale) rings)
 
+-- the geometry of a segment, a LineString
+abbrev pub line_geometry : Option ℕ → Seg → List ℕ
+line_geometry scale s = codes "{\"coordinates\":" ++ scaled_line scale s ++ codes ",\"type\":\"LineString\"}"
+
+-- that of a polygon, a Polygon
+abbrev pub polygon_geometry : Option ℕ → List (List Coord) → List ℕ
+polygon_geometry scale rings = codes "{\"coordinates\":" ++ scaled_polygon scale rings ++ codes ",\"type\":\"Polygon\"}"
+
 -- ---- properties, in grid units
 
 -- the word of a kind of mark
@@ -61,16 +69,21 @@ gap_properties area2 clearance region members =
 
 -- ---- features
 
--- a feature: the coordinates of its geometry, the word of the geometry's type, and its properties
-abbrev pub feature_with : List ℕ → List ℕ → List ℕ → List ℕ
-feature_with coordinates type properties =
-    codes "{\"geometry\":{\"coordinates\":" ++ coordinates ++ codes ",\"type\":\"" ++ type ++ codes "\"},\"properties\":" ++ properties ++ codes ",\"type\":\"Feature\"}"
+-- the geometry of a feature of the map
+abbrev pub map_geometry : Option ℕ → MapFeature → List ℕ
+map_geometry scale (Marked kind member place segment) = line_geometry scale segment
+map_geometry scale (Overlap members area2 region polygon) = polygon_geometry scale polygon
+map_geometry scale (Gap area2 clearance region members polygon) = polygon_geometry scale polygon
 
--- a feature of a map of faults: a segment as a LineString, a region as a Polygon
+-- its properties
+abbrev pub map_properties : MapFeature → List ℕ
+map_properties (Marked kind member place segment) = marked_properties kind member place
+map_properties (Overlap members area2 region polygon) = overlap_properties members.items area2 region
+map_properties (Gap area2 clearance region members polygon) = gap_properties area2 clearance region members.items
+
+-- the feature: its geometry and its properties
 abbrev pub map_feature_text : Option ℕ → MapFeature → List ℕ
-map_feature_text scale (Marked kind member place segment) = feature_with (scaled_line scale segment) (codes "LineString") (marked_properties kind member place)
-map_feature_text scale (Overlap members area2 region polygon) = feature_with (scaled_polygon scale polygon) (codes "Polygon") (overlap_properties members.items area2 region)
-map_feature_text scale (Gap area2 clearance region members polygon) = feature_with (scaled_polygon scale polygon) (codes "Polygon") (gap_properties area2 clearance region members.items)
+map_feature_text scale f = codes "{\"geometry\":" ++ map_geometry scale f ++ codes ",\"properties\":" ++ map_properties f ++ codes ",\"type\":\"Feature\"}"
 
 -- the text of a map of faults: its features, in their order
 abbrev pub map_bytes : Option ℕ → List MapFeature → List ℕ

@@ -6,5 +6,10 @@
 #![tactic(auto)]
 
 mod feature;
+mod geometry;
+mod map;
+mod properties;
+mod written;
 
 pub use feature::MapFeature;
+pub use map::map_text;

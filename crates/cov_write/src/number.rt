@@ -16,11 +16,7 @@ pub fn append_number<I: Integer>(out: &mut Vec<u8>, number: I) -> Result<(), NoM
 
 /// Appends a number of the grid; at a scale, from 0 to 7, the decimal that times that power of ten is the number: a number of JSON too.
 /// After an error some of it may be there. Takes constant time.
-pub fn append_coordinate(
-    out: &mut Vec<u8>,
-    number: i32,
-    scale: Option<u8>,
-) -> Result<(), NoMemory>
+pub fn append_coordinate(out: &mut Vec<u8>, number: i32, scale: Option<u8>) -> Result<(), NoMemory>
     requires { IsScale scale }
     ensures { OnOk result (out.new.items ≡ out.old.items ++ number_text scale number) }
 {

@@ -1,1 +1,2 @@
-pub mod Collection
+mod Collection
+mod PropertyPieces

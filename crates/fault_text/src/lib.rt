@@ -9,6 +9,8 @@ mod feature;
 mod geometry;
 mod map;
 mod properties;
+#[cfg(test)]
+mod tests;
 mod written;
 
 pub use feature::MapFeature;

@@ -47,7 +47,12 @@ fn slanted(kind: Kind, member: u32, place: u64) -> Result<MapFeature, &'static s
 #[test]
 fn no_feature_at_all(rt: HostRuntime) -> Result<(), Fail> {
     let written = map_text(rt.alloc(), &[], None)?;
-    assert!(rt; same(&written, b"{\"features\":[],\"type\":\"FeatureCollection\"}\n"));
+    assert!(rt;
+        same(
+            &written,
+            b"{\"features\":[],\"type\":\"FeatureCollection\"}\n"
+        )
+    );
     let scaled = map_text(rt.alloc(), &[], Some(7))?;
     assert!(rt; same(&scaled, &written));
     Ok(())
@@ -95,7 +100,7 @@ fn each_kind_of_feature_at_scales(rt: HostRuntime) -> Result<(), Fail> {
             region: 12,
             members: vec![in rt.alloc(); 1]?,
             polygon: triangle(rt.alloc())?,
-        }
+        },
     ]?;
     let plain = b"{\"features\":[\
         {\"geometry\":{\"coordinates\":[[-10,25],[0,-3]],\"type\":\"LineString\"},\
@@ -142,7 +147,7 @@ fn what_no_map_has(rt: HostRuntime) -> Result<(), Fail> {
             polygon: Poly {
                 rings: vec![in rt.alloc(); bare]?,
             },
-        }
+        },
     ]?;
     let wanted = b"{\"features\":[\
         {\"geometry\":{\"coordinates\":[],\"type\":\"Polygon\"},\

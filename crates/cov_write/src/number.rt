@@ -5,8 +5,8 @@ ghost use Rattle.cov_write.specs.Written.{number_text, sign_text, fraction_text}
 use cov_types::NoMemory;
 use itoa::{Buffer, Integer};
 
-/// Appends a number in decimal.
-pub(crate) fn append_number<I: Integer>(out: &mut Vec<u8>, number: I) -> Result<(), NoMemory>
+/// Appends a number in decimal. After an error some of it may be there. Takes constant time.
+pub fn append_number<I: Integer>(out: &mut Vec<u8>, number: I) -> Result<(), NoMemory>
     ensures { OnOk result (out.new.items ≡ out.old.items ++ I.text number) }
 {
     let mut digits = Buffer::new();
@@ -14,12 +14,9 @@ pub(crate) fn append_number<I: Integer>(out: &mut Vec<u8>, number: I) -> Result<
     Ok(())
 }
 
-/// Appends a number of the grid; at a scale, the decimal that times that power of ten is the number.
-pub(crate) fn append_coordinate(
-    out: &mut Vec<u8>,
-    number: i32,
-    scale: Option<u8>,
-) -> Result<(), NoMemory>
+/// Appends a number of the grid; at a scale, from 0 to 7, the decimal that times that power of ten is the number: a number of JSON too.
+/// After an error some of it may be there. Takes constant time.
+pub fn append_coordinate(out: &mut Vec<u8>, number: i32, scale: Option<u8>) -> Result<(), NoMemory>
     requires { IsScale scale }
     ensures { OnOk result (out.new.items ≡ out.old.items ++ number_text scale number) }
 {

@@ -1,0 +1,2 @@
+mod Collection
+mod PropertyPieces

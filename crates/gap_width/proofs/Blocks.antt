@@ -2,7 +2,7 @@
 use mathlib.Core.List.{[], ◌∷◌}
 use Rattle.std.proofs.Common.{◌≡◌, refl, sym, ◌∙◌, subst, ℕ, ◌+◌, ◌*◌, ◌<◌, ◌≤◌, Bool, true, false, List, length, filter, nat_lt, Contains, IsTrue, ◌⊎◌, unsigned_abs, All, Result, Ok, Err, IfOk, inl, inr, cond, ap, ℤ, pos, neg_ℤ, int_lt, ◌+ℤ◌, ◌-ℤ◌, ◌*ℤ◌, ◌≤ℤ◌, ◌<ℤ◌, arith}
 use Rattle.std.proofs.Math.Nat.{mul-le-mul}
-use Rattle.std.proofs.lemmas.Bool.{cases_lt, ltb-false}
+use Rattle.std.proofs.lemmas.Bool.{cases_lt, ltb-false, lt-ltb}
 use Rattle.std.proofs.lemmas.Int.{ints}
 use Rattle.std.proofs.lemmas.List.{length-map}
 use Rattle.std.proofs.lemmas.List.Elements.{All-filter}
@@ -36,7 +36,7 @@ use Rattle.gap_width.specs.Facing.{front_side, IsBoundedByOne, IsBoundedByTwo, I
 use Rattle.gap_width.specs.declared.own.OwnEdge.{OwnEdge}
 use Rattle.gap_width.specs.declared.block.Block.{Block}
 use Rattle.gap_width.specs.Own.{edges_in, weighed, IsSmallEdge, AreOwn}
-use Rattle.gap_width.specs.Search.{IsBlock, IsWithinBlock, size, StandFor, IsKnown, IsRoom, IsBest, AreFewer}
+use Rattle.gap_width.specs.Search.{IsBlock, IsWithinBlock, size, StandFor, IsKnown, IsRoom, IsBest, AreFewer, asked_for}
 
 -- nothing is missed where best is enough
 pub enough_is : (edges : List Seg) (r enough : ℕ) (s : Block) (best : ℕ) → enough ≤ best → IsBest edges r enough s best best
@@ -363,6 +363,44 @@ two_is edges r enough s a b cover best first second of_a of_b =
         | inr in_b ↦ of_b.greatest less q w in_b within all
       ];
     }
+
+-- ---- searches that leave blocks out
+
+-- what was found is some room
+pub some_room : (edges : List Seg) (r enough : ℕ) (s t : Block) (best found : ℕ) → IsBest edges r enough t best found → IsBest edges r 0 s best found
+some_room edges r enough s t best found is = record { no_less = is.no_less; reached = is.reached; greatest = λ less. absurd (omega (arith, less)) }
+
+-- before any search nothing is found
+pub no_room_yet : (edges : List Seg) (r : ℕ) (s : Block) (best : ℕ) → IsBest edges r 0 s best best
+no_room_yet edges r s best = enough_is edges r 0 s best (omega arith)
+
+-- all edges stand for themselves
+pub stand_for_all : (own : List OwnEdge) (s : Block) → StandFor own own s
+stand_for_all own s = record { among = λ e k. k; room = λ q w in_s all. all; far = λ q n m positive in_s all. all; twins = λ o p in_own in_near is. in_own }
+
+-- one search after another
+pub after_some : (edges : List Seg) (r enough : ℕ) (s : Block) (best first second : ℕ) → IsBest edges r 0 s best first → IsBest edges r enough s first second → IsBest edges r enough s best second
+after_some edges r enough s best first second before after =
+    let la = before.no_less in
+    let lb = after.no_less in record {
+      no_less = omega (arith, la, lb);
+      reached = λ more. elim (cases_lt first second) [
+        | inl last ↦ after.reached last
+        | inr not_last ↦ subst (HasRoomWithin edges r) (omega (arith, not_last, lb)) (before.reached (omega (arith, more, not_last, lb)))
+      ];
+      greatest = after.greatest;
+    }
+
+-- a search that leaves blocks out is asked for nothing
+pub asked_none : (finest enough far : ℕ) → far < finest → asked_for finest enough ≡ 0
+asked_none finest enough far less = ap (λ b. cond b 0 enough) (lt-ltb 0 finest (omega (arith, less)))
+
+pub asked_less : (finest enough : ℕ) → asked_for finest enough ≤ enough
+asked_less finest enough = by (nat_lt 0 finest)
+  where
+    by : (b : Bool) → cond b 0 enough ≤ enough
+    by true = omega arith
+    by false = omega arith
 
 -- what holds of a value where there is one
 pub if_ok : {X E : Type 0} (P Q : X → Type 0) (r : Result X E) → IfOk r P → ((x : X) → P x → Q x) → IfOk r Q

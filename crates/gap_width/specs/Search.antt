@@ -1,5 +1,5 @@
 -- What a search by blocks of grid points knows.
-use Rattle.std.specs.Prelude.{◌≡◌, ℕ, ◌+◌, ◌*◌, ◌^◌, ◌≤◌, ◌<◌, ◌⊎◌, List, filter, nat_lt, Option, Some, None, IsTrue, Contains, ℤ, pos, neg_ℤ, unsigned_abs, ◌-ℤ◌, ◌≤ℤ◌, ◌<ℤ◌}
+use Rattle.std.specs.Prelude.{◌≡◌, ℕ, cond, ◌+◌, ◌*◌, ◌^◌, ◌≤◌, ◌<◌, ◌⊎◌, List, filter, nat_lt, Option, Some, None, IsTrue, Contains, ℤ, pos, neg_ℤ, unsigned_abs, ◌-ℤ◌, ◌≤ℤ◌, ◌<ℤ◌}
 use Rattle.cov_types.specs.declared.coord.Coord.{Coord}
 use Rattle.cov_types.specs.declared.coord.TheConstants.{LIMIT}
 use Rattle.cov_types.specs.declared.seg.Seg.{Seg}
@@ -87,6 +87,10 @@ pub record IsBest (edges : List Seg) (r enough : ℕ) (s : Block) (best found : 
   pub reached : best < found → HasRoomWithin edges r found
   pub greatest : found < enough → (q : Coord) (w : ℕ) → IsWithinBlock s (doubled q) → IsRegionOf edges (at_coord q) r
       → ((e : Seg) → IsEdgeOf edges r e → HasRoom q w e) → w ≤ found
+
+-- a search of all blocks is asked for the most, up to enough of it, and one that leaves fine blocks out for nothing
+abbrev pub asked_for : ℕ → ℕ → ℕ
+asked_for finest enough = cond (nat_lt 0 finest) 0 enough
 
 -- the greater of best and the room of the region's grid points, or enough or more of that
 pub record IsMost (edges : List Seg) (r enough best found : ℕ) : Type 0 where

@@ -9,13 +9,16 @@ ghost use Rattle.gap_width.specs.Search.{IsMost};
 use crate::block::block_inside;
 use crate::near::measure;
 use crate::own::own_edges;
-use crate::search::most_room;
+use crate::search::{coarse_room, most_room};
 use counting_sort::Grouped;
 use cov_types::{NoMemory, Seg};
 use face_walk::Regions;
 use half_edge::Arena;
 use std::alloc::Global;
 use std::marker::Model;
+
+// The half diagonal of the blocks that the search for a clearance looks at first, in half grid units.
+const COARSEST: u32 = 1 << 26;
 
 /// How wide the regions between the edges of an arena are. It borrows the edges, and keeps the sides of each region. A contract sees
 /// the list of edges.
@@ -62,23 +65,24 @@ impl<'a> GapSearch<'a> {
         if w == 0 {
             return Ok(false);
         }
-        Ok(self.most(region, w - 1, w)? < w)
+        Ok(self.most(region, w - 1, w, 0)? < w)
     }
 
     /// The clearance of the region, in half grid units: twice the distance from all edges of the grid point of it that is furthest
     /// from them, rounded down, and 0 where there is none.
-    /// For n edges of the region in a box of d units it takes about n log d time where one part is much wider than the others, and along
-    /// straight sides that face each other, however long; of a corridor with many bends it looks at the grid points near its middle.
+    /// For n edges of the region in a box of d units it takes about n log² d time, however long the region is where straight sides face each
+    /// other; of a corridor with many bends that is as wide everywhere it looks at the grid points near its middle.
     pub fn clearance(&self, region: usize) -> Result<u32, NoMemory>
         requires region { IsRegion self.now region }
         requires not_outer { ¬ IsOuterRegion self.now region }
         ensures { IfOk result (IsClearance self.now region) }
     {
-        self.most(region, 0, u32::MAX)
+        self.most(region, 0, u32::MAX, COARSEST)
     }
 
-    // The greater of best and the room of the region's grid points; the search stops at enough.
-    fn most(&self, region: usize, best: u32, enough: u32) -> Result<u32, NoMemory>
+    // The greater of best and the room of the region's grid points; the search stops at enough. Before all blocks are searched, those down
+    // to the coarsest half diagonal are, and then finer ones.
+    fn most(&self, region: usize, best: u32, enough: u32, coarsest: u32) -> Result<u32, NoMemory>
         requires region { IsRegion self.now region }
         requires not_outer { ¬ IsOuterRegion self.now region }
         requires best { best ≤ 2 ^ 31 }
@@ -90,7 +94,8 @@ impl<'a> GapSearch<'a> {
             None => Ok(best),
             Some(block) => {
                 let whole = measure(&own, block);
-                most_room(self.alloc, &own, &own, whole, best, enough)
+                let most = coarse_room(self.alloc, &own, whole, best, enough, coarsest)?;
+                most_room(self.alloc, &own, &own, whole, most, enough, 0)
             }
         }
     }

@@ -4,11 +4,11 @@ ghost use Rattle.clearance_laws.specs.Inside.{half_point};
 ghost use Rattle.grid_pred.specs.Half.{IsHalfInRange};
 ghost use Rattle.cov_types.specs.declared.seg.Seg.{Seg};
 ghost use Rattle.gap_width.specs.Own.{IsSmallEdge, weighed, AreOwn};
-ghost use Rattle.gap_width.specs.Search.{IsMeasured, StandFor, IsKnown, IsBest};
+ghost use Rattle.gap_width.specs.Search.{IsMeasured, StandFor, IsKnown, IsBest, asked_for};
 
 use crate::block::Block;
 use crate::facing::is_bounded;
-use crate::near::{Measured, edges_within, halves_by_room, some_or_all};
+use crate::near::{Measured, edges_within, halves_by_room, measure, some_or_all};
 use crate::own::{OwnEdge, weight_over};
 use cov_types::{Coord, NoMemory};
 use std::alloc::Global;
@@ -16,8 +16,12 @@ use std::alloc::Global;
 // In smaller blocks, asking what edges that face each other tell takes longer than it saves.
 const SMALL: u32 = 4;
 
+// How much finer each search is than the one before.
+const FINER: u32 = 16;
+
 /// The greater of best and the room of the grid points of the block that are in the region with these own edges; where that comes to
-/// enough, the search stops. Of the own edges near has those that can be nearest to a point of the block.
+/// enough, the search stops. Of the own edges near has those that can be nearest to a point of the block. A block with a half diagonal
+/// below finest is not searched: its least corner stands for it. So at 0 all are, and otherwise there may be more room than is found.
 pub fn most_room(
     alloc: Global,
     own: &[OwnEdge],
@@ -25,6 +29,7 @@ pub fn most_room(
     here: Measured,
     best: u32,
     enough: u32,
+    finest: u32,
 ) -> Result<u32, NoMemory>
     requires own { All IsSmallEdge own.now }
     requires near { All IsSmallEdge near.now }
@@ -32,7 +37,7 @@ pub fn most_room(
     requires best { best ≤ 2 ^ 31 }
     ensures small { IfOk result (λ found. found ≤ 2 ^ 31) }
     ensures best { (edges : List Seg) (r : ℕ) → AreOwn edges r own.now → StandFor own.now near.now here.block → IsKnown edges r here.block
-        → IfOk result (λ found. IsBest edges r enough here.block best found) }
+        → IfOk result (λ found. IsBest edges r (asked_for finest enough) here.block best found) }
 {
     if best >= enough {
         return Ok(best);
@@ -63,9 +68,38 @@ pub fn most_room(
         inside: block.inside || inside && far < room,
         ..block
     };
+    if far < finest {
+        let corner = measure(near, known.least());
+        return most_room(alloc, own, near, corner, best, enough, finest);
+    }
     let (first, second) = halves_by_room(near, known);
-    let best = most_room(alloc, own, near, first, best, enough)?;
-    most_room(alloc, own, near, second, best, enough)
+    let best = most_room(alloc, own, near, first, best, enough, finest)?;
+    most_room(alloc, own, near, second, best, enough, finest)
+}
+
+/// The greater of best and the room of some grid point of the region, as a rule one with nearly the most: searches in blocks down to the
+/// coarsest half diagonal, and then in finer and finer ones.
+pub fn coarse_room(
+    alloc: Global,
+    own: &[OwnEdge],
+    whole: Measured,
+    best: u32,
+    enough: u32,
+    coarsest: u32,
+) -> Result<u32, NoMemory>
+    requires own { All IsSmallEdge own.now }
+    requires whole { IsMeasured own.now whole }
+    requires best { best ≤ 2 ^ 31 }
+    ensures small { IfOk result (λ found. found ≤ 2 ^ 31) }
+    ensures some { (edges : List Seg) (r : ℕ) → AreOwn edges r own.now → IsKnown edges r whole.block → IfOk result (λ found. IsBest edges r 0 whole.block best found) }
+{
+    let mut most = best;
+    let mut finest = coarsest;
+    while finest > 0 {
+        most = most_room(alloc, own, own, whole, most, enough, finest)?;
+        finest /= FINER;
+    }
+    Ok(most)
 }
 
 // Whether a centre off the region decides that nothing in the region, within so far of it, has more room than best: a way from there to

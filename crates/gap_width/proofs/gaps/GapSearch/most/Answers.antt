@@ -1,12 +1,13 @@
-use Rattle.std.proofs.Common.{◌≡◌, ◌∙◌, sym, subst, ◌*◌, ◌<◌, length, true≢false, arith}
+use Rattle.std.proofs.Common.{◌≡◌, ◌∙◌, sym, subst, ◌*◌, ◌<◌, List, length, true≢false, arith}
 use Rattle.std.proofs.lemmas.Option.{same_Some}
 use Rattle.crossing_laws.proofs.Located.{side_within}
 use Rattle.counting_sort.specs.Grouped.{places_of}
 use Rattle.gap_width.specs.Own.{AreOwn}
 use Rattle.distance_laws.specs.Room.{doubled}
-use Rattle.gap_width.specs.Search.{IsWithinBlock, StandFor, IsBest, IsMost}
+use Rattle.gap_width.specs.declared.own.OwnEdge.{OwnEdge}
+use Rattle.gap_width.specs.Search.{IsWithinBlock, StandFor, IsKnown, IsBest, IsMost}
 use Rattle.gap_width.proofs.OwnSides.{are_own}
-use Rattle.gap_width.proofs.Blocks.{if_ok}
+use Rattle.gap_width.proofs.Blocks.{if_ok, after_some, stand_for_all}
 use Rattle.gap_width.proofs.Most.{most_is, none_is, places_below, has_edge, some_of}
 use Rattle.gap_width.proofs.gaps.GapSearch.most.Goals as goal
 
@@ -65,11 +66,16 @@ returns-clause-most c =
     let edges = c.self.inside.edges.now in
     let r = c.args.region in
     let own = are_own edges c.self.invariant.planar c.self.invariant.distinct r inner c.self.invariant.numbers c.self.invariant.regions c.group.result.now c.in_ok-own.own.items sides_are c.in_ok-own.ensures in
-    let same : c.deref-in-Some-2.result.now ≡ c.deref-in-Some-3.result.now = c.deref-in-Some-2.ensures.value ∙ sym c.deref-in-Some-3.ensures.value in
+    let same : c.deref-in-Some-3.result.now ≡ c.deref-in-Some-4.result.now = c.deref-in-Some-3.ensures.value ∙ sym c.deref-in-Some-4.ensures.value in
     let whole = c.measure-whole.result.block in
     let is_whole = c.measure-whole.ensures.block in
-    let stand : StandFor c.deref-in-Some-2.result.now c.deref-in-Some-3.result.now whole = subst (λ xs. StandFor c.deref-in-Some-2.result.now xs whole) same (record { among = λ e k. k; room = λ q w in_s all. all; far = λ q n m positive in_s all. all; twins = λ o p in_own in_near is. in_own }) in
-    if_ok (IsBest edges r c.args.enough whole c.args.best) (IsMost edges r c.args.enough c.args.best) c.most_room.result
-    (c.most_room.ensures.best edges r (subst (AreOwn edges r) (sym c.deref-in-Some-2.ensures.value) own) stand (λ t. absurd (true≢false (sym t ∙ (λ i. (is_whole i).inside) ∙ c.in-Some.ensures.unknown))))
+    let stand : StandFor c.deref-in-Some-3.result.now c.deref-in-Some-4.result.now whole = subst (λ xs. StandFor c.deref-in-Some-3.result.now xs whole) same (stand_for_all c.deref-in-Some-3.result.now whole) in
+    let unknown : (xs : List OwnEdge) → AreOwn edges r xs → IsKnown edges r whole = λ xs are t. absurd (true≢false (sym t ∙ (λ i. (is_whole i).inside) ∙ c.in-Some.ensures.unknown)) in
+    let own3 = subst (AreOwn edges r) (sym c.deref-in-Some-3.ensures.value) own in
+    let own2 = subst (AreOwn edges r) (sym c.deref-in-Some-2.ensures.value) own in
+    let before = c.in_ok-most-in-Some.ensures.some edges r own2 (unknown _ own2) in
+    if_ok (IsBest edges r c.args.enough whole c.in_ok-most-in-Some.most) (IsMost edges r c.args.enough c.args.best) c.most_room.result
+    (c.most_room.ensures.best edges r own3 stand (unknown _ own3))
     (λ found best. most_is edges c.self.invariant.planar c.self.invariant.distinct r inner c.args.enough c.args.best found whole
-    (λ q in_box. subst (λ b. IsWithinBlock b (doubled q)) (sym is_whole) (c.in-Some.ensures.wide edges r (subst (AreOwn edges r) (sym c.deref.ensures.value) own) q in_box)) best))
+    (λ q in_box. subst (λ b. IsWithinBlock b (doubled q)) (sym is_whole) (c.in-Some.ensures.wide edges r (subst (AreOwn edges r) (sym c.deref.ensures.value) own) q in_box))
+    (after_some edges r c.args.enough whole c.args.best c.in_ok-most-in-Some.most found before best)))

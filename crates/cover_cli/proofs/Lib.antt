@@ -5,6 +5,8 @@ pub mod Reading
 pub mod Listing
 pub mod Answering
 pub mod OneText
+pub mod Handing
+pub mod Running
 pub mod Headline
 pub mod Located
 pub mod Overlaid

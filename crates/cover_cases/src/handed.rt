@@ -55,6 +55,7 @@ fn border_then_share(alloc: Global) -> Result<Chain, AllocError> {
 }
 
 // A case: its words, the input, the calls that are to fail, the answer, the output, the place of the used rule and the closing lines.
+#[derive(Clone, Copy)]
 struct Case<'a> {
     line: &'a str,
     input: &'a str,

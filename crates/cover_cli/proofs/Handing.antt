@@ -13,7 +13,7 @@ use Rattle.geo_json.specs.Reading.{Reading}
 use Rattle.merge_rule.specs.RuleState.{RuleState, no_state}
 use Rattle.region_owners.specs.Owner.{Rule, shared_regions}
 use Rattle.cover_cli.specs.Clean.{prepared}
-use Rattle.cover_cli.specs.Handed.{used_place, AreLeft, AreRulesLeft, IsAskedAll, IsAskedSome, IsAskedUntil, IsMadeAsked, IsUnmadeAsked, IsRuleMade, IsRuleUnmade, IsRuleAfter, IsRuleLeft, HasReadAnd}
+use Rattle.cover_cli.specs.Handed.{used_place, AreHandedBack, AreRulesLeft, IsAskedAll, IsAskedSome, IsAskedUntil, IsMadeAsked, IsUnmadeAsked, IsRuleMade, IsRuleUnmade, IsRuleAfter, IsRuleLeft, HasReadAnd}
 use Rattle.cover_cli.specs.Input.{Holds, AreInputs}
 use Rattle.cover_cli.proofs.Causes.{of_one, refuses_refusal, differs}
 use Rattle.cover_cli.specs.Answers.{is_refusal}
@@ -55,19 +55,19 @@ same_output_of rules (OverlayOf first second to) = refl
 -- ---- rules that are left
 
 -- rules that no call changed are left, where one that is as it was is
-pub unchanged : (Left : RuleState → RuleState → Type 0) → ((numbers : RuleState) → Left numbers numbers) → (place : Option ℕ) (rules : List RuleState) → AreLeft Left place rules rules
+pub unchanged : (Left : RuleState → RuleState → Type 0) → ((numbers : RuleState) → Left numbers numbers) → (place : Option ℕ) (rules : List RuleState) → AreHandedBack Left place rules rules
 unchanged Left kept None rules = refl
 unchanged Left kept (Some place) rules = (get_or rules place no_state, (sym (set-get_or rules place no_state), kept (get_or rules place no_state)))
 
 -- what is left so is left in each way that follows from it
 pub left_as : (Left Then : RuleState → RuleState → Type 0) → ((numbers now : RuleState) → Left numbers now → Then numbers now) → (place : Option ℕ) (before after : List RuleState)
-    → AreLeft Left place before after → AreLeft Then place before after
+    → AreHandedBack Left place before after → AreHandedBack Then place before after
 left_as Left Then follows None before after left = left
 left_as Left Then follows (Some place) before after left = (left.0, (left.1.0, follows (get_or before place no_state) left.0 left.1.1))
 
 -- the rule at the place has another state, and the others their own
 pub one_left : {X : Type 0} (Left : RuleState → RuleState → Type 0) (state : X → RuleState) (place : ℕ) (rules after : List X) (rule : X) → after ≡ set rules place rule
-    → Left (get_or (map state rules) place no_state) (state rule) → AreLeft Left (Some place) (map state rules) (map state after)
+    → Left (get_or (map state rules) place no_state) (state rule) → AreHandedBack Left (Some place) (map state rules) (map state after)
 one_left Left state place rules after rule is left = (state rule, (ap (map state) is ∙ map-set state rules place rule, left))
 
 -- ---- what the states are
@@ -107,7 +107,7 @@ unread_leaves (TooMany count) names old new cause = absurd cause
 
 -- by cases of the operation: where a cleaning's rule is left so, and other operations have none, the rules are left
 pub rules_left : (operation : Operation) (s : State) (o : Outcome) (before after : List RuleState)
-    → ((rule : RuleChoice) (gap : ℕ) (too : Bool) (scale : Option ℕ) (from to : List ℕ) → operation ≡ Clean rule gap too scale from to → AreLeft (IsRuleAfter s from scale gap too o) (used_place operation) before after)
+    → ((rule : RuleChoice) (gap : ℕ) (too : Bool) (scale : Option ℕ) (from to : List ℕ) → operation ≡ Clean rule gap too scale from to → AreHandedBack (IsRuleAfter s from scale gap too o) (used_place operation) before after)
     → (used_place operation ≡ None → after ≡ before) → AreRulesLeft operation s o before after
 rules_left (Validate gap scale from to) s o before after clean other = other refl
 rules_left (Clean rule gap too scale from to) s o before after clean other = clean rule gap too scale from to refl
@@ -169,7 +169,7 @@ clean_done rule gap too scale from to inputs o text = of_one inputs _ (o ≡ Don
 
 -- what was made was written, whole or in part
 pub left_made : (operation : Operation) (s : State) (p o : Outcome) (text : List ℕ) (inputs : List (List ℕ)) (before after : List RuleState)
-    → (IsTrue s.tells_files → AreInputs s (inputs_of operation) inputs) → AreLeft (IsRuleMade operation inputs) (used_place operation) before after
+    → (IsTrue s.tells_files → AreInputs s (inputs_of operation) inputs) → AreHandedBack (IsRuleMade operation inputs) (used_place operation) before after
     → Makes (task_of before operation) inputs p text → (o ≡ p) ⊎ (o ≡ WriteFault) → AreRulesLeft operation s o before after
 left_made (Clean rule gap too scale from to) s p o text inputs before after read left makes written =
     let ended : (o ≡ Done) ⊎ (o ≡ WriteFault) = by written in
@@ -199,7 +199,7 @@ unmade_apart task inputs o (inr refuses) =
 
 -- nothing was made
 pub left_unmade : (operation : Operation) (s : State) (o : Outcome) (inputs : List (List ℕ)) (before after : List RuleState)
-    → (IsTrue s.tells_files → AreInputs s (inputs_of operation) inputs) → AreLeft (IsRuleUnmade operation inputs o) (used_place operation) before after
+    → (IsTrue s.tells_files → AreInputs s (inputs_of operation) inputs) → AreHandedBack (IsRuleUnmade operation inputs o) (used_place operation) before after
     → IsRefusedFor (Refuses (task_of before operation) inputs) o → AreRulesLeft operation s o before after
 left_unmade (Clean rule gap too scale from to) s o inputs before after read left refused =
     let apart = unmade_apart (task_of before (Clean rule gap too scale from to)) inputs o refused in

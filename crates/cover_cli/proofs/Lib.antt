@@ -8,6 +8,7 @@ pub mod OneText
 pub mod Handing
 pub mod Running
 pub mod Headline
+pub mod CallerRules
 pub mod Located
 pub mod Overlaid
 pub mod OneAnswer

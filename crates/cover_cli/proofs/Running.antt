@@ -8,7 +8,7 @@ use Rattle.merge_rule.specs.RuleState.{RuleState}
 use Rattle.cover_cli.proofs.Answering.{unread, unmade, answered}
 use Rattle.cover_cli.proofs.Handing.{same_inputs_of, same_output_of, left_made, left_unmade}
 use Rattle.cover_cli.specs.Answers.{IsAnswer}
-use Rattle.cover_cli.specs.Handed.{used_place, AreLeft, AreRulesLeft, IsRuleMade, IsRuleUnmade}
+use Rattle.cover_cli.specs.Handed.{used_place, AreHandedBack, AreRulesLeft, IsRuleMade, IsRuleUnmade}
 use Rattle.cover_cli.specs.Input.{AreInputs}
 use Rattle.cover_cli.specs.Made.{Makes, Refuses}
 use Rattle.cover_cli.specs.Refusal.{IsRefusedFor, IsUnread}
@@ -39,7 +39,7 @@ module _ (rules : List RuleState) (operation : Operation) (old : State) (names :
     pub run_unmade : (new : State) (o : Outcome) → new.read_faults ≡ old.read_faults → KeepsOutput old new → IsRefusedFor (Refuses (task_of rules operation) inputs) o → IsAnswer (task_of rules operation) old new o
     run_unmade new o reads kept refused = unmade (task_of rules operation) old new inputs o read_of_task reads kept refused
 
-    pub run_left_unmade : (o : Outcome) (after : List RuleState) → IsRefusedFor (Refuses (task_of rules operation) inputs) o → AreLeft (IsRuleUnmade operation inputs o) (used_place operation) rules after
+    pub run_left_unmade : (o : Outcome) (after : List RuleState) → IsRefusedFor (Refuses (task_of rules operation) inputs) o → AreHandedBack (IsRuleUnmade operation inputs o) (used_place operation) rules after
         → AreRulesLeft operation old o rules after
     run_left_unmade o after refused left = left_unmade operation old o inputs rules after read_of left refused
 
@@ -53,5 +53,5 @@ module _ (rules : List RuleState) (operation : Operation) (old : State) (names :
       ended (inl whole) = inl whole.0
       ended (inr part) = inr part.0
 
-      pub run_left_made : (after : List RuleState) → AreLeft (IsRuleMade operation inputs) (used_place operation) rules after → AreRulesLeft operation old o rules after
+      pub run_left_made : (after : List RuleState) → AreHandedBack (IsRuleMade operation inputs) (used_place operation) rules after → AreRulesLeft operation old o rules after
       run_left_made after left = left_made operation old made.outcome o made.text.items inputs rules after read_of left makes (ended written.cases)

@@ -97,10 +97,10 @@ IsRuleLeft _ s outcome numbers now = now ≡ numbers
 -- ---- all rules
 
 -- the rule at the place came to a state of which this holds, and every other is as it was; where there is no place, all are
-abbrev pub AreLeft : (RuleState → RuleState → Type 0) → Option ℕ → List RuleState → List RuleState → Type 0
-AreLeft Left None before after = after ≡ before
-AreLeft Left (Some place) before after = (now : RuleState) × ((after ≡ slice_set before place now) × Left (get_or before place no_state) now)
+abbrev pub AreHandedBack : (RuleState → RuleState → Type 0) → Option ℕ → List RuleState → List RuleState → Type 0
+AreHandedBack Left None before after = after ≡ before
+AreHandedBack Left (Some place) before after = (now : RuleState) × ((after ≡ slice_set before place now) × Left (get_or before place no_state) now)
 
 -- how an operation leaves the handed-in rules
 abbrev pub AreRulesLeft : Operation → State → Outcome → List RuleState → List RuleState → Type 0
-AreRulesLeft operation s outcome before after = AreLeft (IsRuleLeft operation s outcome) (used_place operation) before after
+AreRulesLeft operation s outcome before after = AreHandedBack (IsRuleLeft operation s outcome) (used_place operation) before after

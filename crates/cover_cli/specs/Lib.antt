@@ -22,6 +22,7 @@ pub mod Handed
 pub mod Written
 pub mod Laws
 pub mod Headline
+pub mod CallerRules
 pub mod SampleLaw
 pub mod Located
 pub mod Overlaid

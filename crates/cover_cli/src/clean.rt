@@ -8,7 +8,7 @@ ghost use Rattle.gap_replay.specs.Cleaned.{IsCleanedBy};
 ghost use Rattle.gap_replay.specs.Replay.{HasLastState, HasAskedSome};
 ghost use Rattle.merge_rule.specs.RuleState.{no_state};
 ghost use Rattle.cover_cli.specs.Clean.{rule_of, prepared, IsCleanedFor, IsCleaning};
-ghost use Rattle.cover_cli.specs.Handed.{chosen_place, AreLeft, IsAskedAll, IsAskedSome, IsAskedUntil, IsUnprepared, IsMadeAsked, IsUnmadeAsked};
+ghost use Rattle.cover_cli.specs.Handed.{chosen_place, AreHandedBack, IsAskedAll, IsAskedSome, IsAskedUntil, IsUnprepared, IsMadeAsked, IsUnmadeAsked};
 ghost use Rattle.cover_cli.specs.Task.{told_rule};
 ghost use Rattle.cover_words.specs.Words.{IsPlaceBelow};
 ghost use Rattle.geo_json.specs.Reading.{held};
@@ -125,9 +125,9 @@ fn cleaned_by_handed(
     ensures cleaned { IfOk result (λ out. IsCleanedFor (told_rule (map (λ r. ⟦<Hired as MergeRule>⟧.state r.rule) rules.old) (RuleChoice.Handed place)) gap gaps_too c.now out) }
     ensures formed { IfOk result IsFormed }
     ensures names { map (λ r. string_bytes r.name) rules.new ≡ map (λ r. string_bytes r.name) rules.old }
-    ensures asked { IfOk result (λ _. AreLeft (IsAskedAll c.now gap gaps_too) (Some place)
+    ensures asked { IfOk result (λ _. AreHandedBack (IsAskedAll c.now gap gaps_too) (Some place)
         (map (λ r. ⟦<Hired as MergeRule>⟧.state r.rule) rules.old) (map (λ r. ⟦<Hired as MergeRule>⟧.state r.rule) rules.new)) }
-    ensures no_memory { IfErr result (λ _. AreLeft (IsAskedUntil c.now gap gaps_too) (Some place)
+    ensures no_memory { IfErr result (λ _. AreHandedBack (IsAskedUntil c.now gap gaps_too) (Some place)
         (map (λ r. ⟦<Hired as MergeRule>⟧.state r.rule) rules.old) (map (λ r. ⟦<Hired as MergeRule>⟧.state r.rule) rules.new)) }
 {
     cleaned_by_hired(alloc, c, &mut rules[place].rule, gap, gaps_too)
@@ -148,9 +148,9 @@ fn cleaned_for(
     ensures cleaned { IfOk result (λ out. IsCleanedFor (told_rule (map (λ r. ⟦<Hired as MergeRule>⟧.state r.rule) rules.old) rule) gap gaps_too c.now out) }
     ensures formed { IfOk result IsFormed }
     ensures names { map (λ r. string_bytes r.name) rules.new ≡ map (λ r. string_bytes r.name) rules.old }
-    ensures asked { IfOk result (λ _. AreLeft (IsAskedAll c.now gap gaps_too) (chosen_place rule)
+    ensures asked { IfOk result (λ _. AreHandedBack (IsAskedAll c.now gap gaps_too) (chosen_place rule)
         (map (λ r. ⟦<Hired as MergeRule>⟧.state r.rule) rules.old) (map (λ r. ⟦<Hired as MergeRule>⟧.state r.rule) rules.new)) }
-    ensures no_memory { IfErr result (λ _. AreLeft (IsAskedUntil c.now gap gaps_too) (chosen_place rule)
+    ensures no_memory { IfErr result (λ _. AreHandedBack (IsAskedUntil c.now gap gaps_too) (chosen_place rule)
         (map (λ r. ⟦<Hired as MergeRule>⟧.state r.rule) rules.old) (map (λ r. ⟦<Hired as MergeRule>⟧.state r.rule) rules.new)) }
 {
     match rule {
@@ -174,9 +174,9 @@ fn cleaning(
     ensures made { IfOk result (λ made. IsCleaning (told_rule (map (λ r. ⟦<Hired as MergeRule>⟧.state r.rule) rules.old) rule)
         way.now.gap way.now.gaps_too way.now.scale way.now.to.now (held f) made.outcome made.text.items) }
     ensures names { map (λ r. string_bytes r.name) rules.new ≡ map (λ r. string_bytes r.name) rules.old }
-    ensures asked { IfOk result (λ _. AreLeft (IsAskedAll f.coverage way.now.gap way.now.gaps_too) (chosen_place rule)
+    ensures asked { IfOk result (λ _. AreHandedBack (IsAskedAll f.coverage way.now.gap way.now.gaps_too) (chosen_place rule)
         (map (λ r. ⟦<Hired as MergeRule>⟧.state r.rule) rules.old) (map (λ r. ⟦<Hired as MergeRule>⟧.state r.rule) rules.new)) }
-    ensures no_memory { IfErr result (λ _. AreLeft (IsAskedUntil f.coverage way.now.gap way.now.gaps_too) (chosen_place rule)
+    ensures no_memory { IfErr result (λ _. AreHandedBack (IsAskedUntil f.coverage way.now.gap way.now.gaps_too) (chosen_place rule)
         (map (λ r. ⟦<Hired as MergeRule>⟧.state r.rule) rules.old) (map (λ r. ⟦<Hired as MergeRule>⟧.state r.rule) rules.new)) }
 {
     let coverage = cleaned_for(alloc, &f.coverage, rule, rules, way.gap, way.gaps_too)?;
@@ -210,9 +210,9 @@ pub fn make(
         IsCleaning (told_rule (map (λ r. ⟦<Hired as MergeRule>⟧.state r.rule) rules.old) rule) way.now.gap way.now.gaps_too way.now.scale way.now.to.now r made.outcome made.text.items)) }
     ensures refused { IfErr result (IsRefusedFor (RefusesInput way.now.from.now way.now.scale input.items)) }
     ensures names { map (λ r. string_bytes r.name) rules.new ≡ map (λ r. string_bytes r.name) rules.old }
-    ensures asked { IfOk result (λ _. AreLeft (IsMadeAsked way.now.from.now way.now.scale input.items way.now.gap way.now.gaps_too) (chosen_place rule)
+    ensures asked { IfOk result (λ _. AreHandedBack (IsMadeAsked way.now.from.now way.now.scale input.items way.now.gap way.now.gaps_too) (chosen_place rule)
         (map (λ r. ⟦<Hired as MergeRule>⟧.state r.rule) rules.old) (map (λ r. ⟦<Hired as MergeRule>⟧.state r.rule) rules.new)) }
-    ensures unasked { IfErr result (λ o. AreLeft (IsUnmadeAsked way.now.from.now way.now.scale input.items way.now.gap way.now.gaps_too o) (chosen_place rule)
+    ensures unasked { IfErr result (λ o. AreHandedBack (IsUnmadeAsked way.now.from.now way.now.scale input.items way.now.gap way.now.gaps_too o) (chosen_place rule)
         (map (λ r. ⟦<Hired as MergeRule>⟧.state r.rule) rules.old) (map (λ r. ⟦<Hired as MergeRule>⟧.state r.rule) rules.new)) }
 {
     let features = features_of(alloc, way.from, way.scale, input)?;

@@ -1,7 +1,7 @@
 ghost use Rattle.std.specs.Prelude.{◌≡◌, ◌≤◌, length, map, All, IfOk, IfErr};
 ghost use Rattle.std.specs.String.{string_bytes};
 ghost use Rattle.geo_text.specs.declared.reader.TheConstants.{LONGEST_INPUT};
-ghost use Rattle.cover_cli.specs.Handed.{used_place, AreLeft, IsRuleMade, IsRuleUnmade};
+ghost use Rattle.cover_cli.specs.Handed.{used_place, AreHandedBack, IsRuleMade, IsRuleUnmade};
 ghost use Rattle.cover_cli.specs.Made.{Makes, Refuses};
 ghost use Rattle.cover_cli.specs.Task.{task_of};
 ghost use Rattle.cover_words.specs.Named.{named};
@@ -39,9 +39,9 @@ pub fn make(
     ensures refused { IfErr result (IsRefusedFor
         (Refuses (task_of (map (λ r. ⟦<Hired as MergeRule>⟧.state r.rule) rules.old) (named operation.now)) (map (λ i. i.items) inputs.items))) }
     ensures names { map (λ r. string_bytes r.name) rules.new ≡ map (λ r. string_bytes r.name) rules.old }
-    ensures asked { IfOk result (λ _. AreLeft (IsRuleMade (named operation.now) (map (λ i. i.items) inputs.items)) (used_place (named operation.now))
+    ensures asked { IfOk result (λ _. AreHandedBack (IsRuleMade (named operation.now) (map (λ i. i.items) inputs.items)) (used_place (named operation.now))
         (map (λ r. ⟦<Hired as MergeRule>⟧.state r.rule) rules.old) (map (λ r. ⟦<Hired as MergeRule>⟧.state r.rule) rules.new)) }
-    ensures unasked { IfErr result (λ o. AreLeft (IsRuleUnmade (named operation.now) (map (λ i. i.items) inputs.items) o) (used_place (named operation.now))
+    ensures unasked { IfErr result (λ o. AreHandedBack (IsRuleUnmade (named operation.now) (map (λ i. i.items) inputs.items) o) (used_place (named operation.now))
         (map (λ r. ⟦<Hired as MergeRule>⟧.state r.rule) rules.old) (map (λ r. ⟦<Hired as MergeRule>⟧.state r.rule) rules.new)) }
 {
     match operation {

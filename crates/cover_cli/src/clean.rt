@@ -31,7 +31,7 @@ use std::alloc::Global;
 
 /// How features are cleaned, beside the rule.
 #[derive(Clone, Copy)]
-pub struct Cleaning<'a> {
+pub struct CleanWay<'a> {
     /// The gap width, in grid units.
     pub gap: u32,
     /// Whether the rule is asked for narrow gaps too.
@@ -163,7 +163,7 @@ fn cleaned_for(
 fn cleaning(
     alloc: Global,
     f: Features,
-    way: &Cleaning,
+    way: &CleanWay,
     rule: RuleChoice,
     rules: &mut [NamedRule],
 ) -> Result<Made, NoMemory>
@@ -197,7 +197,7 @@ fn cleaning(
 /// then asked; where the input is refused, no rule has changed.
 pub fn make(
     alloc: Global,
-    way: &Cleaning,
+    way: &CleanWay,
     rule: RuleChoice,
     rules: &mut [NamedRule],
     input: Vec<u8>,

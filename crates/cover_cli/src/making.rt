@@ -8,7 +8,7 @@ ghost use Rattle.cover_words.specs.Named.{named};
 ghost use Rattle.cover_cli.specs.Refusal.{IsRefusedFor};
 ghost use Rattle.cover_words.specs.Words.{IsWithinLimit, inputs_of};
 
-use crate::clean::Cleaning;
+use crate::clean::CleanWay;
 use crate::outcome::Outcome;
 use crate::{clean, locate, node, overlay, regions, sample, simplify, union, validate};
 use cov_rules::{Hired, NamedRule};
@@ -59,7 +59,7 @@ pub fn make(
             from,
             to,
         } => {
-            let way = Cleaning {
+            let way = CleanWay {
                 gap: *gap,
                 gaps_too: *gaps_too,
                 scale: *scale,

@@ -29,5 +29,12 @@ pub fn rule_chosen(word: &str, names: &[&str]) -> Option<RuleChoice>
 fn place_of(word: &str, names: &[&str]) -> Option<usize>
     ensures { result ≡ position (λ name. bytes_eq name word.now) (map (λ n. n.now) names.now) }
 {
+    place_among(word, names)
+}
+
+// The same, of the names as they are borrowed.
+fn place_among(word: &str, names: &[&str]) -> Option<usize>
+    ensures { result ≡ position (λ name. bytes_eq name.now word.now) names.now }
+{
     names.iter().position(|name| *name == word)
 }

@@ -4,11 +4,12 @@ use Rattle.cov_io.specs.State.{State}
 use Rattle.feature_files.proofs.Files.{one_reading}
 use Rattle.geo_json.specs.Reading.{Reading}
 use Rattle.merge_rule.specs.RuleState.{RuleState, no_state}
+use Rattle.cov_rules.specs.Asked.{IsAskedAll}
 use Rattle.cover_cli.proofs.Inputs.{same_inputs}
 use Rattle.cover_cli.specs.Answers.{HoldsText, IsAnswer}
 use Rattle.cover_cli.specs.CallerRules.{HoldsByRule, CallerRulesLaw}
 use Rattle.cover_cli.specs.Clean.{IsCleaning}
-use Rattle.cover_cli.specs.Handed.{HasReadAnd, IsAskedAll}
+use Rattle.cover_cli.specs.Handed.{HasReadAnd}
 use Rattle.cover_cli.specs.Input.{AreInputs}
 use Rattle.cover_cli.specs.Made.{Makes}
 use Rattle.cover_cli.specs.Task.{HandedIn}

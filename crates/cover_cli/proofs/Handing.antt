@@ -5,6 +5,7 @@ use Rattle.std.proofs.Math.Seq.{take-length}
 use Rattle.std.specs.Prelude.{slice_set}
 use Rattle.arrangement.specs.Overlay.{Overlay}
 use Rattle.cov_io.specs.State.{State}
+use Rattle.cov_rules.specs.Asked.{prepared, IsAskedAll, IsAskedSome, IsAskedUntil}
 use Rattle.cov_rules.specs.Hired.{by_kind}
 use Rattle.cov_types.specs.Coverage.{Members}
 use Rattle.cov_types.specs.Uses.{uses_of}
@@ -12,8 +13,7 @@ use Rattle.gap_replay.specs.Replay.{HasLastState, HasAskedSome}
 use Rattle.geo_json.specs.Reading.{Reading}
 use Rattle.merge_rule.specs.RuleState.{RuleState, no_state}
 use Rattle.region_owners.specs.Owner.{Rule, shared_regions}
-use Rattle.cover_cli.specs.Clean.{prepared}
-use Rattle.cover_cli.specs.Handed.{used_place, AreHandedBack, AreRulesLeft, IsAskedAll, IsAskedSome, IsAskedUntil, IsMadeAsked, IsUnmadeAsked, IsRuleMade, IsRuleUnmade, IsRuleAfter, IsRuleLeft, HasReadAnd}
+use Rattle.cover_cli.specs.Handed.{used_place, AreHandedBack, AreRulesLeft, IsMadeAsked, IsUnmadeAsked, IsRuleMade, IsRuleUnmade, IsRuleAfter, IsRuleLeft, HasReadAnd}
 use Rattle.cover_cli.specs.Input.{Holds, AreInputs}
 use Rattle.cover_cli.proofs.Causes.{of_one, refuses_refusal, differs}
 use Rattle.cover_cli.specs.Answers.{is_refusal}
@@ -78,7 +78,7 @@ asked_all_some false rule state o w now last = record { count = length (shared_r
 asked_all_some true rule state o w now last = inr (record { gaps = last.gaps; are_gaps = last.are_gaps; count = length last.gaps; reached = rw (take-length last.gaps) last.reached })
 
 pub all_until : (members : Members) (gap : ℕ) (too : Bool) (numbers now : RuleState) → IsAskedAll members gap too numbers now → IsAskedUntil members gap too numbers now
-all_until members gap too numbers now all = inr (inr (λ o is. asked_all_some too by_kind (prepared numbers (length members)) o gap now (all o is)))
+all_until members gap too numbers now all = inr (λ o is. asked_all_some too by_kind (prepared numbers (length members)) o gap now (all o is))
 
 -- ---- after making, and after writing
 

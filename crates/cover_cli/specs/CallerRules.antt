@@ -2,6 +2,7 @@
 use Rattle.std.specs.Prelude.{◌≡◌, ℕ, Bool, List, length, get_or, slice_set, Option, IsTrue}
 use Rattle.cov_io.specs.Contents.{HoldsNow}
 use Rattle.cov_io.specs.State.{State}
+use Rattle.cov_rules.specs.Asked.{prepared, IsAskedAll}
 use Rattle.cov_rules.specs.Hired.{by_kind}
 use Rattle.cov_types.specs.Coverage.{Members, IsFormed}
 use Rattle.feature_files.specs.Form.{IsWrittenAs}
@@ -10,8 +11,7 @@ use Rattle.gap_replay.specs.Cleaned.{IsCleanedBy}
 use Rattle.geo_json.specs.Reading.{Reading}
 use Rattle.merge_rule.specs.RuleState.{RuleState, no_state}
 use Rattle.cover_cli.specs.Answers.{IsAnswer}
-use Rattle.cover_cli.specs.Clean.{prepared}
-use Rattle.cover_cli.specs.Handed.{AreRulesLeft, IsAskedAll}
+use Rattle.cover_cli.specs.Handed.{AreRulesLeft}
 use Rattle.cover_cli.specs.Input.{Holds}
 use Rattle.cover_cli.specs.Task.{task_of}
 use Rattle.cover_cli.specs.declared.outcome.Outcome.TheVariants.{Done}

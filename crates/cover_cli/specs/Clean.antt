@@ -1,7 +1,7 @@
 -- What cleaning a coverage answers and writes.
 use Rattle.std.specs.Prelude.{◌≡◌, ℕ, Bool, List, length, Option}
+use Rattle.cov_rules.specs.Asked.{prepared}
 use Rattle.cov_rules.specs.Hired.{by_kind}
-use Rattle.cov_rules.specs.Kinds.{room}
 use Rattle.cov_types.specs.Coverage.{Members, IsFormed}
 use Rattle.feature_files.specs.Form.{IsWrittenAs}
 use Rattle.feature_files.specs.Reading.{with_members}
@@ -21,10 +21,6 @@ rule_of LeastIndex = rule_by least_index
 rule_of GreatestArea = rule_by greatest_area
 rule_of LeastArea = rule_by least_area
 rule_of LongestBorder = rule_by longest_border
-
--- the numbers of a handed-in rule once it is prepared for so many members
-abbrev pub prepared : RuleState → ℕ → RuleState
-prepared numbers members = (numbers.0, room numbers.0 numbers.1 members)
 
 -- what the rule of a task picks and keeps
 abbrev pub picks_of : TaskRule → Rule RuleState

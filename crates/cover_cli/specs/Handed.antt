@@ -1,15 +1,9 @@
 -- The rules that a caller hands in: which of them an operation goes by, and how they come back.
 use Rattle.std.specs.Prelude.{◌≡◌, ◌⊎◌, ℕ, Bool, List, length, get_or, slice_set, Option, Some, None, IsTrue}
-use Rattle.arrangement.specs.Overlay.{Overlay, IsSnappedOverlay}
 use Rattle.cov_io.specs.State.{State}
-use Rattle.cov_rules.specs.Hired.{by_kind}
-use Rattle.cov_rules.specs.Kinds.{IsPartlyPrepared}
-use Rattle.cov_types.specs.Coverage.{Members}
-use Rattle.cov_types.specs.Uses.{uses_of}
-use Rattle.gap_replay.specs.Replay.{HasLastState, HasAskedSome}
+use Rattle.cov_rules.specs.Asked.{IsAskedAll, IsAskedUntil}
 use Rattle.geo_json.specs.Reading.{Reading}
 use Rattle.merge_rule.specs.RuleState.{RuleState, no_state}
-use Rattle.cover_cli.specs.Clean.{prepared}
 use Rattle.cover_cli.specs.Input.{Holds}
 use Rattle.cover_cli.specs.Made.{IsOneAnd}
 use Rattle.cover_cli.specs.Text.{IsReadAnd}
@@ -37,25 +31,6 @@ used_by None = None
 used_by (Some operation) = used_place operation
 
 -- ---- the state of a rule
-
--- the rule of these numbers was prepared for the members and asked for all shared regions and, where that is said, for all narrow gaps
-abbrev pub IsAskedAll : Members → ℕ → Bool → RuleState → RuleState → Type 0
-IsAskedAll members gap too numbers now =
-    (o : Overlay) → IsSnappedOverlay (uses_of members) (length members) o → HasLastState too by_kind (prepared numbers (length members)) o gap now
-
--- the rule was prepared for the members and asked for the first of these, be it none of them or all
-abbrev pub IsAskedSome : Members → ℕ → Bool → RuleState → RuleState → Type 0
-IsAskedSome members gap too numbers now =
-    (o : Overlay) → IsSnappedOverlay (uses_of members) (length members) o → HasAskedSome too by_kind (prepared numbers (length members)) o gap now
-
--- the rule was not prepared for want of memory: what is fixed stays, and of a chain the first parts are prepared
-pub record IsUnprepared (members : ℕ) (numbers now : RuleState) : Type 0 where
-  pub fixed : now.0 ≡ numbers.0
-  pub partly : IsPartlyPrepared numbers.0 numbers.1 members now.1
-
--- memory ran out before the rule was prepared, while it was, or after that
-abbrev pub IsAskedUntil : Members → ℕ → Bool → RuleState → RuleState → Type 0
-IsAskedUntil members gap too numbers now = (now ≡ numbers) ⊎ (IsUnprepared (length members) numbers now ⊎ IsAskedSome members gap too numbers now)
 
 -- of the input of this name the cleaned coverage was made: the rule was asked for all of it
 abbrev pub IsMadeAsked : List ℕ → Option ℕ → List ℕ → ℕ → Bool → RuleState → RuleState → Type 0

@@ -1,14 +1,11 @@
-ghost use Rattle.std.specs.Prelude.{◌≡◌, ◌≤◌, ◌<◌, ◌^◌, ◌⊎◌, length, map, IfOk, IfErr, IfSome};
+ghost use Rattle.std.specs.Prelude.{◌≡◌, ◌≤◌, ◌<◌, ◌^◌, length, map, IfOk, IfErr};
 ghost use Rattle.std.specs.String.{string_bytes};
 ghost use Rattle.cov_types.specs.Coverage.{AllInRange, IsFormed};
-ghost use Rattle.cov_types.specs.Uses.{uses_of};
-ghost use Rattle.arrangement.specs.Overlay.{Overlay, IsSnappedOverlay};
-ghost use Rattle.cov_rules.specs.Hired.{by_kind};
 ghost use Rattle.gap_replay.specs.Cleaned.{IsCleanedBy};
-ghost use Rattle.gap_replay.specs.Replay.{HasLastState, HasAskedSome};
 ghost use Rattle.merge_rule.specs.RuleState.{no_state};
-ghost use Rattle.cover_cli.specs.Clean.{rule_of, prepared, IsCleanedFor, IsCleaning};
-ghost use Rattle.cover_cli.specs.Handed.{chosen_place, AreHandedBack, IsAskedAll, IsAskedSome, IsAskedUntil, IsUnprepared, IsMadeAsked, IsUnmadeAsked};
+ghost use Rattle.cover_cli.specs.Clean.{rule_of, IsCleanedFor, IsCleaning};
+ghost use Rattle.cov_rules.specs.Asked.{IsAskedAll, IsAskedUntil};
+ghost use Rattle.cover_cli.specs.Handed.{chosen_place, AreHandedBack, IsMadeAsked, IsUnmadeAsked};
 ghost use Rattle.cover_cli.specs.Task.{told_rule};
 ghost use Rattle.cover_words.specs.Words.{IsPlaceBelow};
 ghost use Rattle.geo_json.specs.Reading.{held};
@@ -20,8 +17,7 @@ ghost use Rattle.cover_cli.specs.Text.{IsReadAnd, RefusesInput};
 use crate::making::Made;
 use crate::outcome::Outcome;
 use crate::text::features_of;
-use cov_clean::{clean, clean_with_gaps};
-use cov_rules::{Hired, NamedRule};
+use cov_rules::{Hired, NamedRule, cleaned_by, cleaned_by_hired};
 use cov_types::{Coverage, NoMemory};
 use cover_words::{RuleChoice, RuleName};
 use feature_files::text_for;
@@ -42,30 +38,6 @@ pub struct CleanWay<'a> {
     pub from: &'a str,
     /// The name of the output.
     pub to: &'a str,
-}
-
-// The coverage, cleaned by the rule at the gap width; the rule is asked for narrow gaps too where that is said.
-fn cleaned_by<R: MergeRule>(
-    alloc: Global,
-    c: &Coverage,
-    rule: &mut R,
-    gap: u32,
-    gaps_too: bool,
-) -> Result<Coverage, NoMemory>
-    requires in_range { AllInRange c.now }
-    requires gap { gap ≤ 2 ^ 30 }
-    ensures cleaned { IfOk result (λ out. IsCleanedBy gaps_too c.now R.rule (R.state rule.old) gap out) }
-    ensures formed { IfOk result IsFormed }
-    ensures asked { IfOk result (λ _. (o : Overlay) → IsSnappedOverlay (uses_of c.now) (length c.now) o
-        → HasLastState gaps_too R.rule (R.state rule.old) o gap (R.state rule.new)) }
-    ensures no_memory { IfErr result (λ _. (o : Overlay) → IsSnappedOverlay (uses_of c.now) (length c.now) o
-        → HasAskedSome gaps_too R.rule (R.state rule.old) o gap (R.state rule.new)) }
-{
-    if gaps_too {
-        clean_with_gaps(alloc, c, rule, gap)
-    } else {
-        clean(alloc, c, rule, gap)
-    }
 }
 
 /// The coverage, cleaned by the rule of the name at the gap width, which is asked for narrow gaps too where that is said.
@@ -89,28 +61,7 @@ pub fn cleaned(
     }
 }
 
-// The coverage, cleaned by a handed-in rule, which is prepared for the members first.
-fn cleaned_by_hired(
-    alloc: Global,
-    c: &Coverage,
-    rule: &mut Hired,
-    gap: u32,
-    gaps_too: bool,
-) -> Result<Coverage, NoMemory>
-    requires in_range { AllInRange c.now }
-    requires gap { gap ≤ 2 ^ 30 }
-    ensures cleaned { IfOk result (λ out. IsCleanedBy gaps_too c.now by_kind (prepared (⟦<Hired as MergeRule>⟧.state rule.old) (length c.now)) gap out) }
-    ensures formed { IfOk result IsFormed }
-    ensures asked { IfOk result (λ _. IsAskedAll c.now gap gaps_too (⟦<Hired as MergeRule>⟧.state rule.old) (⟦<Hired as MergeRule>⟧.state rule.new)) }
-    ensures no_memory { IfErr result (λ _.
-        IsUnprepared (length c.now) (⟦<Hired as MergeRule>⟧.state rule.old) (⟦<Hired as MergeRule>⟧.state rule.new)
-        ⊎ IsAskedSome c.now gap gaps_too (⟦<Hired as MergeRule>⟧.state rule.old) (⟦<Hired as MergeRule>⟧.state rule.new)) }
-{
-    rule.prepare(c.members.len() as u32)?;
-    cleaned_by(alloc, c, rule, gap, gaps_too)
-}
-
-// The same by the rule at the place, under its name.
+// The coverage, cleaned by the handed-in rule at the place.
 fn cleaned_by_handed(
     alloc: Global,
     c: &Coverage,

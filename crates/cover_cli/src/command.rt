@@ -1,4 +1,4 @@
-ghost use Rattle.std.specs.Prelude.{◌≡◌, ◌⊎◌, length, map, None, IfOk, IfSome};
+ghost use Rattle.std.specs.Prelude.{◌≡◌, ◌⊎◌, [], length, map, None, IfOk, IfSome};
 ghost use Rattle.std.specs.String.{string_bytes};
 ghost use Rattle.cover_cli.specs.Answers.{IsAnswer};
 ghost use Rattle.cover_cli.specs.Handed.{used_by, used_place, AreRulesLeft};

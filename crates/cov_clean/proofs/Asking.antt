@@ -8,7 +8,8 @@ use Rattle.std.proofs.lemmas.List.Sums.{fold-append}
 use Rattle.plane.specs.Label.{numbers_below}
 use Rattle.arrangement.specs.Overlay.{Overlay, region_at, label_of}
 use Rattle.region_owners.specs.Owner.{Rule, facts_of, shared_regions, state_after, state_before, last_state}
-use Rattle.cov_clean.specs.Asked.{one_if_shared, HasAskedFirst}
+use Rattle.gap_replay.specs.Replay.{HasAskedFirst}
+use Rattle.cov_clean.specs.Asked.{one_if_shared}
 use Rattle.cov_clean.proofs.Numbers.{below_lesser, filter_swap}
 
 module _ (o : Overlay) where

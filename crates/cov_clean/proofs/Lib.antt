@@ -8,3 +8,6 @@ pub mod LongestSides
 pub mod Neighbour
 pub mod Filling
 pub mod Cleaning
+pub mod RunLengths
+pub mod GapFacts
+pub mod LesserGaps

@@ -12,10 +12,10 @@ use Rattle.cov_clean.specs.Longest.{IsLongest, IsNoShorter, AreClear, AreLengths
 
 -- ---- lists of lengths
 
-own_length : (s : OwnedSide) (i : ℕ) → s.member ≡ i → length_by i s ≡ s.length
+pub own_length : (s : OwnedSide) (i : ℕ) → s.member ≡ i → length_by i s ≡ s.length
 own_length s i same = ap (λ (b : Bool). cond b s.length 0) (eq-eqb s.member i same)
 
-other_length : (s : OwnedSide) (i : ℕ) → (s.member ≡ i → ⊥) → length_by i s ≡ 0
+pub other_length : (s : OwnedSide) (i : ℕ) → (s.member ≡ i → ⊥) → length_by i s ≡ 0
 other_length s i other = ap (λ (b : Bool). cond b s.length 0) (ne_eqb s.member i other)
 
 -- the lengths of the first sides are in the list, and small

@@ -1,11 +1,11 @@
 -- The rule that is asked region by region: what it gives, and the state that it has on the way.
-use Rattle.std.specs.Prelude.{◌≡◌, ℕ, ◌==◌, cond, nat_le, List, [], ◌∷◌, length, filter, map, take, Option, Some, None, option_map, slice_get, ℤ}
+use Rattle.std.specs.Prelude.{ℕ, ◌==◌, cond, nat_le, List, [], ◌∷◌, length, filter, map, Option, Some, None, option_map, slice_get, ℤ}
 use Rattle.plane.specs.Label.{numbers_below}
 use Rattle.arrangement.specs.Measure.{member_area2}
 use Rattle.arrangement.specs.Noding.{odd_uses}
 use Rattle.arrangement.specs.Overlay.{Overlay, region_at, label_of}
 use Rattle.region_owners.specs.Candidates.{candidates_of}
-use Rattle.region_owners.specs.Owner.{Rule, facts_of, shared_regions, state_after, label_owner}
+use Rattle.region_owners.specs.Owner.{Rule, facts_of, label_owner}
 use Rattle.owner_label.specs.Labelled.{Labelled}
 
 -- the doubled areas of the members below a count
@@ -25,8 +25,3 @@ one_if_shared o r = filter (λ g. nat_le 2 (length (label_of o g))) (r ∷ [])
 -- the owner of the region with the number of the side, and none where there is no such region
 abbrev pub side_owner : {State : Type 0} → Rule State → State → Overlay → ℕ → Option ℕ
 side_owner rule state o n = cond (region_at o n == n) (label_owner rule state o n) None
-
--- the rule has the state that it has after some of the shared regions, the first ones
-pub record HasAskedFirst {State : Type 0} (rule : Rule State) (state : State) (o : Overlay) (now : State) : Type 0 where
-  pub count : ℕ
-  pub reached : now ≡ state_after rule state o (take count (shared_regions o))

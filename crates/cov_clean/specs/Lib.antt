@@ -1,4 +1,5 @@
 pub mod Asked
 pub mod Filled
 pub mod Longest
+pub mod Runs
 pub mod SnappedEdges

@@ -1,15 +1,16 @@
-ghost use Rattle.std.specs.Prelude.{◌≡◌, ◌≤◌, ◌^◌, length, IfOk, IfErr};
+ghost use Rattle.std.specs.Prelude.{◌≡◌, ◌≤◌, ◌^◌, true, length, IfOk, IfErr};
 ghost use Rattle.cov_types.specs.Coverage.{AllInRange, IsFormed};
 ghost use Rattle.cov_types.specs.Uses.{uses_of};
 ghost use Rattle.arrangement.specs.Overlay.{Overlay, IsSnappedOverlay};
 ghost use Rattle.plane.specs.Validity.{IsValid};
 ghost use Rattle.region_owners.specs.Owner.{last_state};
-ghost use Rattle.cov_clean.specs.Asked.{HasAskedFirst};
+ghost use Rattle.gap_replay.specs.Cleaned.{IsCleanedBy, IsCleanedWithGaps};
+ghost use Rattle.gap_replay.specs.Replay.{HasAskedFirst, HasAskedSome, HasLastState};
 ghost use Rattle.sound_polygons.specs.Cleaned.{IsCleaned};
 ghost use Rattle.cov_clean.specs.SnappedEdges.{AreSnappedEdges};
 
 use crate::facts::areas_of_members;
-use crate::gaps::filled_owners;
+use crate::gaps::owners_with_gaps;
 use crate::owners::owners_of_sides;
 use cov_build::polygons;
 use cov_types::{Coverage, NoMemory, uses};
@@ -48,6 +49,54 @@ pub fn clean<R: MergeRule>(
     ensures state { IfOk result (λ _. (o : Overlay) → IsSnappedOverlay (uses_of c.now) (length c.now) o → R.state rule.new ≡ last_state R.rule (R.state rule.old) o) }
     ensures no_memory { IfErr result (λ _. (o : Overlay) → IsSnappedOverlay (uses_of c.now) (length c.now) o → HasAskedFirst R.rule (R.state rule.old) o (R.state rule.new)) }
 {
+    cleaned_by(alloc, c, rule, gap, false)
+}
+
+/// The coverage, cleaned as [`clean`] does, where the rule is asked for the narrow gaps too: once it was asked for all regions that several
+/// members hold, it is asked once for each gap that is narrow at the gap width, in ascending order. The candidates for a gap are the members
+/// with an owned border with it, by the owners of the regions that members hold, and the gap goes to the one that the rule picks.
+///
+/// After running out of memory the rule has the state that it has after the first of these regions, or after all of them and the first of
+/// the gaps.
+///
+/// Takes time and memory as [`clean`] does, and for each narrow gap time in proportion to its sides and their logarithm.
+pub fn clean_with_gaps<R: MergeRule>(
+    alloc: Global,
+    c: &Coverage,
+    rule: &mut R,
+    gap: u32,
+) -> Result<Coverage, NoMemory>
+    requires in_range { AllInRange c.now }
+    requires gap { gap ≤ 2 ^ 30 }
+    ensures cleaned { IfOk result (λ out. IsCleanedWithGaps c.now R.rule (R.state rule.old) gap out) }
+    ensures valid { IfOk result (λ out. IsValid (uses_of out)) }
+    ensures formed { IfOk result IsFormed }
+    ensures count { IfOk result (λ out. length out ≡ length c.now) }
+
+    // The rule was asked for all shared regions and all narrow gaps or, without memory, for the first ones.
+    ensures state { IfOk result (λ _. (o : Overlay) → IsSnappedOverlay (uses_of c.now) (length c.now) o → HasLastState true R.rule (R.state rule.old) o gap (R.state rule.new)) }
+    ensures no_memory { IfErr result (λ _. (o : Overlay) → IsSnappedOverlay (uses_of c.now) (length c.now) o → HasAskedSome true R.rule (R.state rule.old) o gap (R.state rule.new)) }
+{
+    cleaned_by(alloc, c, rule, gap, true)
+}
+
+// The coverage, cleaned, where the rule is asked for the narrow gaps too or not.
+fn cleaned_by<R: MergeRule>(
+    alloc: Global,
+    c: &Coverage,
+    rule: &mut R,
+    gap: u32,
+    gaps_too: bool,
+) -> Result<Coverage, NoMemory>
+    requires in_range { AllInRange c.now }
+    requires gap { gap ≤ 2 ^ 30 }
+    ensures cleaned { IfOk result (λ out. IsCleanedBy gaps_too c.now R.rule (R.state rule.old) gap out) }
+    ensures valid { IfOk result (λ out. IsValid (uses_of out)) }
+    ensures formed { IfOk result IsFormed }
+    ensures count { IfOk result (λ out. length out ≡ length c.now) }
+    ensures state { IfOk result (λ _. (o : Overlay) → IsSnappedOverlay (uses_of c.now) (length c.now) o → HasLastState gaps_too R.rule (R.state rule.old) o gap (R.state rule.new)) }
+    ensures no_memory { IfErr result (λ _. (o : Overlay) → IsSnappedOverlay (uses_of c.now) (length c.now) o → HasAskedSome gaps_too R.rule (R.state rule.old) o gap (R.state rule.new)) }
+{
     let live = live_edges(alloc, c)?;
     let arena = Arena::build(alloc, live.edges.to_vec(alloc)?)?;
     let regions = Regions::build(alloc, &arena)?;
@@ -56,7 +105,7 @@ pub fn clean<R: MergeRule>(
     let areas = areas_of_members(alloc, &labels, members)?;
     let owners = owners_of_sides(alloc, &regions, &labels, &areas, arena.len(), rule)?;
     let gaps = narrow_gaps(alloc, &arena, &regions, &labels, gap)?;
-    let filled = filled_owners(alloc, &labels, &gaps, owners, members)?;
+    let filled = owners_with_gaps(alloc, &labels, &areas, &gaps, owners, rule, gaps_too)?;
     polygons(alloc, &arena, &regions, &filled, members)
 }
 

@@ -30,9 +30,12 @@
 mod borders;
 mod cleaner;
 mod facts;
+mod fillers;
+mod gap_facts;
 mod gaps;
 mod owners;
+mod runs;
 #[cfg(test)]
 mod tests;
 
-pub use cleaner::clean;
+pub use cleaner::{clean, clean_with_gaps};

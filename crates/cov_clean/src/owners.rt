@@ -3,7 +3,8 @@ ghost use Rattle.plane.specs.Label.{numbers_below};
 ghost use Rattle.arrangement.specs.Overlay.{Overlay, IsRegion, label_of};
 ghost use Rattle.region_owners.specs.Owner.{state_after, last_state};
 ghost use Rattle.owner_label.specs.Labelled.{IsOverlay};
-ghost use Rattle.cov_clean.specs.Asked.{member_areas, owner_in_state, one_if_shared, side_owner, HasAskedFirst};
+ghost use Rattle.gap_replay.specs.Replay.{HasAskedFirst};
+ghost use Rattle.cov_clean.specs.Asked.{member_areas, owner_in_state, one_if_shared, side_owner};
 
 use crate::facts::facts_of_region;
 use cov_types::NoMemory;

@@ -1,7 +1,7 @@
 ghost use Rattle.std.specs.Prelude.{◌≤◌, ◌^◌};
 ghost use Rattle.merge_rule.specs.InTurn.{calls_of, counted, in_turn};
 
-use crate::clean;
+use crate::{clean, clean_with_gaps};
 use cov_types::{Coord, Coverage, Member, NoMemory, Poly, Ring, in_range, same_coverage};
 use merge_rule::{Facts, GreatestArea, LeastArea, LeastIndex, LongestBorder, MergeRule};
 use std::alloc::Global;
@@ -96,6 +96,27 @@ fn expect_filled<R: MergeRule>(
     let given = coverage(alloc, members)?;
     assert!(rt; in_range(&given));
     let cleaned = clean(alloc, &given, rule, gap)?;
+    assert!(rt;
+        same_coverage(&cleaned, &coverage(alloc, want)?),
+        "{cleaned:?}"
+    );
+    Ok(())
+}
+
+/// The rule, asked for the gaps too, makes these members of those at this gap width.
+fn expect_asked<R: MergeRule>(
+    alloc: Global,
+    rt: &impl Abort,
+    rule: &mut R,
+    gap: u32,
+    members: Members,
+    want: Members,
+) -> Result<(), Fail>
+    requires { gap ≤ 2 ^ 30 }
+{
+    let given = coverage(alloc, members)?;
+    assert!(rt; in_range(&given));
+    let cleaned = clean_with_gaps(alloc, &given, rule, gap)?;
     assert!(rt;
         same_coverage(&cleaned, &coverage(alloc, want)?),
         "{cleaned:?}"
@@ -236,13 +257,185 @@ const EAST: Points = &[
     (15, 10),
 ];
 
+const ISLAND: Points = &[(11, 11), (19, 11), (19, 19), (11, 19)];
+
+/// A gap round an island, which has the longest border with it.
+const MOAT: Members = &[&[&[WEST]], &[&[EAST]], &[&[ISLAND]]];
+
+/// The island has the gap.
+const ISLAND_GROWN: Members = &[
+    &[&[WEST]],
+    &[&[EAST]],
+    &[&[&[(10, 10), (15, 10), (20, 10), (20, 20), (15, 20), (10, 20)]]],
+];
+
+/// The west has the gap, in which the island is a hole.
+const WEST_GROWN: Members = &[
+    &[&[
+        &[
+            (0, 0),
+            (15, 0),
+            (15, 10),
+            (20, 10),
+            (20, 20),
+            (15, 20),
+            (15, 30),
+            (0, 30),
+        ],
+        &[(11, 11), (11, 19), (19, 19), (19, 11)],
+    ]],
+    &[&[EAST]],
+    &[&[ISLAND]],
+];
+
 #[test]
 fn a_gap_goes_to_the_member_with_the_longest_border(rt: HostRuntime) -> Result<(), Fail> {
-    const ISLAND: Points = &[(11, 11), (19, 11), (19, 19), (11, 19)];
-    const GROWN: Points = &[(10, 10), (15, 10), (20, 10), (20, 20), (15, 20), (10, 20)];
-    const GIVEN: Members = &[&[&[WEST]], &[&[EAST]], &[&[ISLAND]]];
-    const WANT: Members = &[&[&[WEST]], &[&[EAST]], &[&[GROWN]]];
-    expect_filled(rt.alloc(), &rt, &mut LeastIndex, 1, GIVEN, WANT)
+    expect_filled(rt.alloc(), &rt, &mut LeastIndex, 1, MOAT, ISLAND_GROWN)
+}
+
+#[test]
+fn a_rule_that_is_asked_for_gaps_too_picks_who_gets_them(rt: HostRuntime) -> Result<(), Fail> {
+    let alloc = rt.alloc();
+    expect_asked(alloc, &rt, &mut LeastIndex, 1, MOAT, WEST_GROWN)?;
+    expect_asked(alloc, &rt, &mut LongestBorder, 1, MOAT, ISLAND_GROWN)
+}
+
+/// The first overlaps the second below the gap that the two leave.
+const OVERLAP_AND_GAP: Members = &[
+    &[&[&[
+        (0, 0),
+        (17, 0),
+        (17, 5),
+        (15, 5),
+        (15, 10),
+        (10, 10),
+        (10, 20),
+        (15, 20),
+        (15, 30),
+        (0, 30),
+    ]]],
+    &[&[EAST]],
+];
+
+/// The overlap went to the first, and then the gap to the second.
+const OVERLAP_THEN_GAP: Members = &[
+    &[&[&[
+        (0, 0),
+        (15, 0),
+        (17, 0),
+        (17, 5),
+        (15, 5),
+        (15, 10),
+        (10, 10),
+        (10, 20),
+        (15, 20),
+        (15, 30),
+        (0, 30),
+    ]]],
+    &[&[&[
+        (10, 10),
+        (15, 10),
+        (15, 5),
+        (17, 5),
+        (17, 0),
+        (30, 0),
+        (30, 30),
+        (15, 30),
+        (15, 20),
+        (10, 20),
+    ]]],
+];
+
+#[test]
+fn a_rule_with_a_state_is_asked_for_gaps_after_all_shared_regions(
+    rt: HostRuntime,
+) -> Result<(), Fail> {
+    let mut rule = InTurn { calls: 0 };
+    expect_asked(
+        rt.alloc(),
+        &rt,
+        &mut rule,
+        11,
+        OVERLAP_AND_GAP,
+        OVERLAP_THEN_GAP,
+    )?;
+    assert_eq!(rt; rule.calls, 2);
+    Ok(())
+}
+
+/// Two members with two gaps of height 2 between them.
+const TWO_GAPS: Members = &[
+    &[&[&[
+        (0, 0),
+        (10, 0),
+        (10, 2),
+        (8, 2),
+        (8, 4),
+        (10, 4),
+        (10, 6),
+        (8, 6),
+        (8, 8),
+        (10, 8),
+        (10, 10),
+        (0, 10),
+    ]]],
+    &[&[&[
+        (10, 0),
+        (20, 0),
+        (20, 10),
+        (10, 10),
+        (10, 8),
+        (12, 8),
+        (12, 6),
+        (10, 6),
+        (10, 4),
+        (12, 4),
+        (12, 2),
+        (10, 2),
+    ]]],
+];
+
+/// The lower gap went to the first, and then the upper one to the second.
+const LOWER_THEN_UPPER: Members = &[
+    &[&[&[
+        (0, 0),
+        (10, 0),
+        (10, 2),
+        (12, 2),
+        (12, 4),
+        (10, 4),
+        (10, 6),
+        (8, 6),
+        (8, 8),
+        (10, 8),
+        (10, 10),
+        (0, 10),
+    ]]],
+    &[&[&[
+        (8, 6),
+        (10, 6),
+        (10, 4),
+        (12, 4),
+        (12, 2),
+        (10, 2),
+        (10, 0),
+        (20, 0),
+        (20, 10),
+        (10, 10),
+        (10, 8),
+        (8, 8),
+    ]]],
+];
+
+#[test]
+fn gaps_are_asked_for_in_ascending_order(rt: HostRuntime) -> Result<(), Fail> {
+    let alloc = rt.alloc();
+    let mut rule = InTurn { calls: 0 };
+    expect_asked(alloc, &rt, &mut rule, 3, TWO_GAPS, LOWER_THEN_UPPER)?;
+    assert_eq!(rt; rule.calls, 2);
+    expect_asked(alloc, &rt, &mut rule, 2, TWO_GAPS, TWO_GAPS)?;
+    assert_eq!(rt; rule.calls, 2);
+    Ok(())
 }
 
 #[test]

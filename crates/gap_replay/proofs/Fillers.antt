@@ -11,11 +11,29 @@ use Rattle.region_owners.specs.Gap.{IsGap}
 use Rattle.region_owners.specs.Owner.{Rule, IsLawful, label_owner, neighbours_of}
 use Rattle.region_owners.proofs.Neighbours.{gap_neighbour}
 use Rattle.gap_replay.specs.Laws.{IsFiller}
-use Rattle.gap_replay.specs.Replay.{gap_facts, last_state_over, picked_filler, IsOwnerByReplay}
+use Rattle.gap_replay.specs.Replay.{gap_candidates, gap_facts, last_state_over, IsOwnerByReplay}
 use Rattle.gap_replay.proofs.GapCandidates.{as_candidate, is_neighbour, neighbour_is}
 
 placed : (xs : List ℕ) (k i : ℕ) → slice_get xs k ≡ Some i → Contains xs i
 placed xs k i h = (k, slice_get_within xs k i h, get_or_from_slice_get xs k i i h)
+
+-- ---- the candidate at a place
+
+module _ (o : Overlay) (owners : ℕ → Option ℕ) (r : ℕ) where
+  named : (found : Option ℕ) → option_map (λ (c : Candidate). c.member) (option_map (as_candidate o owners r) found) ≡ found
+  named None = refl
+  named (Some i) = refl
+
+  -- it is the neighbour at the place
+  pub candidate_is : (place : ℕ) → option_map (λ (c : Candidate). c.member) (slice_get (gap_candidates o owners r) place) ≡ slice_get (neighbours_of o owners r) place
+  candidate_is place =
+      ap (option_map (λ (c : Candidate). c.member)) (slice_get-map (as_candidate o owners r) (neighbours_of o owners r) place)
+      ∙ named (slice_get (neighbours_of o owners r) place)
+
+  pub candidate_below : (place i : ℕ) → option_map (λ (c : Candidate). c.member) (slice_get (gap_candidates o owners r) place) ≡ Some i → i < o.members
+  candidate_below place i is = (neighbour_is o owners r i (placed (neighbours_of o owners r) place i (sym (candidate_is place) ∙ is))).0
+
+-- ---- the pick of a rule
 
 module _ {State : Type 0} (rule : Rule State) (state : State) (o : Overlay) (gaps : List ℕ) (r : ℕ) where
   abbrev owners : ℕ → Option ℕ
@@ -27,20 +45,6 @@ module _ {State : Type 0} (rule : Rule State) (state : State) (o : Overlay) (gap
 
   abbrev place : ℕ
   place = rule.pick before (gap_facts o owners r)
-
-  named : (found : Option ℕ) → option_map (λ (c : Candidate). c.member) (option_map (as_candidate o owners r) found) ≡ found
-  named None = refl
-  named (Some i) = refl
-
-  -- it is the neighbour at the place that the rule picks
-  pub filler_is : picked_filler rule state o gaps r
-      ≡ slice_get (neighbours_of o (label_owner rule state o) r) (rule.pick (last_state_over rule state o (filter (λ g. nat_lt g r) gaps)) (gap_facts o (label_owner rule state o) r))
-  filler_is =
-      ap (option_map (λ (c : Candidate). c.member)) (slice_get-map (as_candidate o owners r) (neighbours_of o owners r) place)
-      ∙ named (slice_get (neighbours_of o owners r) place)
-
-  pub filler_below : (i : ℕ) → picked_filler rule state o gaps r ≡ Some i → i < o.members
-  filler_below i is = (neighbour_is o owners r i (placed (neighbours_of o owners r) place i (sym filler_is ∙ is))).0
 
   -- a gap has one
   pub gap_filler : IsLiveOverlay o → IsLawful rule → IsGap o r → (i : ℕ) × IsFiller rule state o gaps r i
@@ -54,7 +58,7 @@ module _ {State : Type 0} (rule : Rule State) (state : State) (o : Overlay) (gap
       let within : place < length those = omega (arith, many, picked) in
       let i = get_or those place 0 in
       let its = neighbour_is o owners r i (Contains-get_or those place 0 within) in
-      (i, record { picked = filler_is ∙ slice_get-get_or those place 0 within; below = its.0; border = its.1 })
+      (i, record { picked = candidate_is o owners r place ∙ slice_get-get_or those place 0 within; below = its.0; border = its.1 })
 
   pub one_owner : (a b : Option ℕ) → IsOwnerByReplay rule state o gaps r a → IsOwnerByReplay rule state o gaps r b → a ≡ b
   one_owner a b (inl h) (inl k) = h.1 ∙ sym k.1

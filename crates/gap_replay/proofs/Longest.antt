@@ -9,8 +9,8 @@ use Rattle.region_owners.specs.declared.candidate.Candidate.{Candidate}
 use Rattle.region_owners.specs.Owner.{rule_by, first_best, longest_border, last_state, label_owner, neighbours_of, neighbour_of, IsNarrowGap, IsOwner}
 use Rattle.sound_polygons.specs.Cleaned.{IsCleaned}
 use Rattle.gap_replay.specs.Cleaned.{IsCleanedWithGaps}
-use Rattle.gap_replay.specs.Replay.{AreNarrowGaps, state_after_gaps, last_state_over, picked_filler, IsOwnerByReplay}
-use Rattle.gap_replay.proofs.Fillers.{filler_is}
+use Rattle.gap_replay.specs.Replay.{AreNarrowGaps, gap_candidates, state_after_gaps, last_state_over, picked_filler, IsOwnerByReplay}
+use Rattle.gap_replay.proofs.Fillers.{candidate_is}
 use Rattle.gap_replay.proofs.GapCandidates.{as_candidate}
 use Rattle.gap_replay.proofs.NarrowGaps.{narrow_gaps_exist}
 
@@ -38,7 +38,7 @@ module _ {State : Type 0} (state : State) (o : Overlay) where
   -- the candidate with the longest border is the neighbour
   filler_neighbour : (gaps : List ℕ) (r : ℕ) → picked_filler (rule_by longest_border) state o gaps r ≡ neighbour_of o by_label r
   filler_neighbour gaps r =
-      filler_is (rule_by longest_border) state o gaps r
+      candidate_is o by_label r (longest_border (gap_candidates o by_label r))
       ∙ ap (slice_get (neighbours_of o by_label r)) (first_best_map (λ (c d : Candidate). nat_lt d.border c.border) (as_candidate o by_label r) (neighbours_of o by_label r))
 
   module _ (w : ℕ) (gaps : List ℕ) (are : AreNarrowGaps o w gaps) (r : ℕ) (owner : Option ℕ) where

@@ -20,12 +20,12 @@ use Rattle.cleaned_laws.proofs.Cleaned.{ascending_distinct, far_region, outer_la
 use Rattle.cleaned_laws.proofs.SnappedLive.{snapped_live}
 use Rattle.gap_replay.specs.Cleaned.{IsCleanedWithGaps}
 use Rattle.gap_replay.specs.Replay.{AreNarrowGaps, IsOwnerByReplay, AreOwnersByReplay}
-use Rattle.gap_replay.proofs.Fillers.{filler_below, one_owner}
+use Rattle.gap_replay.proofs.Fillers.{candidate_below, one_owner}
 use Rattle.gap_replay.proofs.GapCandidates.{one_gaps}
 
 -- an owner by replay is a member
 pub replay_owner_below : {State : Type 0} (rule : Rule State) (state : State) (o : Overlay) (gaps : List ℕ) (r i : ℕ) → IsOwnerByReplay rule state o gaps r (Some i) → i < o.members
-replay_owner_below rule state o gaps r i (inl filled) = filler_below rule state o gaps r i (sym filled.1)
+replay_owner_below rule state o gaps r i (inl filled) = candidate_below o (label_owner rule state o) r _ i (sym filled.1)
 replay_owner_below rule state o gaps r i (inr by_label) = owner_below rule state o 0 r i (inr ((λ n. (let wide = n.narrow.wide in omega arith)), by_label.1))
 
 -- ---- owners that polygons can be built of

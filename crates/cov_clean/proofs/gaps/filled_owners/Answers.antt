@@ -42,7 +42,7 @@ loop-gap-preserved c =
           let its : c.longest.result ≡ neighbour_of o (owner_in owners) g =
           subst (λ (os : List (Option ℕ)). c.longest.result ≡ neighbour_of o (owner_in os) g) shown
           (longest_owner o c.deref-in-loop-gap.result.now g sides c.longest.result (λ member. c.in_ok-sides.ensures.borders o member is) (longest_below owners sides o.members each below c.longest.result longest) longest) in
-          filled_more o owners gaps k g c.loop-gap-test.true (get_or_default gaps k 0 g c.loop-gap-test.true) c.loop-gap.filled.items (c.loop-gap.invariant.filled o is many) there c.longest.result its);
+          filled_more (neighbour_of o (owner_in owners)) owners gaps k g c.loop-gap-test.true (get_or_default gaps k 0 g c.loop-gap-test.true) c.loop-gap.filled.items (c.loop-gap.invariant.filled o is many) there c.longest.result its);
       long = length-set c.loop-gap.filled.items g c.longest.result ∙ c.loop-gap.invariant.long;
       clear = c.longest.ensures.clear;
       count = c.longest.ensures.count ∙ c.loop-gap.invariant.count;

@@ -37,12 +37,14 @@ const ISLAND: &str = "POLYGON ((0 0, 15 0, 15 10, 10 10, 10 20, 15 20, 15 30, 0 
      POLYGON ((11 11, 19 11, 19 19, 11 19, 11 11))\n";
 
 // The gap is the first frame's.
-const ISLAND_BY_THE_FIRST: &str = "POLYGON ((0 0, 15 0, 15 10, 20 10, 20 20, 15 20, 15 30, 0 30, 0 0), (11 11, 11 19, 19 19, 19 11, 11 11))\n\
+const ISLAND_BY_THE_FIRST: &str =
+    "POLYGON ((0 0, 15 0, 15 10, 20 10, 20 20, 15 20, 15 30, 0 30, 0 0), (11 11, 11 19, 19 19, 19 11, 11 11))\n\
      POLYGON ((15 0, 30 0, 30 30, 15 30, 15 20, 20 20, 20 10, 15 10, 15 0))\n\
      POLYGON ((11 11, 19 11, 19 19, 11 19, 11 11))\n";
 
 // The gap is the island's.
-const ISLAND_BY_THE_LAST: &str = "POLYGON ((0 0, 15 0, 15 10, 10 10, 10 20, 15 20, 15 30, 0 30, 0 0))\n\
+const ISLAND_BY_THE_LAST: &str =
+    "POLYGON ((0 0, 15 0, 15 10, 10 10, 10 20, 15 20, 15 30, 0 30, 0 0))\n\
      POLYGON ((15 0, 30 0, 30 30, 15 30, 15 20, 20 20, 20 10, 15 10, 15 0))\n\
      POLYGON ((10 10, 15 10, 20 10, 20 20, 15 20, 10 20, 10 10))\n";
 
@@ -122,7 +124,11 @@ fn expect_handed(
     let rules = rules_of(alloc, mine, other)?;
     let mut files = shelf_of(alloc, case.input.as_bytes(), case.fails, 64, LONGEST_INPUT)?;
     let report = cover_with(alloc, &words, &mut files, rules);
-    assert!(rt; files.held("out") == Some(case.output.as_bytes()), "out: {}", case.line);
+    assert!(rt;
+        files.held("out") == Some(case.output.as_bytes()),
+        "out: {}",
+        case.line
+    );
     expect_report(rt, alloc, case, report)
 }
 

@@ -71,7 +71,10 @@ fn place_of(operation: &Operation) -> Option<usize>
     ensures { result ≡ used_place (named operation.now) }
 {
     match operation {
-        Operation::Clean { rule: RuleChoice::Handed(place), .. } => Some(*place),
+        Operation::Clean {
+            rule: RuleChoice::Handed(place),
+            ..
+        } => Some(*place),
         _ => None,
     }
 }
@@ -106,11 +109,14 @@ pub fn cover_with<F: Files>(
         → map (λ r. ⟦<Hired as MergeRule>⟧.state r.rule) result.rules.items ≡ map (λ r. ⟦<Hired as MergeRule>⟧.state r.rule) rules.items }
     ensures left { IfSome (operation_of (map (λ r. string_bytes r.name) rules.items) (map string_bytes words.now)) (λ operation.
         result.used ≡ used_place operation → AreRulesLeft operation (F.state files.old) result.outcome
-            (map (λ r. ⟦<Hired as MergeRule>⟧.state r.rule) rules.items) (map (λ r. ⟦<Hired as MergeRule>⟧.state r.rule) result.rules.items)) }
+        (map (λ r. ⟦<Hired as MergeRule>⟧.state r.rule) rules.items) (map (λ r. ⟦<Hired as MergeRule>⟧.state r.rule) result.rules.items)) }
 {
     let (outcome, used) = match operation_with(alloc, words, &rules) {
         Ok(None) => (Outcome::Usage, None),
-        Ok(Some(operation)) => (run(alloc, &operation, files, &mut rules), place_of(&operation)),
+        Ok(Some(operation)) => (
+            run(alloc, &operation, files, &mut rules),
+            place_of(&operation),
+        ),
         Err(NoMemory) => (Outcome::NoMemory, None),
     };
     Report {

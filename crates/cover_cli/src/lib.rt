@@ -35,6 +35,8 @@ mod valid_features;
 mod validate;
 
 pub use command::{cover, cover_with};
-pub use laws::{answer_law, caller_rules_law, headline_law, locate_law, overlay_law, sample_law, written_law};
+pub use laws::{
+    answer_law, caller_rules_law, headline_law, locate_law, overlay_law, sample_law, written_law,
+};
 pub use outcome::{Outcome, message, status};
 pub use report::{Report, closing};

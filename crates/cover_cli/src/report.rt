@@ -39,11 +39,7 @@ fn tallies(alloc: Global, report: &Report) -> Result<Option<Vec<i128>>, NoMemory
 }
 
 // Appends each number behind a space.
-fn append_numbers(
-    alloc: Global,
-    text: &mut String,
-    numbers: &[i128],
-) -> Result<(), NoMemory>
+fn append_numbers(alloc: Global, text: &mut String, numbers: &[i128]) -> Result<(), NoMemory>
     ensures { OnOk result (string_bytes text.new ≡ string_bytes text.old ++ numbers_text numbers.now) }
 {
     for number in numbers {

@@ -271,7 +271,10 @@ fn rules_that_are_handed_in(rt: HostRuntime) -> Result<(), Fail> {
             from: "a",
             to: "b",
         };
-        assert!(rt; operation_named(alloc, &words, &names)? == Some(wanted), "{line}");
+        assert!(rt;
+            operation_named(alloc, &words, &names)? == Some(wanted),
+            "{line}"
+        );
     }
     let other = words_of(alloc, "clean a b --rule other")?;
     assert!(rt; operation_named(alloc, &other, &names)?.is_none());

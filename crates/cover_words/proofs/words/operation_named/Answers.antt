@@ -15,5 +15,9 @@ returns-in-len1-up c =
     let words = map string_bytes c.args.words.now in
     let named : IfOk c.operation_by.result (IsNamed (operation_of names words)) =
     first_names names c.args.words.now c.word-item.result c.deref.result.now c.operation_by.result c.in-len1-up.len_at_least c.word-item.is c.deref.ensures c.operation_by.ensures in
-    record { named = named; accepted = accepted_named names words c.operation_by.result named; within = subst (λ (rules : ℕ). IfOk c.operation_by.result (λ o. IfSome o (λ x. IsWithinLimit rules (code_named x)))) (length-map c.args.names.now (λ n. n.now))
-        (within_named names words c.operation_by.result named) }
+    record {
+      named = named;
+      accepted = accepted_named names words c.operation_by.result named;
+      within = subst (λ (rules : ℕ). IfOk c.operation_by.result (λ o. IfSome o (λ x. IsWithinLimit rules (code_named x)))) (length-map c.args.names.now (λ n. n.now))
+          (within_named names words c.operation_by.result named);
+    }

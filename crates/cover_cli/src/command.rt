@@ -111,18 +111,26 @@ pub fn cover_with<F: Files>(
         result.used ≡ used_place operation → AreRulesLeft operation (F.state files.old) result.outcome
         (map (λ r. ⟦<Hired as MergeRule>⟧.state r.rule) rules.items) (map (λ r. ⟦<Hired as MergeRule>⟧.state r.rule) result.rules.items)) }
 {
-    let (outcome, used) = match operation_with(alloc, words, &rules) {
-        Ok(None) => (Outcome::Usage, None),
-        Ok(Some(operation)) => (
-            run(alloc, &operation, files, &mut rules),
-            place_of(&operation),
-        ),
-        Err(NoMemory) => (Outcome::NoMemory, None),
-    };
-    Report {
-        outcome,
-        rules,
-        used,
+    match operation_with(alloc, words, &rules) {
+        Ok(None) => Report {
+            outcome: Outcome::Usage,
+            rules,
+            used: None,
+        },
+        Ok(Some(operation)) => {
+            let outcome = run(alloc, &operation, files, &mut rules);
+            let used = place_of(&operation);
+            Report {
+                outcome,
+                rules,
+                used,
+            }
+        }
+        Err(NoMemory) => Report {
+            outcome: Outcome::NoMemory,
+            rules,
+            used: None,
+        },
     }
 }
 

@@ -1,8 +1,8 @@
 -- How handed-in rules come back, from what was made of the inputs.
 use Rattle.std.proofs.Common.{◌≡◌, ◌∙◌, ℕ, ◌<◌, List, [], ◌∷◌, length, map, get_or, take, Bool, true, false, IsTrue, Option, Some, None, ◌⊎◌, inl, inr, refl, sym, ap, subst, set}
-use Rattle.std.proofs.lemmas.List.{map-set, set-get_or}
+use Rattle.std.proofs.lemmas.List.{get_or-map, length-map, map-set, set-get_or}
 use Rattle.std.proofs.Math.Seq.{take-length}
-use Rattle.std.specs.Prelude.{slice_set}
+use Rattle.std.specs.Prelude.{slice_set, Result, Ok, Err, IfOk, IfErr}
 use Rattle.arrangement.specs.Overlay.{Overlay}
 use Rattle.cov_io.specs.State.{State}
 use Rattle.cov_rules.specs.Asked.{prepared, IsAskedAll, IsAskedSome, IsAskedUntil}
@@ -215,3 +215,39 @@ left_unmade (Regions scale from to) s o inputs before after read left refused = 
 left_unmade (Sample side seed to) s o inputs before after read left refused = left
 left_unmade (Locate from points to) s o inputs before after read left refused = left
 left_unmade (OverlayOf first second to) s o inputs before after read left refused = left
+
+-- ---- the rule at a place
+
+module _ {X T E : Type 0} (Left : RuleState → RuleState → Type 0) (state : X → RuleState) (place : ℕ) (rules : List X) (old new : X) (within : place < length rules) (is : old ≡ get_or rules place old) where
+  -- its state is the one at the place among the states
+  state_there : state old ≡ get_or (map state rules) place no_state
+  state_there = ap state is ∙ sym (get_or-map state rules place old no_state within)
+
+  one_back : Left (state old) (state new) → AreHandedBack Left (Some place) (map state rules) (map state (set rules place new))
+  one_back left = one_left Left state place rules (set rules place new) new refl (subst (λ (numbers : RuleState). Left numbers (state new)) state_there left)
+
+  -- it alone came back in another state, where a result is Ok
+  pub back_ok : (r : Result T E) → IfOk r (λ _. Left (state old) (state new)) → IfOk r (λ _. AreHandedBack Left (Some place) (map state rules) (map state (set rules place new)))
+  back_ok (Ok x) left = one_back left
+  back_ok (Err e) left = tt
+
+  -- and where it is an error
+  pub back_err : (r : Result T E) → IfErr r (λ _. Left (state old) (state new)) → IfErr r (λ _. AreHandedBack Left (Some place) (map state rules) (map state (set rules place new)))
+  back_err (Ok x) left = tt
+  back_err (Err e) left = one_back left
+
+-- ---- results
+
+-- what holds anyway, holds of an error
+pub of_error : {T E : Type 0} (r : Result T E) (P : E → Type 0) → ((e : E) → P e) → IfErr r P
+of_error (Ok x) P all = tt
+of_error (Err e) P all = all e
+
+-- a rule that is as it was is left so by every outcome that no text was made with
+pub kept_unmade : (from : List ℕ) (scale : Option ℕ) (input : List ℕ) (gap : ℕ) (too : Bool) (o : Outcome) (numbers : RuleState) → IsUnmadeAsked from scale input gap too o numbers numbers
+kept_unmade from scale input gap too NoMemory numbers = inl refl
+kept_unmade from scale input gap too o numbers = refl
+
+-- lists of which the same is made are of one length
+pub same_length : {X Y Z : Type 0} (f : X → Z) (g : Y → Z) (xs : List X) (ys : List Y) → map f xs ≡ map g ys → length xs ≡ length ys
+same_length f g xs ys e = sym (length-map xs f) ∙ ap length e ∙ length-map ys g

@@ -4,4 +4,4 @@ use Rattle.std.specs.String.{string_bytes}
 use Rattle.cover_cli.proofs.command.names_of.Given as goal
 
 abbrev pub invariant-loop-rule : goal.invariant-loop-rule
-invariant-loop-rule l = map (λ n. n.now) l.names.items ≡ map (λ r. string_bytes r.name) (take l.rule-index l.rules)
+invariant-loop-rule g l = map (λ n. n.now) l.names.items ≡ map (λ r. string_bytes r.name) (take l.rule-index l.rules)

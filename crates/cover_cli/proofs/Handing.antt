@@ -218,7 +218,7 @@ left_unmade (OverlayOf first second to) s o inputs before after read left refuse
 
 -- ---- the rule at a place
 
-module _ {X T E : Type 0} (Left : RuleState → RuleState → Type 0) (state : X → RuleState) (place : ℕ) (rules : List X) (old new : X) (within : place < length rules) (is : old ≡ get_or rules place old) where
+module _ {X : Type 0} (Left : RuleState → RuleState → Type 0) (state : X → RuleState) (place : ℕ) (rules : List X) (old new : X) (within : place < length rules) (is : old ≡ get_or rules place old) where
   -- its state is the one at the place among the states
   state_there : state old ≡ get_or (map state rules) place no_state
   state_there = ap state is ∙ sym (get_or-map state rules place old no_state within)
@@ -227,12 +227,12 @@ module _ {X T E : Type 0} (Left : RuleState → RuleState → Type 0) (state : X
   one_back left = one_left Left state place rules (set rules place new) new refl (subst (λ (numbers : RuleState). Left numbers (state new)) state_there left)
 
   -- it alone came back in another state, where a result is Ok
-  pub back_ok : (r : Result T E) → IfOk r (λ _. Left (state old) (state new)) → IfOk r (λ _. AreHandedBack Left (Some place) (map state rules) (map state (set rules place new)))
+  pub back_ok : {T E : Type 0} (r : Result T E) → IfOk r (λ _. Left (state old) (state new)) → IfOk r (λ _. AreHandedBack Left (Some place) (map state rules) (map state (set rules place new)))
   back_ok (Ok x) left = one_back left
   back_ok (Err e) left = tt
 
   -- and where it is an error
-  pub back_err : (r : Result T E) → IfErr r (λ _. Left (state old) (state new)) → IfErr r (λ _. AreHandedBack Left (Some place) (map state rules) (map state (set rules place new)))
+  pub back_err : {T E : Type 0} (r : Result T E) → IfErr r (λ _. Left (state old) (state new)) → IfErr r (λ _. AreHandedBack Left (Some place) (map state rules) (map state (set rules place new)))
   back_err (Ok x) left = tt
   back_err (Err e) left = one_back left
 

@@ -6,7 +6,7 @@ use Rattle.geo_json.specs.Reading.{Reading}
 use Rattle.merge_rule.specs.RuleState.{RuleState, no_state}
 use Rattle.cov_rules.specs.Asked.{IsAskedAll}
 use Rattle.cover_cli.proofs.Inputs.{same_inputs}
-use Rattle.cover_cli.specs.Answers.{HoldsText, IsAnswer}
+use Rattle.cover_cli.specs.Answers.{HoldsText}
 use Rattle.cover_cli.specs.CallerRules.{HoldsByRule, CallerRulesLaw}
 use Rattle.cover_cli.specs.Clean.{IsCleaning}
 use Rattle.cover_cli.specs.Handed.{HasReadAnd}

@@ -4,7 +4,7 @@ use Rattle.cover_cli.specs.Answers.{is_validate, is_success, is_refusal, is_mark
 use Rattle.cov_overlay.specs.TooMany.{IsCause}
 use Rattle.cov_overlay.specs.declared.error.OverlayError.{OverlayError}
 use Rattle.cov_overlay.specs.declared.error.OverlayError.TheVariants as overlays
-use Rattle.cov_types.specs.Coverage.{Members, IsFormed}
+use Rattle.cov_types.specs.Coverage.{Members}
 use Rattle.cov_types.specs.Uses.{uses_of}
 use Rattle.plane.specs.Validity.{IsValid}
 use Rattle.cov_admit.specs.Admission.{IsRefusal}

@@ -1,19 +1,18 @@
 -- How handed-in rules come back, from what was made of the inputs.
-use Rattle.std.proofs.Common.{◌≡◌, ◌∙◌, ℕ, ◌<◌, List, [], ◌∷◌, length, map, get_or, take, Bool, true, false, IsTrue, Option, Some, None, ◌⊎◌, inl, inr, refl, sym, ap, subst, set}
+use Rattle.std.proofs.Common.{◌≡◌, ◌∙◌, ℕ, ◌<◌, List, [], ◌∷◌, length, map, get_or, Bool, true, false, IsTrue, Option, Some, None, ◌⊎◌, inl, inr, refl, sym, ap, subst, set}
 use Rattle.std.proofs.lemmas.List.{get_or-map, length-map, map-set, set-get_or}
 use Rattle.std.proofs.Math.Seq.{take-length}
-use Rattle.std.specs.Prelude.{slice_set, Result, Ok, Err, IfOk, IfErr}
+use Rattle.std.specs.Prelude.{Result, Ok, Err, IfOk, IfErr}
 use Rattle.arrangement.specs.Overlay.{Overlay}
 use Rattle.cov_io.specs.State.{State}
-use Rattle.cov_rules.specs.Asked.{prepared, IsAskedAll, IsAskedSome, IsAskedUntil}
+use Rattle.cov_rules.specs.Asked.{prepared, IsAskedAll, IsAskedUntil}
 use Rattle.cov_rules.specs.Hired.{by_kind}
 use Rattle.cov_types.specs.Coverage.{Members}
-use Rattle.cov_types.specs.Uses.{uses_of}
 use Rattle.gap_replay.specs.Replay.{HasLastState, HasAskedSome}
 use Rattle.geo_json.specs.Reading.{Reading}
 use Rattle.merge_rule.specs.RuleState.{RuleState, no_state}
 use Rattle.region_owners.specs.Owner.{Rule, shared_regions}
-use Rattle.cover_cli.specs.Handed.{used_place, AreHandedBack, AreRulesLeft, IsMadeAsked, IsUnmadeAsked, IsRuleMade, IsRuleUnmade, IsRuleAfter, IsRuleLeft, HasReadAnd}
+use Rattle.cover_cli.specs.Handed.{used_place, AreHandedBack, AreRulesLeft, IsMadeAsked, IsUnmadeAsked, IsRuleMade, IsRuleUnmade, IsRuleAfter}
 use Rattle.cover_cli.specs.Input.{Holds, AreInputs}
 use Rattle.cover_cli.proofs.Causes.{of_one, refuses_refusal, differs}
 use Rattle.cover_cli.specs.Answers.{is_refusal}
@@ -25,7 +24,6 @@ use Rattle.cover_cli.specs.declared.outcome.Outcome.{Outcome}
 use Rattle.cover_cli.specs.declared.outcome.Outcome.TheVariants.{Done, Marked, Usage, ReadFault, WriteFault, TooLong, BadText, BadJson, BadPoints, NotValid, TooMany, NoMemory, Sampled}
 use Rattle.cover_words.specs.Words.{Operation, Validate, Clean, Simplify, Union, Node, Regions, Locate, Sample, Overlay as OverlayOf, inputs_of, output_of}
 use Rattle.cover_words.specs.declared.rule_choice.RuleChoice.{RuleChoice}
-use Rattle.cover_words.specs.declared.rule_choice.RuleChoice.TheVariants.{Own, Handed}
 
 -- ---- an operation and its task
 

@@ -1,5 +1,5 @@
 -- The rules that a caller hands in: which of them an operation goes by, and how they come back.
-use Rattle.std.specs.Prelude.{◌≡◌, ◌⊎◌, ℕ, Bool, List, length, get_or, slice_set, Option, Some, None, IsTrue}
+use Rattle.std.specs.Prelude.{◌≡◌, ◌⊎◌, ℕ, Bool, List, get_or, slice_set, Option, Some, None, IsTrue}
 use Rattle.cov_io.specs.State.{State}
 use Rattle.cov_rules.specs.Asked.{IsAskedAll, IsAskedUntil}
 use Rattle.geo_json.specs.Reading.{Reading}

@@ -7,5 +7,6 @@ pub mod Chain
 pub mod Kinds
 pub mod Parts
 pub mod Hired
+pub mod Asked
 pub mod Places
 pub mod Laws

@@ -15,6 +15,8 @@ mod files;
 #[cfg(test)]
 mod gaps;
 #[cfg(test)]
+mod handed;
+#[cfg(test)]
 mod hostile;
 #[cfg(test)]
 mod locating;

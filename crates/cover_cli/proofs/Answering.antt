@@ -10,7 +10,8 @@ use Rattle.cover_cli.specs.Answers.{is_success, is_refusal, is_marked, is_sample
 use Rattle.cover_cli.specs.Input.{AreInputs}
 use Rattle.cover_cli.specs.Made.{Makes, Refuses}
 use Rattle.cover_cli.specs.Refusal.{IsRefusedFor, IsUnread}
-use Rattle.cover_words.specs.Words.{Operation, inputs_of, output_of}
+use Rattle.cover_cli.specs.Task.{Task}
+use Rattle.cover_words.specs.Words.{inputs_of, output_of}
 use Rattle.cover_cli.specs.Written.{IsTextWritten, IsWrittenWhole, IsWrittenInPart}
 use Rattle.cover_cli.specs.declared.outcome.Outcome.{Outcome}
 use Rattle.cover_cli.specs.declared.outcome.Outcome.TheVariants.{Done, Marked, Usage, ReadFault, WriteFault, TooLong, BadText, BadJson, BadPoints, NotValid, TooMany, NoMemory, Sampled}
@@ -22,13 +23,13 @@ use Rattle.cover_cli.proofs.OneText.{one_text}
 -- ---- what was read excludes other causes
 
 -- inputs that were read are a cause for no other refusal
-same_cause : (operation : Operation) (old : State) (inputs : List (List ℕ)) (o p : Outcome) → AreInputs old (inputs_of operation) inputs → Refuses operation inputs o → HoldsCause operation old p → p ≡ o
+same_cause : (operation : Task) (old : State) (inputs : List (List ℕ)) (o p : Outcome) → AreInputs old (inputs_of operation) inputs → Refuses operation inputs o → HoldsCause operation old p → p ≡ o
 same_cause operation old inputs o p read refuses cause =
     let same : cause.inputs ≡ inputs = same_inputs old (inputs_of operation) cause.inputs inputs cause.read read in
     one_refusal operation inputs p o (subst (λ (is : List (List ℕ)). Refuses operation is p) same cause.refuses) refuses
 
 -- inputs of which a text was made are a cause for no refusal
-no_cause : (operation : Operation) (old : State) (inputs : List (List ℕ)) (o p : Outcome) (text : List ℕ) → AreInputs old (inputs_of operation) inputs → Makes operation inputs o text → HoldsCause operation old p → ⊥
+no_cause : (operation : Task) (old : State) (inputs : List (List ℕ)) (o p : Outcome) (text : List ℕ) → AreInputs old (inputs_of operation) inputs → Makes operation inputs o text → HoldsCause operation old p → ⊥
 no_cause operation old inputs o p text read makes cause =
     let same : cause.inputs ≡ inputs = same_inputs old (inputs_of operation) cause.inputs inputs cause.read read in
     not_both operation inputs o p text makes (subst (λ (is : List (List ℕ)). Refuses operation is p) same cause.refuses)
@@ -36,7 +37,7 @@ no_cause operation old inputs o p text read makes cause =
 -- ---- refusals
 
 -- memory ran out, before the output was created
-pub without_memory : (operation : Operation) (old new : State) → new.read_faults ≡ old.read_faults → KeepsOutput old new → IsAnswer operation old new NoMemory
+pub without_memory : (operation : Task) (old new : State) → new.read_faults ≡ old.read_faults → KeepsOutput old new → IsAnswer operation old new NoMemory
 without_memory operation old new reads kept = record {
   usage = λ h. cc;
   written = λ told success. cc;
@@ -61,7 +62,7 @@ without_memory operation old new reads kept = record {
 }
 
 -- an input was not read
-pub unread : (operation : Operation) (old new : State) (o : Outcome) → IsUnread o (inputs_of operation) old new → KeepsOutput old new
+pub unread : (operation : Task) (old new : State) (o : Outcome) → IsUnread o (inputs_of operation) old new → KeepsOutput old new
     → (All (λ name. IsPromised name old) (inputs_of operation) → o ≢ ReadFault) → IsAnswer operation old new o
 unread operation old new ReadFault cause kept promised = record {
   usage = λ h. cc;
@@ -120,7 +121,7 @@ unread operation old new (NotValid mark) cause kept promised = absurd cause
 unread operation old new (TooMany count) cause kept promised = absurd cause
 
 -- the inputs were read, and are a cause for the refusal
-refused_for : (operation : Operation) (old new : State) (inputs : List (List ℕ)) (o : Outcome) → (IsTrue old.tells_files → AreInputs old (inputs_of operation) inputs)
+refused_for : (operation : Task) (old new : State) (inputs : List (List ℕ)) (o : Outcome) → (IsTrue old.tells_files → AreInputs old (inputs_of operation) inputs)
     → new.read_faults ≡ old.read_faults → KeepsOutput old new → Refuses operation inputs o → IsAnswer operation old new o
 refused_for operation old new inputs o read reads kept refuses =
     let refusal : IsTrue (is_refusal o) = refuses_refusal operation inputs o refuses in
@@ -149,7 +150,7 @@ refused_for operation old new inputs o read reads kept refuses =
     }
 
 -- the inputs were read, and no text was made of them
-pub unmade : (operation : Operation) (old new : State) (inputs : List (List ℕ)) (o : Outcome) → (IsTrue old.tells_files → AreInputs old (inputs_of operation) inputs)
+pub unmade : (operation : Task) (old new : State) (inputs : List (List ℕ)) (o : Outcome) → (IsTrue old.tells_files → AreInputs old (inputs_of operation) inputs)
     → new.read_faults ≡ old.read_faults → KeepsOutput old new → IsRefusedFor (Refuses operation inputs) o → IsAnswer operation old new o
 unmade operation old new inputs o read reads kept (inl none) = subst (IsAnswer operation old new) (sym none) (without_memory operation old new reads kept)
 unmade operation old new inputs o read reads kept (inr refuses) = refused_for operation old new inputs o read reads kept refuses
@@ -164,7 +165,7 @@ prefix_from : (name bytes : List ℕ) (old mid new : Contents) → SameFiles old
 prefix_from name bytes old mid new same (inl kept) = inl (λ other. kept other ∙ same other)
 prefix_from name bytes old mid new same (inr (n, held)) = inr (n, held_from name (take n bytes) old mid new same held)
 
-module _ (operation : Operation) (old mid new : State) (inputs : List (List ℕ)) (made : Made) (o : Outcome) (read : IsTrue old.tells_files → AreInputs old (inputs_of operation) inputs) (reads : mid.read_faults ≡ old.read_faults) (kept : KeepsOutput old mid) (makes : Makes operation inputs made.outcome made.text.items) where
+module _ (operation : Task) (old mid new : State) (inputs : List (List ℕ)) (made : Made) (o : Outcome) (read : IsTrue old.tells_files → AreInputs old (inputs_of operation) inputs) (reads : mid.read_faults ≡ old.read_faults) (kept : KeepsOutput old mid) (makes : Makes operation inputs made.outcome made.text.items) where
   -- what is told before the inputs are read is told after it
   still_told : IsTrue old.tells_files → IsTrue mid.tells_files
   still_told told = kept.tells.files ∙ told

@@ -5,7 +5,10 @@ pub mod Reading
 pub mod Listing
 pub mod Answering
 pub mod OneText
+pub mod Handing
+pub mod Running
 pub mod Headline
+pub mod CallerRules
 pub mod Located
 pub mod Overlaid
 pub mod OneAnswer

@@ -10,7 +10,8 @@ use Rattle.cover_cli.proofs.OneText.{one_text}
 use Rattle.cover_cli.specs.Answers.{is_success, is_refusal, HasOneText, MayWrite, HoldsCause, HoldsNoCause, FitsRoom, IsUnlessEarlier, IsSuccessUnlessFault, IsAnswer}
 use Rattle.cover_cli.specs.Input.{HoldsTooMuch, AreInputs}
 use Rattle.cover_cli.specs.Laws.{is_settled, HoldAlike}
-use Rattle.cover_words.specs.Words.{Operation, inputs_of, output_of}
+use Rattle.cover_cli.specs.Task.{Task}
+use Rattle.cover_words.specs.Words.{inputs_of, output_of}
 use Rattle.cover_cli.specs.declared.outcome.Outcome.{Outcome}
 use Rattle.cover_cli.specs.declared.outcome.Outcome.TheVariants.{Done, Marked, Usage, ReadFault, WriteFault, TooLong, BadText, BadJson, BadPoints, NotValid, TooMany, NoMemory, Sampled}
 
@@ -33,17 +34,17 @@ long_again s t names alike (k, name, within, at, long) =
     (k, name, within, at, record { bytes = long.bytes; file = sym same ∙ long.file; longer = long.longer })
 
 -- and the other way round
-alike_back : (operation : Operation) (s t : State) → HoldAlike operation s t → HoldAlike operation t s
+alike_back : (operation : Task) (s t : State) → HoldAlike operation s t → HoldAlike operation t s
 alike_back operation s t alike k name within = sym (alike k name within)
 
-writes_again : (operation : Operation) (s t : State) (o : Outcome) (text : List ℕ) → HoldAlike operation s t → MayWrite operation s o text → MayWrite operation t o text
+writes_again : (operation : Task) (s t : State) (o : Outcome) (text : List ℕ) → HoldAlike operation s t → MayWrite operation s o text → MayWrite operation t o text
 writes_again operation s t o text alike writes = record {
   inputs = writes.inputs;
   read = inputs_again s t (inputs_of operation) writes.inputs alike writes.read;
   makes = writes.makes;
 }
 
-cause_again : (operation : Operation) (s t : State) (o : Outcome) → HoldAlike operation s t → HoldsCause operation s o → HoldsCause operation t o
+cause_again : (operation : Task) (s t : State) (o : Outcome) → HoldAlike operation s t → HoldsCause operation s o → HoldsCause operation t o
 cause_again operation s t o alike cause = record {
   inputs = cause.inputs;
   read = inputs_again s t (inputs_of operation) cause.inputs alike cause.read;
@@ -51,7 +52,7 @@ cause_again operation s t o alike cause = record {
 }
 
 -- what a text is written of is a cause for no refusal
-no_cause_beside : (operation : Operation) (s : State) (o : Outcome) (text : List ℕ) → MayWrite operation s o text → HoldsNoCause operation s
+no_cause_beside : (operation : Task) (s : State) (o : Outcome) (text : List ℕ) → MayWrite operation s o text → HoldsNoCause operation s
 no_cause_beside operation s o text writes = record {
   inputs = writes.inputs;
   read = writes.read;
@@ -73,7 +74,7 @@ as_success answer settled (inr (inr (inr none))) = absurd (differs is_settled an
 
 -- ---- two runs
 
-module _ (operation : Operation) (s s_after t t_after : State) (told : IsTrue s.tells_files) (told_too : IsTrue t.tells_files) (alike : HoldAlike operation s t) where
+module _ (operation : Task) (s s_after t t_after : State) (told : IsTrue s.tells_files) (told_too : IsTrue t.tells_files) (alike : HoldAlike operation s t) where
   after_success : (o p : Outcome) → IsAnswer operation s s_after o → IsAnswer operation t t_after p → IsTrue (is_success o) → IsTrue (is_settled p) → (o ≡ p) × (HasOneText operation s → IsTrue (is_success o) → s_after.files (output_of operation) ≡ t_after.files (output_of operation))
   after_success o p first second ok settled =
       let held = first.written told ok in
@@ -106,7 +107,7 @@ module _ (operation : Operation) (s s_after t t_after : State) (told : IsTrue s.
   one_answer_told (TooMany count) p first second settled settled_too = (after_refusal (TooMany count) p first second refl settled_too, λ one success. cc)
   one_answer_told NoMemory p first second settled settled_too = absurd (differs is_settled NoMemory NoMemory settled refl refl)
 
-pub one_answer : (operation : Operation) (s s_after t t_after : State) (o p : Outcome) → IsTrue s.tells_files → IsTrue t.tells_files → HoldAlike operation s t
+pub one_answer : (operation : Task) (s s_after t t_after : State) (o p : Outcome) → IsTrue s.tells_files → IsTrue t.tells_files → HoldAlike operation s t
     → IsAnswer operation s s_after o → IsAnswer operation t t_after p → IsTrue (is_settled o) → IsTrue (is_settled p)
     → (o ≡ p) × (HasOneText operation s → IsTrue (is_success o) → s_after.files (output_of operation) ≡ t_after.files (output_of operation))
 one_answer operation s s_after t t_after o p told told_too alike = one_answer_told operation s s_after t t_after told told_too alike o p
@@ -120,11 +121,11 @@ no_other old new answer read_fault write_fault no_read no_write (inr (inl fault)
 no_other old new answer read_fault write_fault no_read no_write (inr (inr (inl fault))) = absurd (no_write (write_fault fault))
 no_other old new answer read_fault write_fault no_read no_write (inr (inr (inr none))) = inr none
 
-pub complete : (operation : Operation) (old new : State) (answer : Outcome) → IsAnswer operation old new answer → IsTrue old.tells_files → HoldsNoCause operation old
+pub complete : (operation : Task) (old new : State) (answer : Outcome) → IsAnswer operation old new answer → IsTrue old.tells_files → HoldsNoCause operation old
     → ¬ Rose old.read_faults new.read_faults → ¬ Rose old.write_faults new.write_faults → IsTrue (is_success answer) ⊎ (answer ≡ NoMemory)
 complete operation old new answer a told none no_read no_write = no_other old new answer a.read_fault a.write_fault no_read no_write (a.good told none)
 
-pub faultless : (operation : Operation) (old new : State) (answer : Outcome) → IsAnswer operation old new answer
+pub faultless : (operation : Task) (old new : State) (answer : Outcome) → IsAnswer operation old new answer
     → All (λ name. IsPromised name old) (inputs_of operation) → IsPromised (output_of operation) old → FitsRoom operation old
     → (new.read_faults ≡ old.read_faults) × (new.write_faults ≡ old.write_faults)
 faultless operation old new answer a inputs output fits = (a.no_read_fault (a.readable inputs), a.no_write_fault (a.writable output fits))

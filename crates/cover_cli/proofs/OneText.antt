@@ -24,6 +24,9 @@ use Rattle.cov_valid.specs.declared.mark.Mark.{Mark}
 use Rattle.cov_write.specs.Rows.{inner_row}
 use Rattle.cov_write.specs.Written.{lines_text}
 use Rattle.region_owners.proofs.Clearances.{clearance_unique}
+use Rattle.gap_replay.proofs.ReplayOwners.{one_replay}
+use Rattle.gap_replay.specs.Cleaned.{IsCleanedBy}
+use Rattle.region_owners.specs.Owner.{Rule}
 use Rattle.sound_polygons.proofs.OneCleaned.{one_cleaned}
 use Rattle.feature_files.proofs.Files.{one_reading, read_formed}
 use Rattle.feature_files.proofs.Forms.{one_form, one_text_form, bare_exact}
@@ -39,7 +42,7 @@ use Rattle.geo_json.specs.Reading.{Reading}
 use Rattle.cover_cli.proofs.Causes.{of_both_two, one_refusal, not_both}
 use Rattle.cover_cli.proofs.Inputs.{same_inputs}
 use Rattle.cover_cli.specs.Answers.{HoldsNoFloat, HasOneText, MayWrite, HoldsCause}
-use Rattle.cover_cli.specs.Clean.{rule_of, IsCleaning}
+use Rattle.cover_cli.specs.Clean.{rule_of, picks_of, state_for, IsCleaning}
 use Rattle.cover_cli.specs.Input.{Holds, AreInputs}
 use Rattle.geo_text.specs.declared.reader.TheConstants.{LONGEST_INPUT}
 use Rattle.cover_cli.specs.Lines.{member_lists, marked_uses}
@@ -56,11 +59,11 @@ use Rattle.cover_cli.specs.Text.{IsReadAnd}
 use Rattle.cov_union.proofs.OneUnited.{one_united}
 use Rattle.cover_cli.specs.Union.{IsUniting}
 use Rattle.cover_cli.specs.Validate.{marking, IsValidation}
-use Rattle.cover_words.specs.Words.{Operation, Validate, Clean, Simplify, Union, Node, Regions, Locate, inputs_of, Sample, Overlay as OverlayOf}
+use Rattle.cover_cli.specs.Task.{Task, TaskRule}
+use Rattle.cover_words.specs.Words.{Validate, Clean, Simplify, Union, Node, Regions, Locate, inputs_of, Sample, Overlay as OverlayOf}
 use Rattle.cover_cli.specs.declared.outcome.Outcome.{Outcome}
-use Rattle.cover_words.specs.declared.rule_name.RuleName.{RuleName}
 use Rattle.cover_words.specs.declared.rule_name.RuleName.TheVariants.{LongestBorder}
-use Rattle.merge_rule.specs.RuleState.{no_state}
+use Rattle.merge_rule.specs.RuleState.{RuleState, no_state}
 
 -- ---- what is made of a coverage
 
@@ -85,10 +88,16 @@ one_as scale to r v w text other same written again (inl is_text) = one_text_for
 one_as scale to r v w text other same written again (inr free) =
     one_form to scale (with_members r w) text other (record { properties = free.properties; ids = free.ids }) (subst (λ (ms : Members). IsWrittenAs to scale (with_members r ms) text) same written) again
 
-one_cleaning : (rule : RuleName) (gap : ℕ) (scale : Option ℕ) (to : List ℕ) (r : Reading) (o p : Outcome) (text other : List ℕ) → AllInRange r.members → IsCleaning rule gap scale to r o text → IsCleaning rule gap scale to r p other
+-- a coverage, cleaned, is one, also where the rule is asked for gaps too
+one_cleaned_by : (too : Bool) (members : Members) → AllInRange members → (rule : Rule RuleState) (state : RuleState) (gap : ℕ) (out other : Members)
+    → IsCleanedBy too members rule state gap out → IsCleanedBy too members rule state gap other → out ≡ other
+one_cleaned_by false members in_range rule state gap out other first second = one_cleaned members in_range rule state gap out other first second
+one_cleaned_by true members in_range rule state gap out other first second = one_replay members in_range rule state gap out other first second
+
+one_cleaning : (rule : TaskRule) (gap : ℕ) (too : Bool) (scale : Option ℕ) (to : List ℕ) (r : Reading) (o p : Outcome) (text other : List ℕ) → AllInRange r.members → IsCleaning rule gap too scale to r o text → IsCleaning rule gap too scale to r p other
     → (o ≡ p) × (IsExactAs to r → text ≡ other)
-one_cleaning rule gap scale to r o p text other in_range v w =
-    let same : v.out ≡ w.out = one_cleaned r.members in_range (rule_of rule) no_state gap v.out w.out v.cleaned w.cleaned in
+one_cleaning rule gap too scale to r o p text other in_range v w =
+    let same : v.out ≡ w.out = one_cleaned_by too r.members in_range (picks_of rule) (state_for rule (length r.members)) gap v.out w.out v.cleaned w.cleaned in
     (v.done ∙ sym w.done, one_as scale to r v.out w.out text other same v.written w.written)
 
 one_simplifying : (tolerance : ℕ) (inner : Bool) (scale : Option ℕ) (to : List ℕ) (r : Reading) (o p : Outcome) (text other : List ℕ) → IsSimplifying tolerance inner scale to r o text → IsSimplifying tolerance inner scale to r p other
@@ -223,17 +232,17 @@ one_paired first second a b to o p text other h k =
     (subst (λ (s : Reading). IsOverlaying to k.reading.members s.members o text) same_too again.holds) k.holds.holds
 
 -- one success, and one text where it is determined
-abbrev IsOne : Operation → State → Outcome → Outcome → List ℕ → List ℕ → Type 0
+abbrev IsOne : Task → State → Outcome → Outcome → List ℕ → List ℕ → Type 0
 IsOne operation s o p text other = (o ≡ p) × (HasOneText operation s → text ≡ other)
 
-one_made : (operation : Operation) (s : State) (inputs : List (List ℕ)) (o p : Outcome) (text other : List ℕ) → AreInputs s (inputs_of operation) inputs
+one_made : (operation : Task) (s : State) (inputs : List (List ℕ)) (o p : Outcome) (text other : List ℕ) → AreInputs s (inputs_of operation) inputs
     → Makes operation inputs o text → Makes operation inputs p other → IsOne operation s o p text other
 one_made (Validate gap scale from to) s inputs o p text other =
     of_inputs s from scale inputs (λ r. IsValidation gap scale r.members o text) (λ r. IsValidation gap scale r.members p other) (IsOne (Validate gap scale from to) s o p text other)
     (λ input r holds in_range reads v w. (let one = one_validation gap scale r.members o p text other v w in (one.0, λ determined. one.1)))
-one_made (Clean rule gap scale from to) s inputs o p text other =
-    of_inputs s from scale inputs (λ r. IsCleaning rule gap scale to r o text) (λ r. IsCleaning rule gap scale to r p other) (IsOne (Clean rule gap scale from to) s o p text other)
-    (λ input r holds in_range reads v w. (let one = one_cleaning rule gap scale to r o p text other in_range v w in (one.0, λ determined. one.1 (exact_as s scale from to input r holds reads determined))))
+one_made (Clean rule gap too scale from to) s inputs o p text other =
+    of_inputs s from scale inputs (λ r. IsCleaning rule gap too scale to r o text) (λ r. IsCleaning rule gap too scale to r p other) (IsOne (Clean rule gap too scale from to) s o p text other)
+    (λ input r holds in_range reads v w. (let one = one_cleaning rule gap too scale to r o p text other in_range v w in (one.0, λ determined. one.1 (exact_as s scale from to input r holds reads determined))))
 one_made (Simplify tolerance inner scale from to) s inputs o p text other =
     of_inputs s from scale inputs (λ r. IsSimplifying tolerance inner scale to r o text) (λ r. IsSimplifying tolerance inner scale to r p other) (IsOne (Simplify tolerance inner scale from to) s o p text other)
     (λ input r holds in_range reads v w. (let one = one_simplifying tolerance inner scale to r o p text other v w in (one.0, λ determined. one.1 (exact_as s scale from to input r holds reads determined))))
@@ -254,18 +263,18 @@ one_made (OverlayOf first second to) s inputs o p text other =
 
 -- ---- what the files hold
 
-pub one_text : (operation : Operation) (s : State) (o p : Outcome) (text other : List ℕ) → MayWrite operation s o text → MayWrite operation s p other
+pub one_text : (operation : Task) (s : State) (o p : Outcome) (text other : List ℕ) → MayWrite operation s o text → MayWrite operation s p other
     → (o ≡ p) × (HasOneText operation s → text ≡ other)
 one_text operation s o p text other first second =
     let same : first.inputs ≡ second.inputs = same_inputs s (inputs_of operation) first.inputs second.inputs first.read second.read in
     one_made operation s second.inputs o p text other second.read (subst (λ (is : List (List ℕ)). Makes operation is o text) same first.makes) second.makes
 
-pub one_cause : (operation : Operation) (s : State) (o p : Outcome) → HoldsCause operation s o → HoldsCause operation s p → o ≡ p
+pub one_cause : (operation : Task) (s : State) (o p : Outcome) → HoldsCause operation s o → HoldsCause operation s p → o ≡ p
 one_cause operation s o p first second =
     let same : first.inputs ≡ second.inputs = same_inputs s (inputs_of operation) first.inputs second.inputs first.read second.read in
     one_refusal operation second.inputs o p (subst (λ (is : List (List ℕ)). Refuses operation is o) same first.refuses) second.refuses
 
-pub written_or_refused : (operation : Operation) (s : State) (o p : Outcome) (text : List ℕ) → MayWrite operation s o text → HoldsCause operation s p → ⊥
+pub written_or_refused : (operation : Task) (s : State) (o p : Outcome) (text : List ℕ) → MayWrite operation s o text → HoldsCause operation s p → ⊥
 written_or_refused operation s o p text writes cause =
     let same : cause.inputs ≡ writes.inputs = same_inputs s (inputs_of operation) cause.inputs writes.inputs cause.read writes.read in
     not_both operation writes.inputs o p text writes.makes (subst (λ (is : List (List ℕ)). Refuses operation is p) same cause.refuses)

@@ -3,7 +3,7 @@ use Rattle.std.proofs.Common.{◌≡◌, sym, ◌∙◌, ap, ℕ, ◌<◌, ◌+�
 use Rattle.std.specs.List.{AllZip}
 use Rattle.std.specs.Prelude.{flat_map}
 use Rattle.std.proofs.lemmas.Grind.{flat_map-append}
-use Rattle.std.proofs.lemmas.List.{take_all, take_more, get_or_default}
+use Rattle.std.proofs.lemmas.List.{take_all, take_more}
 use Rattle.cov_locate.specs.Where.{IsWhere}
 use Rattle.cov_locate.specs.declared.place.Where.{Where}
 use Rattle.cov_types.specs.declared.coord.Coord.{Coord}

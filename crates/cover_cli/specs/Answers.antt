@@ -8,19 +8,20 @@ use Rattle.cover_cli.specs.declared.outcome.Outcome.{Outcome}
 use Rattle.cover_cli.specs.declared.outcome.Outcome.TheVariants.{Done, Marked, Usage, ReadFault, WriteFault, TooLong, BadText, BadJson, BadPoints, NotValid, TooMany, NoMemory, Sampled}
 use Rattle.cover_cli.specs.Input.{HoldsTooMuch, AreInputs}
 use Rattle.cover_cli.specs.Made.{Makes, Refuses}
-use Rattle.cover_words.specs.Words.{Operation, Validate, Clean, Simplify, Sample, inputs_of, output_of, scale_of}
+use Rattle.cover_cli.specs.Task.{Task}
+use Rattle.cover_words.specs.Words.{Validate, Clean, Simplify, Sample, inputs_of, output_of, scale_of}
 use Rattle.feature_files.specs.Form.{HasNoFloat}
 use Rattle.file_form.specs.Name.{is_json}
 use Rattle.feature_files.specs.Reading.{IsRead}
 use Rattle.geo_json.specs.Reading.{Reading}
 
 -- whether the operation looks for segments at fault
-abbrev pub is_validate : Operation → Bool
+abbrev pub is_validate : Task → Bool
 is_validate (Validate gap scale from to) = true
 is_validate _ = false
 
 -- whether the operation makes a coverage of its own
-abbrev pub is_sample : Operation → Bool
+abbrev pub is_sample : Task → Bool
 is_sample (Sample side seed to) = true
 is_sample _ = false
 
@@ -60,14 +61,14 @@ touches_output outcome = is_success outcome
 -- ---- what the files give the operation to do
 
 -- on what the files hold, the operation answers this success and writes this text
-pub record MayWrite (operation : Operation) (s : State) (outcome : Outcome) (text : List ℕ) : Type 0 where
+pub record MayWrite (operation : Task) (s : State) (outcome : Outcome) (text : List ℕ) : Type 0 where
   pub inputs : List (List ℕ)
   pub read : AreInputs s (inputs_of operation) inputs
   pub makes : Makes operation inputs outcome text
 
 -- the operation writes the properties and ids that it read: clean and simplify, from GeoJSON to GeoJSON
-abbrev pub keeps_properties : Operation → Bool
-keeps_properties (Clean rule gap scale from to) = is_json from && is_json to
+abbrev pub keeps_properties : Task → Bool
+keeps_properties (Clean rule gap too scale from to) = is_json from && is_json to
 keeps_properties (Simplify tolerance inner scale from to) = is_json from && is_json to
 keeps_properties _ = false
 
@@ -76,22 +77,22 @@ abbrev pub HoldsNoFloat : State → Option ℕ → List ℕ → Type 0
 HoldsNoFloat s scale name = (input : List ℕ) (r : Reading) → s.files name ≡ Some input → IsRead name scale input r → HasNoFloat r
 
 -- each byte that the operation may write is determined: it writes no properties and ids that it read, or they have no float
-abbrev pub HasOneText : Operation → State → Type 0
+abbrev pub HasOneText : Task → State → Type 0
 HasOneText operation s = (keeps_properties operation ≡ false) ⊎ All (HoldsNoFloat s (scale_of operation)) (inputs_of operation)
 
 -- no other success may be answered on what the files hold, and no other text written but for the digits of floats
-abbrev pub IsOnlyText : Operation → State → Outcome → List ℕ → Type 0
+abbrev pub IsOnlyText : Task → State → Outcome → List ℕ → Type 0
 IsOnlyText operation s outcome text =
     (other_outcome : Outcome) (other : List ℕ) → MayWrite operation s other_outcome other → (other_outcome ≡ outcome) × (HasOneText operation s → other ≡ text)
 
 -- what the files hold is a cause for the operation to refuse it with this outcome
-pub record HoldsCause (operation : Operation) (s : State) (refusal : Outcome) : Type 0 where
+pub record HoldsCause (operation : Task) (s : State) (refusal : Outcome) : Type 0 where
   pub inputs : List (List ℕ)
   pub read : AreInputs s (inputs_of operation) inputs
   pub refuses : Refuses operation inputs refusal
 
 -- the files can be read, and what they hold is a cause for no refusal
-pub record HoldsNoCause (operation : Operation) (s : State) : Type 0 where
+pub record HoldsNoCause (operation : Task) (s : State) : Type 0 where
   pub inputs : List (List ℕ)
   pub read : AreInputs s (inputs_of operation) inputs
   pub none : (refusal : Outcome) → ¬ Refuses operation inputs refusal
@@ -99,14 +100,14 @@ pub record HoldsNoCause (operation : Operation) (s : State) : Type 0 where
 -- ---- what the files hold afterwards
 
 -- the output holds the operation's whole text, the only one that it may write but for digits of floats, and every other file is as it was
-pub record HoldsText (operation : Operation) (old new : State) (outcome : Outcome) : Type 0 where
+pub record HoldsText (operation : Task) (old new : State) (outcome : Outcome) : Type 0 where
   pub text : List ℕ
   pub writes : MayWrite operation old outcome text
   pub only : IsOnlyText operation old outcome text
   pub held : HoldsNow (output_of operation) text old.files new.files
 
 -- the output is as before or holds the first bytes of such a text, and every other file is as it was
-pub record HoldsPart (operation : Operation) (old new : State) : Type 0 where
+pub record HoldsPart (operation : Task) (old new : State) : Type 0 where
   pub outcome : Outcome
   pub text : List ℕ
   pub writes : MayWrite operation old outcome text
@@ -124,11 +125,11 @@ abbrev pub IsSuccessUnlessFault : Outcome → Type 0
 IsSuccessUnlessFault answer = IsTrue (is_success answer) ⊎ ((answer ≡ ReadFault) ⊎ ((answer ≡ WriteFault) ⊎ (answer ≡ NoMemory)))
 
 -- each text that the operation may write has at most as many bytes as the room
-abbrev pub FitsRoom : Operation → State → Type 0
+abbrev pub FitsRoom : Task → State → Type 0
 FitsRoom operation s = (outcome : Outcome) (text : List ℕ) → MayWrite operation s outcome text → length text ≤ s.room
 
 -- the answer of an operation whose words were accepted: when it comes, and what it leaves. What is said of contents holds where they are told
-pub record IsAnswer (operation : Operation) (old new : State) (answer : Outcome) : Type 0 where
+pub record IsAnswer (operation : Task) (old new : State) (answer : Outcome) : Type 0 where
   pub usage : answer ≢ Usage
   -- a success: the whole text is in the output, and nothing else could be
   pub written : IsTrue old.tells_files → IsTrue (is_success answer) → HoldsText operation old new answer

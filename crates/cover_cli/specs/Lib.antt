@@ -1,8 +1,10 @@
 pub mod Lines
 pub mod Outcome
+pub mod Closing
 pub mod Input
 pub mod Text
 pub mod Validate
+pub mod Task
 pub mod Clean
 pub mod Invalid
 pub mod ValidFeatures
@@ -16,9 +18,11 @@ pub mod Overlay
 pub mod Made
 pub mod Refusal
 pub mod Answers
+pub mod Handed
 pub mod Written
 pub mod Laws
 pub mod Headline
+pub mod CallerRules
 pub mod SampleLaw
 pub mod Located
 pub mod Overlaid

@@ -11,7 +11,8 @@ use Rattle.cover_cli.specs.Text.{IsReadAnd, RefusesInput}
 use Rattle.cover_cli.specs.Invalid.{RefusesInvalid}
 use Rattle.cover_cli.specs.Union.{IsUniting}
 use Rattle.cover_cli.specs.Validate.{IsValidation}
-use Rattle.cover_words.specs.Words.{Operation, Validate, Clean, Simplify, Union, Node, Regions, Locate, Sample, Overlay}
+use Rattle.cover_cli.specs.Task.{Task}
+use Rattle.cover_words.specs.Words.{Validate, Clean, Simplify, Union, Node, Regions, Locate, Sample, Overlay}
 use Rattle.cover_cli.specs.declared.outcome.Outcome.{Outcome}
 
 -- there is one input, and this holds of it
@@ -28,9 +29,9 @@ IsTwoAnd (first ∷ second ∷ []) P = P first second
 IsTwoAnd (first ∷ second ∷ more ∷ rest) P = ⊥
 
 -- of these inputs the operation makes this text, and answers this success once it is written
-abbrev pub Makes : Operation → List (List ℕ) → Outcome → List ℕ → Type 0
+abbrev pub Makes : Task → List (List ℕ) → Outcome → List ℕ → Type 0
 Makes (Validate gap scale from to) inputs outcome text = IsOneAnd inputs (λ input. IsReadAnd from scale input (λ r. IsValidation gap scale r.members outcome text))
-Makes (Clean rule gap scale from to) inputs outcome text = IsOneAnd inputs (λ input. IsReadAnd from scale input (λ r. IsCleaning rule gap scale to r outcome text))
+Makes (Clean rule gap too scale from to) inputs outcome text = IsOneAnd inputs (λ input. IsReadAnd from scale input (λ r. IsCleaning rule gap too scale to r outcome text))
 Makes (Simplify tolerance inner scale from to) inputs outcome text = IsOneAnd inputs (λ input. IsReadAnd from scale input (λ r. IsSimplifying tolerance inner scale to r outcome text))
 Makes (Union scale from to) inputs outcome text = IsOneAnd inputs (λ input. IsReadAnd from scale input (λ r. IsUniting scale to r.members outcome text))
 Makes (Node scale from to) inputs outcome text = IsOneAnd inputs (λ input. IsReadAnd from scale input (λ r. IsNoding scale r.members outcome text))
@@ -40,9 +41,9 @@ Makes (Locate from points to) inputs outcome text = IsTwoAnd inputs (λ input fi
 Makes (Overlay first second to) inputs outcome text = IsTwoAnd inputs (λ a b. IsReadAnd first None a (λ r. IsReadAnd second None b (λ s. IsOverlaying to r.members s.members outcome text)))
 
 -- these inputs are a cause for the operation to refuse them with this outcome
-abbrev pub Refuses : Operation → List (List ℕ) → Outcome → Type 0
+abbrev pub Refuses : Task → List (List ℕ) → Outcome → Type 0
 Refuses (Validate gap scale from to) inputs outcome = IsOneAnd inputs (λ input. RefusesInput from scale input outcome)
-Refuses (Clean rule gap scale from to) inputs outcome = IsOneAnd inputs (λ input. RefusesInput from scale input outcome)
+Refuses (Clean rule gap too scale from to) inputs outcome = IsOneAnd inputs (λ input. RefusesInput from scale input outcome)
 Refuses (Simplify tolerance inner scale from to) inputs outcome = IsOneAnd inputs (λ input. RefusesInvalid from scale input outcome)
 Refuses (Union scale from to) inputs outcome = IsOneAnd inputs (λ input. RefusesInvalid from scale input outcome)
 Refuses (Node scale from to) inputs outcome = IsOneAnd inputs (λ input. RefusesInput from scale input outcome)

@@ -1,3 +1,4 @@
+ghost use Rattle.cover_cli.specs.CallerRules.{CallerRulesLaw};
 ghost use Rattle.cover_cli.specs.Headline.{HeadlineLaw};
 ghost use Rattle.cover_cli.specs.SampleLaw.{SampleLaw};
 ghost use Rattle.cover_cli.specs.Located.{LocateLaw};
@@ -16,6 +17,13 @@ pub fn written_law()
 /// member that the definitions say. A call does nothing.
 pub fn headline_law()
     ensures { HeadlineLaw }
+{}
+
+/// Where `cover_with` is done with a cleaning by a handed-in rule, the output holds the coverage, cleaned through that rule's pick and next
+/// from its room for the members, and the rule comes back with the last numbers of that; every other rule is as it was. A call does
+/// nothing.
+pub fn caller_rules_law()
+    ensures { CallerRulesLaw }
 {}
 
 /// For every file in the grammar and range and every points file without a fault `cover locate` tells of each point, in order, whether it

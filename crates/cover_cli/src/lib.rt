@@ -25,6 +25,7 @@ mod overlay;
 mod pairs;
 mod refusal;
 mod regions;
+mod report;
 mod sample;
 mod simplify;
 mod text;
@@ -33,6 +34,9 @@ mod valid;
 mod valid_features;
 mod validate;
 
-pub use command::cover;
-pub use laws::{answer_law, headline_law, locate_law, overlay_law, sample_law, written_law};
+pub use command::{cover, cover_with};
+pub use laws::{
+    answer_law, caller_rules_law, headline_law, locate_law, overlay_law, sample_law, written_law,
+};
 pub use outcome::{Outcome, message, status};
+pub use report::{Report, closing};

@@ -1,13 +1,19 @@
 ghost use Rattle.std.specs.Prelude.{◌≡◌, ◌≤◌, length, map, All, IfOk, IfErr};
+ghost use Rattle.std.specs.String.{string_bytes};
 ghost use Rattle.geo_text.specs.declared.reader.TheConstants.{LONGEST_INPUT};
+ghost use Rattle.cover_cli.specs.Handed.{used_place, AreHandedBack, IsRuleMade, IsRuleUnmade};
 ghost use Rattle.cover_cli.specs.Made.{Makes, Refuses};
+ghost use Rattle.cover_cli.specs.Task.{task_of};
 ghost use Rattle.cover_words.specs.Named.{named};
 ghost use Rattle.cover_cli.specs.Refusal.{IsRefusedFor};
 ghost use Rattle.cover_words.specs.Words.{IsWithinLimit, inputs_of};
 
+use crate::clean::CleanWay;
 use crate::outcome::Outcome;
 use crate::{clean, locate, node, overlay, regions, sample, simplify, union, validate};
+use cov_rules::{Hired, NamedRule};
 use cover_words::Operation;
+use merge_rule::MergeRule;
 use std::alloc::Global;
 
 /// What an operation made: the outcome, should the text be written whole, and that text.
@@ -17,15 +23,26 @@ pub struct Made {
     pub text: Vec<u8>,
 }
 
-/// Makes all that the operation writes of the inputs that it read. An error is the outcome that refuses them.
-pub fn make(alloc: Global, operation: &Operation, mut inputs: Vec<Vec<u8>>) -> Result<Made, Outcome>
+/// Makes all that the operation writes of the inputs that it read. An error is the outcome that refuses them. Of the handed-in rules
+/// at most the one that the operation goes by is asked.
+pub fn make(
+    alloc: Global,
+    operation: &Operation,
+    mut inputs: Vec<Vec<u8>>,
+    rules: &mut [NamedRule],
+) -> Result<Made, Outcome>
     requires count { length inputs.items ≡ length (inputs_of (named operation.now)) }
-    requires limits { IsWithinLimit (named operation.now) }
+    requires limits { IsWithinLimit (length rules.old) (named operation.now) }
     requires within { All (λ i. length i.items ≤ LONGEST_INPUT) inputs.items }
-    ensures made { IfOk result (λ made.
-        Makes (named operation.now) (map (λ i. i.items) inputs.items) made.outcome made.text.items) }
-    ensures refused { IfErr result
-        (IsRefusedFor (Refuses (named operation.now) (map (λ i. i.items) inputs.items))) }
+    ensures made { IfOk result (λ made. Makes (task_of (map (λ r. ⟦<Hired as MergeRule>⟧.state r.rule) rules.old) (named operation.now))
+        (map (λ i. i.items) inputs.items) made.outcome made.text.items) }
+    ensures refused { IfErr result (IsRefusedFor
+        (Refuses (task_of (map (λ r. ⟦<Hired as MergeRule>⟧.state r.rule) rules.old) (named operation.now)) (map (λ i. i.items) inputs.items))) }
+    ensures names { map (λ r. string_bytes r.name) rules.new ≡ map (λ r. string_bytes r.name) rules.old }
+    ensures asked { IfOk result (λ _. AreHandedBack (IsRuleMade (named operation.now) (map (λ i. i.items) inputs.items)) (used_place (named operation.now))
+        (map (λ r. ⟦<Hired as MergeRule>⟧.state r.rule) rules.old) (map (λ r. ⟦<Hired as MergeRule>⟧.state r.rule) rules.new)) }
+    ensures unasked { IfErr result (λ o. AreHandedBack (IsRuleUnmade (named operation.now) (map (λ i. i.items) inputs.items) o) (used_place (named operation.now))
+        (map (λ r. ⟦<Hired as MergeRule>⟧.state r.rule) rules.old) (map (λ r. ⟦<Hired as MergeRule>⟧.state r.rule) rules.new)) }
 {
     match operation {
         Operation::Validate {
@@ -37,10 +54,20 @@ pub fn make(alloc: Global, operation: &Operation, mut inputs: Vec<Vec<u8>>) -> R
         Operation::Clean {
             rule,
             gap,
+            gaps_too,
             scale,
             from,
             to,
-        } => clean::make(alloc, *rule, *gap, *scale, from, to, inputs.remove(0)),
+        } => {
+            let way = CleanWay {
+                gap: *gap,
+                gaps_too: *gaps_too,
+                scale: *scale,
+                from,
+                to,
+            };
+            clean::make(alloc, &way, *rule, rules, inputs.remove(0))
+        }
         Operation::Simplify {
             tolerance,
             inner,

@@ -21,7 +21,7 @@ pub fn make(alloc: Global, side: u32, seed: u32, to: &str) -> Result<Made, NoMem
     ensures { IfOk result (λ made. IsSampling side seed to.now made.outcome made.text.items) }
 {
     let grid = jittered_cells(alloc, side, seed)?;
-    let coverage = cleaned(alloc, &grid, RuleName::LongestBorder, GAP)?;
+    let coverage = cleaned(alloc, &grid, RuleName::LongestBorder, GAP, false)?;
     let outcome = Outcome::Sampled {
         members: coverage.members.len() as u64,
         polygons: polygons_of(&coverage)?,

@@ -22,7 +22,7 @@ use Rattle.clap.proofs.WalkLemmas.{both}
 use Rattle.cover_words.specs.Accepted.{AcceptedLaw, has_a_rule, is_accepted_by, suits_files, suits_input}
 use Rattle.cover_words.specs.Commands.{lengths, validate_command, clean_command, simplify_command, union_command, node_command, regions_command, locate_command, sample_command, overlay_command}
 use Rattle.cover_words.specs.Values.{flag_at, number_at, number_up_to, text_at, truth_of}
-use Rattle.cover_words.specs.declared.rule_name.RuleName.{RuleName}
+use Rattle.cover_words.specs.declared.rule_choice.RuleChoice.{RuleChoice}
 use Rattle.cover_words.specs.Words.{Operation, Validate, Clean, Simplify, Union, Node, Regions, clean_in, clean_with, locate_in, locate_with, overlay_in, overlay_with, node_in, node_with, operation_by, regions_in, regions_with, simplify_in, simplify_with, suits, taken, union_in, union_with, validate_in, validate_with, sample_in, sample_with}
 use Rattle.cover_words.proofs.SoundRows.{AllOwn, AllSound, Present, defaults_have, defaults_sound, given_has, present, settled_sound, walk_sound}
 
@@ -163,13 +163,14 @@ validate_some (Some f) (Some t) None s x y z = absurd (true≢false (sym z))
 validate_some (Some f) None g s x y z = absurd (true≢false (sym y))
 validate_some None t g s x y z = absurd (true≢false (sym x))
 
-clean_some : (f t : Option Text) (r : Option RuleName) (g s : Option ℕ) → is_some f ≡ true → is_some t ≡ true → is_some g ≡ true
-    → is_some (clean_with f t r g s) ≡ (is_some r && (suits_found s f && suits_found s t))
-clean_some (Some f) (Some t) (Some r) (Some g) s x y z = named_where (suits s f && suits s t) (Clean r g s f t)
-clean_some (Some f) (Some t) None g s x y z = refl
-clean_some (Some f) (Some t) (Some r) None s x y z = absurd (true≢false (sym z))
-clean_some (Some f) None r g s x y z = absurd (true≢false (sym y))
-clean_some None t r g s x y z = absurd (true≢false (sym x))
+clean_some : (f t : Option Text) (r : Option RuleChoice) (g : Option ℕ) (b : Option Bool) (s : Option ℕ) → is_some f ≡ true → is_some t ≡ true → is_some g ≡ true → is_some b ≡ true
+    → is_some (clean_with f t r g b s) ≡ (is_some r && (suits_found s f && suits_found s t))
+clean_some (Some f) (Some t) (Some r) (Some g) (Some b) s x y z w = named_where (suits s f && suits s t) (Clean r g b s f t)
+clean_some (Some f) (Some t) None g b s x y z w = refl
+clean_some (Some f) (Some t) (Some r) (Some g) None s x y z w = absurd (true≢false (sym w))
+clean_some (Some f) (Some t) (Some r) None b s x y z w = absurd (true≢false (sym z))
+clean_some (Some f) None r g b s x y z w = absurd (true≢false (sym y))
+clean_some None t r g b s x y z w = absurd (true≢false (sym x))
 
 simplify_some : (f t : Option Text) (g : Option ℕ) (b : Option Bool) (s : Option ℕ) → is_some f ≡ true → is_some t ≡ true → is_some g ≡ true → is_some b ≡ true
     → is_some (simplify_with f t g b s) ≡ (suits_found s f && suits_found s t)
@@ -234,7 +235,7 @@ pub own_validate : AllOwn (built validate_command).top.rules (built validate_com
 own_validate = ((refl, refl), ((refl, refl), ((refl, refl), ((refl, refl), ((refl, refl), tt)))))
 
 pub own_clean : AllOwn (built clean_command).top.rules (built clean_command).top.rules
-own_clean = ((refl, refl), ((refl, refl), ((refl, refl), ((refl, refl), ((refl, refl), ((refl, refl), tt))))))
+own_clean = ((refl, refl), ((refl, refl), ((refl, refl), ((refl, refl), ((refl, refl), ((refl, refl), ((refl, refl), tt)))))))
 
 pub own_simplify : AllOwn (built simplify_command).top.rules (built simplify_command).top.rules
 own_simplify = ((refl, refl), ((refl, refl), ((refl, refl), ((refl, refl), ((refl, refl), ((refl, refl), tt))))))
@@ -280,10 +281,11 @@ module _ (words : List Text) where
       (name_in validate_command words own_validate refl by (codes "OUT") (refl, refl, refl))
       (number_in validate_command words own_validate refl by (codes "gap") (refl, refl, refl) refl)
 
-  cleans : takes clean_command words ≡ true → is_some (clean_in (matches_of clean_command words)) ≡ (has_a_rule words && suits_files clean_command words)
-  cleans by = clean_some _ _ _ _ _ (name_in clean_command words own_clean refl by (codes "IN") (refl, refl, refl))
+  cleans : (names : List Text) → takes clean_command words ≡ true → is_some (clean_in names (matches_of clean_command words)) ≡ (has_a_rule names words && suits_files clean_command words)
+  cleans names by = clean_some _ _ _ _ _ _ (name_in clean_command words own_clean refl by (codes "IN") (refl, refl, refl))
       (name_in clean_command words own_clean refl by (codes "OUT") (refl, refl, refl))
       (number_in clean_command words own_clean refl by (codes "gap") (refl, refl, refl) refl)
+      (flag_in clean_command words own_clean refl by (codes "gaps-too") (refl, refl, refl) refl)
 
   simplifies : takes simplify_command words ≡ true → is_some (simplify_in (matches_of simplify_command words)) ≡ suits_files simplify_command words
   simplifies by = simplify_some _ _ _ _ _ (name_in simplify_command words own_simplify refl by (codes "IN") (refl, refl, refl))
@@ -340,10 +342,10 @@ by_word : (t : Bool) (x y : Option Operation) (p q : Bool) → is_some x ≡ p �
 by_word true x y p q e f = e
 by_word false x y p q e f = f
 
-accepted_by : (word : Text) (words : List Text) → is_some (operation_by word words) ≡ is_accepted_by word words
-accepted_by word words =
+accepted_by : (names : List Text) (word : Text) (words : List Text) → is_some (operation_by names word words) ≡ is_accepted_by names word words
+accepted_by names word words =
     by_word (bytes_eq word (codes "validate")) _ _ _ _ (taken_where validate_command validate_in words (suits_input validate_command words) (validates words))
-    (by_word (bytes_eq word (codes "clean")) _ _ _ _ (taken_where clean_command clean_in words (has_a_rule words && suits_files clean_command words) (cleans words))
+    (by_word (bytes_eq word (codes "clean")) _ _ _ _ (taken_where clean_command (clean_in names) words (has_a_rule names words && suits_files clean_command words) (cleans words names))
     (by_word (bytes_eq word (codes "simplify")) _ _ _ _ (taken_where simplify_command simplify_in words (suits_files simplify_command words) (simplifies words))
     (by_word (bytes_eq word (codes "union")) _ _ _ _ (taken_where union_command union_in words (suits_files union_command words) (unites words))
     (by_word (bytes_eq word (codes "node")) _ _ _ _ (taken_where node_command node_in words (suits_input node_command words) (nodes words))
@@ -354,5 +356,5 @@ accepted_by word words =
 
 -- words name an operation exactly where they are accepted
 pub accepted : AcceptedLaw
-accepted [] = refl
-accepted (word ∷ rest) = accepted_by word (word ∷ rest)
+accepted names [] = refl
+accepted names (word ∷ rest) = accepted_by names word (word ∷ rest)

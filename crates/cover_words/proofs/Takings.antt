@@ -18,9 +18,9 @@ taken_named a command operation words matched m r same found is named =
     rw here.0 (rw (← here.1) named)
 
 -- the words are read by the command of the first
-pub first_names : {E : Type 0} (words : List (String Global)) (first : String Global) (word : Text) (r : Result (Option code.Operation) E)
+pub first_names : {E : Type 0} (names : List Text) (words : List (String Global)) (first : String Global) (word : Text) (r : Result (Option code.Operation) E)
     → 1 ≤ length words → first ≡ get_or words 0 first → word ≡ string_bytes first
-    → IfOk r (IsNamed (operation_by word (map string_bytes words))) → IfOk r (IsNamed (operation_of (map string_bytes words)))
-first_names [] first word r some at is named = absurd (omega arith)
-first_names (x ∷ xs) first word r some at is named =
-    subst (λ w. IfOk r (IsNamed (operation_by w (map string_bytes (x ∷ xs))))) (is ∙ ap string_bytes at) named
+    → IfOk r (IsNamed (operation_by names word (map string_bytes words))) → IfOk r (IsNamed (operation_of names (map string_bytes words)))
+first_names names [] first word r some at is named = absurd (omega arith)
+first_names names (x ∷ xs) first word r some at is named =
+    subst (λ w. IfOk r (IsNamed (operation_by names w (map string_bytes (x ∷ xs))))) (is ∙ ap string_bytes at) named

@@ -24,6 +24,10 @@ rule = record (new_rule (codes "rule")) { long = Some (codes "rule"); required =
 abbrev pub gap : Rule
 gap = record (new_rule (codes "gap")) { long = Some (codes "gap"); defaults = codes "0" ∷ []; parser = Some lengths }
 
+-- `--gaps-too`, which has no value
+abbrev pub gaps_too : Rule
+gaps_too = record (new_rule (codes "gaps-too")) { long = Some (codes "gaps-too"); action = Some SetTrue }
+
 -- `--tolerance T`, which has to be there
 abbrev pub tolerance : Rule
 tolerance = record (new_rule (codes "tolerance")) { long = Some (codes "tolerance"); required = true; parser = Some lengths }
@@ -66,9 +70,9 @@ on_files word more = fold with_rule (new_app word) (name (codes "IN") ∷ name (
 abbrev pub validate_command : App
 validate_command = on_files (codes "validate") (gap ∷ scale ∷ [])
 
--- `clean IN OUT --rule R [--gap W] [--scale K]`
+-- `clean IN OUT --rule R [--gap W] [--gaps-too] [--scale K]`
 abbrev pub clean_command : App
-clean_command = on_files (codes "clean") (rule ∷ gap ∷ scale ∷ [])
+clean_command = on_files (codes "clean") (rule ∷ gap ∷ gaps_too ∷ scale ∷ [])
 
 -- `simplify IN OUT --tolerance T [--inner] [--scale K]`
 abbrev pub simplify_command : App

@@ -10,7 +10,7 @@ use Rattle.cover_words.specs.Words.{Operation, Validate, Clean, Simplify, Union,
 -- the operation with the names that its texts hold
 abbrev pub named : code.Operation → Operation
 named (operations.Validate gap scale from to) = Validate gap scale from.now to.now
-named (operations.Clean rule gap scale from to) = Clean rule gap scale from.now to.now
+named (operations.Clean rule gap too scale from to) = Clean rule gap too scale from.now to.now
 named (operations.Simplify tolerance inner scale from to) = Simplify tolerance inner scale from.now to.now
 named (operations.Union scale from to) = Union scale from.now to.now
 named (operations.Node scale from to) = Node scale from.now to.now

@@ -1,5 +1,6 @@
 -- The words that the program takes.
-use Rattle.std.specs.Prelude.{⊤, ◌≤◌, ◌&&◌, not, ℕ, Bool, true, List, [], ◌∷◌, Option, Some, None, option_and_then, if◌then◌else◌, codes}
+use Rattle.std.specs.Prelude.{⊤, ◌<◌, ◌≤◌, ◌&&◌, not, ℕ, Bool, true, List, [], ◌∷◌, Option, Some, None, option_map, option_and_then, position, if◌then◌else◌, codes}
+use Rattle.std.specs.Option.{option_or}
 use Rattle.std.specs.Str.{bytes_eq}
 use Rattle.clap.specs.Walk.{Row, Text}
 use Rattle.clap.specs.Simple.{App, matches_of}
@@ -10,32 +11,39 @@ use Rattle.cover_words.specs.Commands.{validate_command, clean_command, simplify
 use Rattle.cover_words.specs.Values.{text_at, number_at, scale_at, flag_at}
 use Rattle.cover_words.specs.declared.rule_name.RuleName.{RuleName}
 use Rattle.cover_words.specs.declared.rule_name.RuleName.TheVariants.{LeastIndex, GreatestArea, LeastArea, LongestBorder}
+use Rattle.cover_words.specs.declared.rule_choice.RuleChoice.{RuleChoice}
+use Rattle.cover_words.specs.declared.rule_choice.RuleChoice.TheVariants.{Own, Handed}
 
--- an operation, with its values, the scale of its texts if they have one, and the names of the files that it works on
-pub data Operation : Type 0 where
+-- an operation, with its values, the scale of its texts if they have one, and the names of the files that it works on; a cleaning goes by a rule that
+-- is told as R
+pub data OperationBy (R : Type 0) : Type 0 where
   -- the gap width; the scale; the input, the output
-  Validate : ℕ → Option ℕ → Text → Text → Operation
-  -- the rule, the gap width; the scale; the input, the output
-  Clean : RuleName → ℕ → Option ℕ → Text → Text → Operation
+  Validate : ℕ → Option ℕ → Text → Text → OperationBy R
+  -- the rule, the gap width, whether the rule is asked for narrow gaps too; the scale; the input, the output
+  Clean : R → ℕ → Bool → Option ℕ → Text → Text → OperationBy R
   -- the tolerance, whether only inner lines are simplified; the scale; the input, the output
-  Simplify : ℕ → Bool → Option ℕ → Text → Text → Operation
+  Simplify : ℕ → Bool → Option ℕ → Text → Text → OperationBy R
   -- the scale; the input, the output
-  Union : Option ℕ → Text → Text → Operation
+  Union : Option ℕ → Text → Text → OperationBy R
   -- the scale; the input, the output
-  Node : Option ℕ → Text → Text → Operation
+  Node : Option ℕ → Text → Text → OperationBy R
   -- the scale; the input, the output
-  Regions : Option ℕ → Text → Text → Operation
+  Regions : Option ℕ → Text → Text → OperationBy R
   -- the number of cells on a side, the seed; the output
-  Sample : ℕ → ℕ → Text → Operation
+  Sample : ℕ → ℕ → Text → OperationBy R
   -- the input, the points; the output
-  Locate : Text → Text → Text → Operation
+  Locate : Text → Text → Text → OperationBy R
   -- the first coverage, the second; the output
-  Overlay : Text → Text → Text → Operation
+  Overlay : Text → Text → Text → OperationBy R
+
+-- an operation as words name it, its rule by its name or its place
+abbrev pub Operation : Type 0
+Operation = OperationBy RuleChoice
 
 -- the names of the files that the operation reads, in the order in which it reads them
-abbrev pub inputs_of : Operation → List Text
+abbrev pub inputs_of : {R : Type 0} → OperationBy R → List Text
 inputs_of (Validate gap scale from to) = from ∷ []
-inputs_of (Clean rule gap scale from to) = from ∷ []
+inputs_of (Clean rule gap too scale from to) = from ∷ []
 inputs_of (Simplify tolerance inner scale from to) = from ∷ []
 inputs_of (Union scale from to) = from ∷ []
 inputs_of (Node scale from to) = from ∷ []
@@ -45,9 +53,9 @@ inputs_of (Locate from points to) = from ∷ points ∷ []
 inputs_of (Overlay first second to) = first ∷ second ∷ []
 
 -- the name of the file that the operation writes
-abbrev pub output_of : Operation → Text
+abbrev pub output_of : {R : Type 0} → OperationBy R → Text
 output_of (Validate gap scale from to) = to
-output_of (Clean rule gap scale from to) = to
+output_of (Clean rule gap too scale from to) = to
 output_of (Simplify tolerance inner scale from to) = to
 output_of (Union scale from to) = to
 output_of (Node scale from to) = to
@@ -57,9 +65,9 @@ output_of (Locate from points to) = to
 output_of (Overlay first second to) = to
 
 -- the scale of the texts that the operation reads and writes, if they have one
-abbrev pub scale_of : Operation → Option ℕ
+abbrev pub scale_of : {R : Type 0} → OperationBy R → Option ℕ
 scale_of (Validate gap scale from to) = scale
-scale_of (Clean rule gap scale from to) = scale
+scale_of (Clean rule gap too scale from to) = scale
 scale_of (Simplify tolerance inner scale from to) = scale
 scale_of (Union scale from to) = scale
 scale_of (Node scale from to) = scale
@@ -69,17 +77,28 @@ scale_of (Locate from points to) = None
 scale_of (Overlay first second to) = None
 
 -- the gap width or the tolerance of the operation is at most 2^30 grid units, and a sample has at most 400 cells on a side
-abbrev pub IsLengthWithin : Operation → Type 0
+abbrev pub IsLengthWithin : {R : Type 0} → OperationBy R → Type 0
 IsLengthWithin (Validate gap scale from to) = gap ≤ 1073741824
-IsLengthWithin (Clean rule gap scale from to) = gap ≤ 1073741824
+IsLengthWithin (Clean rule gap too scale from to) = gap ≤ 1073741824
 IsLengthWithin (Simplify tolerance inner scale from to) = tolerance ≤ 1073741824
 IsLengthWithin (Sample side seed to) = side ≤ 400
 IsLengthWithin _ = ⊤
 
--- the lengths of the operation and its scale are within their limits
-pub record IsWithinLimit (operation : Operation) : Type 0 where
+-- the rule, if it is handed in, has a place below this
+abbrev pub IsPlaceBelow : ℕ → RuleChoice → Type 0
+IsPlaceBelow rules (Own name) = ⊤
+IsPlaceBelow rules (Handed place) = place < rules
+
+-- the same of the rule of an operation
+abbrev pub IsRuleBelow : ℕ → Operation → Type 0
+IsRuleBelow rules (Clean rule gap too scale from to) = IsPlaceBelow rules rule
+IsRuleBelow rules _ = ⊤
+
+-- the lengths of the operation, its scale and the place of its rule among so many are within their limits
+pub record IsWithinLimit (rules : ℕ) (operation : Operation) : Type 0 where
   pub length : IsLengthWithin operation
   pub scale : IsScale (scale_of operation)
+  pub rule : IsRuleBelow rules operation
 
 -- the rule that a word names
 abbrev pub rule_named : Text → Option RuleName
@@ -89,6 +108,10 @@ rule_named word =
     else (if bytes_eq word (codes "least-area") then Some LeastArea
     else (if bytes_eq word (codes "longest-border") then Some LongestBorder
     else None)))
+
+-- the rule that a word chooses: that of the four which it names, or else the handed-in one of its name, by its place
+abbrev pub rule_chosen : List Text → Text → Option RuleChoice
+rule_chosen names word = option_or (option_map Own (rule_named word)) (option_map Handed (position (λ name. bytes_eq name word) names))
 
 -- ---- the operation that the matches of its command name
 
@@ -103,9 +126,9 @@ validate_with (Some from) (Some to) (Some gap) scale = if suits scale from then 
 validate_with _ _ _ _ = None
 
 -- a cleaning of the values that were found, where all are there and the scale suits both files
-abbrev pub clean_with : Option Text → Option Text → Option RuleName → Option ℕ → Option ℕ → Option Operation
-clean_with (Some from) (Some to) (Some rule) (Some gap) scale = if suits scale from && suits scale to then Some (Clean rule gap scale from to) else None
-clean_with _ _ _ _ _ = None
+abbrev pub clean_with : Option Text → Option Text → Option RuleChoice → Option ℕ → Option Bool → Option ℕ → Option Operation
+clean_with (Some from) (Some to) (Some rule) (Some gap) (Some too) scale = if suits scale from && suits scale to then Some (Clean rule gap too scale from to) else None
+clean_with _ _ _ _ _ _ = None
 
 -- a simplification of the values that were found, where all are there and the scale suits both files
 abbrev pub simplify_with : Option Text → Option Text → Option ℕ → Option Bool → Option ℕ → Option Operation
@@ -146,9 +169,11 @@ overlay_with _ _ _ = None
 abbrev pub validate_in : List Row → Option Operation
 validate_in rows = validate_with (text_at (codes "IN") rows) (text_at (codes "OUT") rows) (number_at (codes "gap") rows) (scale_at rows)
 
--- the cleaning that they name
-abbrev pub clean_in : List Row → Option Operation
-clean_in rows = clean_with (text_at (codes "IN") rows) (text_at (codes "OUT") rows) (option_and_then rule_named (text_at (codes "rule") rows)) (number_at (codes "gap") rows) (scale_at rows)
+-- the cleaning that they name, where rules of these names are handed in
+abbrev pub clean_in : List Text → List Row → Option Operation
+clean_in names rows =
+    clean_with (text_at (codes "IN") rows) (text_at (codes "OUT") rows) (option_and_then (rule_chosen names) (text_at (codes "rule") rows)) (number_at (codes "gap") rows)
+    (flag_at (codes "gaps-too") rows) (scale_at rows)
 
 -- the simplification that they name
 abbrev pub simplify_in : List Row → Option Operation
@@ -184,11 +209,11 @@ overlay_in rows = overlay_with (text_at (codes "A") rows) (text_at (codes "B") r
 abbrev pub taken : App → (List Row → Option Operation) → List Text → Option Operation
 taken command operation words = if takes command words then operation (matches_of command words) else None
 
--- the operation of this word that the words name
-abbrev pub operation_by : Text → List Text → Option Operation
-operation_by word words =
+-- the operation of this word that the words name, where rules of these names are handed in
+abbrev pub operation_by : List Text → Text → List Text → Option Operation
+operation_by names word words =
     if bytes_eq word (codes "validate") then taken validate_command validate_in words
-    else (if bytes_eq word (codes "clean") then taken clean_command clean_in words
+    else (if bytes_eq word (codes "clean") then taken clean_command (clean_in names) words
     else (if bytes_eq word (codes "simplify") then taken simplify_command simplify_in words
     else (if bytes_eq word (codes "union") then taken union_command union_in words
     else (if bytes_eq word (codes "node") then taken node_command node_in words
@@ -198,7 +223,7 @@ operation_by word words =
     else (if bytes_eq word (codes "overlay") then taken overlay_command overlay_in words
     else None))))))))
 
--- the operation that the words name, where they are accepted
-abbrev pub operation_of : List Text → Option Operation
-operation_of [] = None
-operation_of (word ∷ rest) = operation_by word (word ∷ rest)
+-- the operation that the words name, where rules of these names are handed in and the words are accepted
+abbrev pub operation_of : List Text → List Text → Option Operation
+operation_of names [] = None
+operation_of names (word ∷ rest) = operation_by names word (word ∷ rest)

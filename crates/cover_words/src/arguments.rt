@@ -1,6 +1,6 @@
 ghost use Rattle.std.specs.Prelude.{◌≡◌, false};
 ghost use Rattle.clap.specs.Walk.{rule_of};
-ghost use Rattle.cover_words.specs.Commands.{gap as gap_rule, inner as inner_rule, lengths as lengths_parser, name as name_rule, rule as rule_rule, scale as scale_rule, seed as seed_rule, side as side_rule, tolerance as tolerance_rule};
+ghost use Rattle.cover_words.specs.Commands.{gap as gap_rule, gaps_too as gaps_too_rule, inner as inner_rule, lengths as lengths_parser, name as name_rule, rule as rule_rule, scale as scale_rule, seed as seed_rule, side as side_rule, tolerance as tolerance_rule};
 
 use clap::builder::ValueParser;
 use clap::{Arg, ArgAction, value_parser};
@@ -47,6 +47,16 @@ pub fn gap<'a>(alloc: Global) -> Arg<'a>
         .long("gap")
         .default_value("0")
         .value_parser(lengths())
+}
+
+/// `--gaps-too`, which has no value.
+pub fn gaps_too<'a>(alloc: Global) -> Arg<'a>
+    ensures rule { rule_of result ≡ gaps_too_rule }
+    ensures local { result.global ≡ false }
+{
+    Arg::new(alloc, "gaps-too")
+        .long("gaps-too")
+        .action(ArgAction::SetTrue)
 }
 
 /// `--tolerance T`, which has to be there.

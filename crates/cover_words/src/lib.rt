@@ -2,7 +2,7 @@
 //!
 //! Its promise: `operation_named` answers the operation that the words name exactly where they are accepted. They are
 //! accepted where the first word names an operation, the command of that operation takes the words after it, a merge
-//! rule that they name is one of the four, and a scale stands with no name of GeoJSON, which has none.
+//! rule that they name is one of the four or handed in under that name, and a scale stands with no name of GeoJSON, which has none.
 //! `specs/Commands.antt` writes out the arguments of each command.
 //!
 //! The operation's word is read by hand (`words`). A file for each operation makes its command of its `arguments`, has
@@ -20,6 +20,7 @@ mod node;
 mod operation;
 mod overlay;
 mod regions;
+mod rule_choice;
 mod rule_name;
 mod sample;
 mod scale;
@@ -32,6 +33,7 @@ mod words;
 pub use inputs::Inputs;
 pub use laws::accepted_law;
 pub use operation::Operation;
+pub use rule_choice::{RuleChoice, rule_chosen};
 pub use rule_name::{RuleName, rule_named};
 pub use words::operation_named;
 

@@ -3,7 +3,7 @@ ghost use Rattle.cover_words.specs.Named.{named, names_in};
 ghost use Rattle.cover_words.specs.Words.{inputs_of, output_of};
 
 use crate::inputs::Inputs;
-use crate::rule_name::RuleName;
+use crate::rule_choice::RuleChoice;
 
 /// An operation, with its values, the scale of its texts where it may have one, from 0 to 7, and the names of the files
 /// that it works on.
@@ -16,10 +16,11 @@ pub enum Operation<'a> {
         from: &'a str,
         to: &'a str,
     },
-    /// `gap` in grid units, 0 to 1,073,741,824.
+    /// `gap` in grid units, 0 to 1,073,741,824. `gaps_too`: the rule is asked for narrow gaps too.
     Clean {
-        rule: RuleName,
+        rule: RuleChoice,
         gap: u32,
+        gaps_too: bool,
         scale: Option<u8>,
         from: &'a str,
         to: &'a str,

@@ -1,4 +1,4 @@
-use crate::{Inputs, Operation, RuleName, operation_named};
+use crate::{Inputs, Operation, RuleChoice, RuleName, operation_named};
 use cov_types::NoMemory;
 use std::alloc::Global;
 use std::test::Fail;
@@ -16,16 +16,16 @@ fn words_of(alloc: Global, line: &str) -> Result<Vec<String>, NoMemory> {
 // The words of the line are not accepted.
 fn is_refused(alloc: Global, line: &str) -> Result<bool, NoMemory> {
     let words = words_of(alloc, line)?;
-    Ok(operation_named(alloc, &words)?.is_none())
+    Ok(operation_named(alloc, &words, &[])?.is_none())
 }
 
 // The words of the line name the operation.
 fn names(alloc: Global, line: &str, wanted: Operation) -> Result<bool, NoMemory> {
     let words = words_of(alloc, line)?;
-    Ok(operation_named(alloc, &words)? == Some(wanted))
+    Ok(operation_named(alloc, &words, &[])? == Some(wanted))
 }
 
-static REFUSED: [&str; 41] = [
+static REFUSED: [&str; 44] = [
     "_",
     "measure a b",
     "clean",
@@ -33,6 +33,9 @@ static REFUSED: [&str; 41] = [
     "clean a --rule least-index",
     "clean a b c --rule least-index",
     "clean a b --rule largest",
+    "clean a b --rule even-share",
+    "clean a b --rule least-index --gaps-too=true",
+    "validate a b --gaps-too",
     "clean a b --rule least-index --rule least-index",
     "validate a b --gap",
     "validate a b --gap 1073741825",
@@ -75,7 +78,7 @@ fn words_that_are_not_accepted(rt: HostRuntime) -> Result<(), Fail> {
         assert!(rt; is_refused(rt.alloc(), line)?, "{line}");
     }
     let none: [String; 0] = [];
-    assert!(rt; operation_named(rt.alloc(), &none)?.is_none());
+    assert!(rt; operation_named(rt.alloc(), &none, &[])?.is_none());
     Ok(())
 }
 
@@ -83,8 +86,9 @@ fn words_that_are_not_accepted(rt: HostRuntime) -> Result<(), Fail> {
 fn options_stand_anywhere(rt: HostRuntime) -> Result<(), Fail> {
     let alloc = rt.alloc();
     let wanted = Operation::Clean {
-        rule: RuleName::LeastIndex,
+        rule: RuleChoice::Own(RuleName::LeastIndex),
         gap: 3,
+        gaps_too: false,
         scale: None,
         from: "a",
         to: "b",
@@ -182,8 +186,9 @@ fn scales_of_text(rt: HostRuntime) -> Result<(), Fail> {
     };
     assert!(rt; names(alloc, "validate a b --scale=+00", least)?);
     let clean = Operation::Clean {
-        rule: RuleName::LeastArea,
+        rule: RuleChoice::Own(RuleName::LeastArea),
         gap,
+        gaps_too: false,
         scale: Some(2),
         from,
         to,
@@ -237,5 +242,41 @@ fn files_of_an_operation(rt: HostRuntime) -> Result<(), Fail> {
     assert!(rt; names(rt.alloc(), "overlay a b c", overlay)?);
     assert_eq!(rt; overlay.inputs(), Inputs::Two("a", "b"));
     assert_eq!(rt; overlay.output(), "c");
+    Ok(())
+}
+
+#[test]
+fn rules_that_are_handed_in(rt: HostRuntime) -> Result<(), Fail> {
+    let alloc = rt.alloc();
+    let names = ["least-index", "mine", "even-share"];
+    for (line, rule, gaps_too) in [
+        ("clean a b --rule mine", RuleChoice::Handed(1), false),
+        (
+            "clean a b --gaps-too --rule even-share",
+            RuleChoice::Handed(2),
+            true,
+        ),
+        (
+            "clean a b --rule least-index --gaps-too",
+            RuleChoice::Own(RuleName::LeastIndex),
+            true,
+        ),
+    ] {
+        let words = words_of(alloc, line)?;
+        let wanted = Operation::Clean {
+            rule,
+            gap: 0,
+            gaps_too,
+            scale: None,
+            from: "a",
+            to: "b",
+        };
+        assert!(rt;
+            operation_named(alloc, &words, &names)? == Some(wanted),
+            "{line}"
+        );
+    }
+    let other = words_of(alloc, "clean a b --rule other")?;
+    assert!(rt; operation_named(alloc, &other, &names)?.is_none());
     Ok(())
 }

@@ -1,4 +1,4 @@
-ghost use Rattle.std.specs.Prelude.{◌≡◌, IfOk, IfSome, is_some, map};
+ghost use Rattle.std.specs.Prelude.{◌≡◌, IfOk, IfSome, is_some, length, map};
 ghost use Rattle.std.specs.String.{string_bytes};
 ghost use Rattle.cover_words.specs.Accepted.{is_accepted};
 ghost use Rattle.cover_words.specs.Named.{IsNamed, named};
@@ -17,19 +17,20 @@ use crate::validate::validate_named;
 use cov_types::NoMemory;
 use std::alloc::Global;
 
-// The operation of this word that the words name.
+// The operation of this word that the words name, where rules of these names are handed in.
 fn operation_by<'a>(
     alloc: Global,
     word: &str,
     words: &'a [String],
+    names: &[&str],
 ) -> Result<Option<Operation<'a>>, NoMemory>
-    ensures { IfOk result (IsNamed (operation_by_word word.now (map string_bytes words.now))) }
+    ensures { IfOk result (IsNamed (operation_by_word (map (λ n. n.now) names.now) word.now (map string_bytes words.now))) }
 {
     if word == "validate" {
         return validate_named(alloc, words);
     }
     if word == "clean" {
-        return clean_named(alloc, words);
+        return clean_named(alloc, words, names);
     }
     if word == "simplify" {
         return simplify_named(alloc, words);
@@ -56,17 +57,22 @@ fn operation_by<'a>(
 }
 
 /// The operation that the words name, or None where they are not accepted. The first word is the operation's, as in
-/// `clean IN OUT --rule R`.
+/// `clean IN OUT --rule R`. `names` are those of the rules that are handed in, which R may name beside the four: one of the four
+/// words always means its own rule, and of equal names the first counts.
 ///
-/// Takes memory and time in proportion to the words. The error says that there was no memory.
-pub fn operation_named(alloc: Global, words: &[String]) -> Result<Option<Operation<'_>>, NoMemory>
-    ensures named { IfOk result (IsNamed (operation_of (map string_bytes words.now))) }
+/// Takes memory and time in proportion to the words, and time in proportion to the names. The error says that there was no memory.
+pub fn operation_named<'a>(
+    alloc: Global,
+    words: &'a [String],
+    names: &[&str],
+) -> Result<Option<Operation<'a>>, NoMemory>
+    ensures named { IfOk result (IsNamed (operation_of (map (λ n. n.now) names.now) (map string_bytes words.now))) }
     // An operation is named exactly where the words are accepted.
-    ensures accepted { IfOk result (λ o. is_some o ≡ is_accepted (map string_bytes words.now)) }
-    ensures within { IfOk result (λ o. IfSome o (λ operation. IsWithinLimit (named operation))) }
+    ensures accepted { IfOk result (λ o. is_some o ≡ is_accepted (map (λ n. n.now) names.now) (map string_bytes words.now)) }
+    ensures within { IfOk result (λ o. IfSome o (λ operation. IsWithinLimit (length names.now) (named operation))) }
 {
     match words {
-        [word, ..] => operation_by(alloc, word, words),
+        [word, ..] => operation_by(alloc, word, words, names),
         [] => Ok(None),
     }
 }

@@ -112,16 +112,30 @@ fn expect_report(
     Ok(())
 }
 
-// The words of the case, with these two rules handed in, answer so and leave the output so.
+// Which rule is handed in.
+#[derive(Clone, Copy)]
+enum Kind {
+    Share,
+    First(u32),
+    Chained,
+    Nothing,
+}
+
+// The words of the case, with a rule of this kind and a clear border handed in, answer so and leave the output so.
 fn expect_handed(
     rt: &impl Abort,
     alloc: Global,
     case: &Case,
-    mine: Box<dyn LiveRule>,
-    other: Box<dyn LiveRule>,
+    kind: Kind,
 ) -> Result<(), test::Fail> {
     let words = words_of(alloc, case.line)?;
-    let rules = rules_of(alloc, mine, other)?;
+    let mine: Box<dyn LiveRule> = match kind {
+        Kind::Share => Box::new(alloc, EvenShare::new(alloc))?,
+        Kind::First(member) => Box::new(alloc, Priority::new(vec![in alloc; member]?))?,
+        Kind::Chained => Box::new(alloc, border_then_share(alloc)?)?,
+        Kind::Nothing => Box::new(alloc, Chain::new(Vec::new(alloc)))?,
+    };
+    let rules = rules_of(alloc, mine, Box::new(alloc, ClearBorder::new())?)?;
     let mut files = shelf_of(alloc, case.input.as_bytes(), case.fails, 64, LONGEST_INPUT)?;
     let report = cover_with(alloc, &words, &mut files, rules);
     assert!(rt;
@@ -144,9 +158,7 @@ fn an_even_share_gives_the_overlaps_in_turn(rt: HostRuntime) -> Result<(), test:
         used: Some(0),
         closing: "done\ntallies 100 100",
     };
-    let mine = Box::new(alloc, EvenShare::new(alloc))?;
-    let other = Box::new(alloc, ClearBorder::new())?;
-    expect_handed(&rt, alloc, &case, mine, other)
+    expect_handed(&rt, alloc, &case, Kind::Share)
 }
 
 #[test]
@@ -161,49 +173,39 @@ fn a_rule_of_the_caller_decides_or_abstains(rt: HostRuntime) -> Result<(), test:
         used: Some(0),
         closing: "done\ntallies",
     };
-    let mine = Box::new(alloc, Priority::new(vec![in alloc; 1]?))?;
-    let other = Box::new(alloc, EvenShare::new(alloc))?;
-    expect_handed(&rt, alloc, &first, mine, other)?;
+    expect_handed(&rt, alloc, &first, Kind::First(1))?;
     let second = Case {
         output: TOWER_WHOLE,
         ..first
     };
-    let mine = Box::new(alloc, Priority::new(vec![in alloc; 7]?))?;
-    let other = Box::new(alloc, EvenShare::new(alloc))?;
-    expect_handed(&rt, alloc, &second, mine, other)
+    expect_handed(&rt, alloc, &second, Kind::First(7))
 }
 
 #[test]
 fn a_chain_asks_for_the_border_and_then_for_the_share(rt: HostRuntime) -> Result<(), test::Fail> {
     let alloc = rt.alloc();
     let tied = Case {
-        line: "clean in out --rule other",
+        line: "clean in out --rule mine",
         input: OVERLAP,
         fails: &[],
         outcome: Outcome::Done,
         output: OVERLAP_BY_THE_FIRST,
-        used: Some(1),
+        used: Some(0),
         closing: "done\ntallies 0 2 100 0",
     };
-    let mine = Box::new(alloc, EvenShare::new(alloc))?;
-    let other = Box::new(alloc, border_then_share(alloc)?)?;
-    expect_handed(&rt, alloc, &tied, mine, other)?;
+    expect_handed(&rt, alloc, &tied, Kind::Chained)?;
     let clear = Case {
         input: TOWER,
         output: TOWER_WHOLE,
         closing: "done\ntallies 0 2 0 0",
         ..tied
     };
-    let mine = Box::new(alloc, EvenShare::new(alloc))?;
-    let other = Box::new(alloc, border_then_share(alloc)?)?;
-    expect_handed(&rt, alloc, &clear, mine, other)?;
+    expect_handed(&rt, alloc, &clear, Kind::Chained)?;
     let empty = Case {
         closing: "done\ntallies",
         ..tied
     };
-    let mine = Box::new(alloc, EvenShare::new(alloc))?;
-    let other = Box::new(alloc, Chain::new(Vec::new(alloc)))?;
-    expect_handed(&rt, alloc, &empty, mine, other)
+    expect_handed(&rt, alloc, &empty, Kind::Nothing)
 }
 
 #[test]
@@ -250,9 +252,7 @@ fn gaps_go_by_the_rule_where_the_flag_is_there(rt: HostRuntime) -> Result<(), te
             used,
             closing,
         };
-        let mine = Box::new(alloc, EvenShare::new(alloc))?;
-        let other = Box::new(alloc, ClearBorder::new())?;
-        expect_handed(&rt, alloc, &case, mine, other)?;
+        expect_handed(&rt, alloc, &case, Kind::Share)?;
     }
     Ok(())
 }
@@ -311,9 +311,7 @@ fn rules_come_back_whatever_the_answer(rt: HostRuntime) -> Result<(), test::Fail
             used,
             closing,
         };
-        let mine = Box::new(alloc, EvenShare::new(alloc))?;
-        let other = Box::new(alloc, ClearBorder::new())?;
-        expect_handed(&rt, alloc, &case, mine, other)?;
+        expect_handed(&rt, alloc, &case, Kind::Share)?;
     }
     Ok(())
 }

@@ -77,24 +77,6 @@ fn words_of(alloc: Global, line: &str) -> Result<Vec<String>, AllocError> {
     Ok(words)
 }
 
-// Two rules, under the names `mine` and `other`.
-fn rules_of(
-    alloc: Global,
-    mine: Box<dyn LiveRule>,
-    other: Box<dyn LiveRule>,
-) -> Result<Vec<NamedRule>, AllocError> {
-    let mut rules = Vec::new(alloc);
-    rules.push(NamedRule {
-        name: String::from_str(alloc, "mine")?,
-        rule: Hired::new(mine),
-    })?;
-    rules.push(NamedRule {
-        name: String::from_str(alloc, "other")?,
-        rule: Hired::new(other),
-    })?;
-    Ok(rules)
-}
-
 // The report is the one that the case wants, and the rules came back under their names.
 fn expect_report(
     rt: &impl Abort,
@@ -121,7 +103,7 @@ enum Kind {
     Nothing,
 }
 
-// The words of the case, with a rule of this kind and a clear border handed in, answer so and leave the output so.
+// The words of the case answer so and leave the output so, with a rule of this kind handed in as `mine` and a clear border as `other`.
 fn expect_handed(
     rt: &impl Abort,
     alloc: Global,
@@ -135,7 +117,15 @@ fn expect_handed(
         Kind::Chained => Box::new(alloc, border_then_share(alloc)?)?,
         Kind::Nothing => Box::new(alloc, Chain::new(Vec::new(alloc)))?,
     };
-    let rules = rules_of(alloc, mine, Box::new(alloc, ClearBorder::new())?)?;
+    let mut rules = Vec::new(alloc);
+    rules.push(NamedRule {
+        name: String::from_str(alloc, "mine")?,
+        rule: Hired::new(mine),
+    })?;
+    rules.push(NamedRule {
+        name: String::from_str(alloc, "other")?,
+        rule: Hired::new(Box::new(alloc, ClearBorder::new())?),
+    })?;
     let mut files = shelf_of(alloc, case.input.as_bytes(), case.fails, 64, LONGEST_INPUT)?;
     let report = cover_with(alloc, &words, &mut files, rules);
     assert!(rt;

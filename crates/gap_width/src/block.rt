@@ -9,7 +9,7 @@ ghost use Rattle.box_tree.specs.Rect.{IsInside, box_of_segment};
 ghost use Rattle.region_owners.specs.Box.{IsInBoxOf};
 ghost use Rattle.grid_pred.specs.Half.{IsHalfInRange};
 ghost use Rattle.gap_width.specs.Own.{IsSmallEdge, AreOwn};
-ghost use Rattle.gap_width.specs.Search.{IsBlock, IsWithinBlock, size, AreHalves, IsInSome};
+ghost use Rattle.gap_width.specs.Search.{IsBlock, size, AreHalves, IsInSome};
 
 use crate::own::OwnEdge;
 use box_tree::Rect;
@@ -56,20 +56,6 @@ impl Block {
             length_between(self.lo.x, self.hi.x),
             length_between(self.lo.y, self.hi.y),
         )
-    }
-
-    /// The block of its least corner alone.
-    pub fn least(self) -> Block
-        requires { IsBlock self }
-        ensures block { IsBlock result }
-        ensures one { size result ≡ 0 }
-        ensures within { (c : Coord) → IsWithinBlock result c → IsWithinBlock self c }
-        ensures inside { result.inside ≡ self.inside }
-    {
-        Block {
-            hi: self.lo,
-            ..self
-        }
     }
 
     /// The two halves of a block of more than one grid point, across where it is no higher than wide.

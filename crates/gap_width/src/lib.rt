@@ -13,8 +13,8 @@
 //! both coordinates of an edge, which tells a corridor of odd width from one that has half a unit more.
 //!
 //! Only edges nearer than r + 2·s + 1 are handed down to the halves, where they are many. The half with the more room at its centre is
-//! searched first. A clearance is looked for in coarse blocks first, of each of which one grid point is asked, and then in finer and
-//! finer ones, so that the search of all blocks begins with nearly the most room and leaves out almost all. `GapSearch` keeps the sides of each region, found in one pass; the functions `narrow` and `clearance` make one for a
+//! searched first. A clearance is looked for in coarse blocks first, of each of which one grid point is reached, and then in finer
+//! and finer ones, so that the search of all blocks begins with nearly the most room and leaves out almost all. `GapSearch` keeps the sides of each region, found in one pass; the functions `narrow` and `clearance` make one for a
 //! single question.
 //!
 //! The files of `src/`: `own`, the edges of a region and what they weigh over a point; `block`, blocks of grid points; `near`, the room

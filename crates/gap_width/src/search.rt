@@ -8,7 +8,7 @@ ghost use Rattle.gap_width.specs.Search.{IsMeasured, StandFor, IsKnown, IsBest, 
 
 use crate::block::Block;
 use crate::facing::is_bounded;
-use crate::near::{Measured, edges_within, halves_by_room, measure, some_or_all};
+use crate::near::{Measured, edges_within, halves_by_room, some_or_all};
 use crate::own::{OwnEdge, weight_over};
 use cov_types::{Coord, NoMemory};
 use std::alloc::Global;
@@ -20,8 +20,9 @@ const SMALL: u32 = 4;
 const FINER: u32 = 16;
 
 /// The greater of best and the room of the grid points of the block that are in the region with these own edges; where that comes to
-/// enough, the search stops. Of the own edges near has those that can be nearest to a point of the block. A block with a half diagonal
-/// below finest is not searched: its least corner stands for it. So at 0 all are, and otherwise there may be more room than is found.
+/// enough, the search stops. Of the own edges near has those that can be nearest to a point of the block. Of a block with a half
+/// diagonal below finest only the half with the more room at its centre is searched. So at 0 all is, and otherwise there may be more room
+/// than is found.
 pub fn most_room(
     alloc: Global,
     own: &[OwnEdge],
@@ -68,12 +69,11 @@ pub fn most_room(
         inside: block.inside || inside && far < room,
         ..block
     };
-    if far < finest {
-        let corner = measure(near, known.least());
-        return most_room(alloc, own, near, corner, best, enough, finest);
-    }
     let (first, second) = halves_by_room(near, known);
     let best = most_room(alloc, own, near, first, best, enough, finest)?;
+    if far < finest {
+        return Ok(best);
+    }
     most_room(alloc, own, near, second, best, enough, finest)
 }
 

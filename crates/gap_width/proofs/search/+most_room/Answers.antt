@@ -1,8 +1,7 @@
-use Rattle.std.proofs.Common.{◌≡◌, ◌∙◌, ap, refl, sym, subst, ◌+◌, ◌*◌, ◌<◌, ◌⊎◌, true, true≢false, IsTrue, filter, inl, inr, arith}
+use Rattle.std.proofs.Common.{◌≡◌, ◌∙◌, refl, sym, subst, ◌+◌, ◌*◌, ◌<◌, ◌⊎◌, true, true≢false, IsTrue, filter, inl, inr, arith}
 use Rattle.std.proofs.lemmas.Bool.{ltb-true}
-use Rattle.cov_types.specs.declared.coord.Coord.{Coord}
 use Rattle.clearance_laws.specs.Block.{centre}
-use Rattle.gap_width.specs.Search.{IsWithinBlock, size, IsRoom, IsBest, IsKnown, asked_for}
+use Rattle.gap_width.specs.Search.{size, IsRoom, IsBest, IsKnown, asked_for}
 use Rattle.gap_width.proofs.Blocks.{dropped, outside, centre_within, in_region, single, fewer_are, small_kept, handed, bounded_is, is_within, two_is, if_ok, some_room, asked_none}
 use Rattle.gap_width.proofs.search.+most_room.Goals as goal
 use Rattle.gap_width.proofs.search.+most_room.Goals.{then-block, else-block+then-inside, else-block+else-inside}
@@ -62,19 +61,21 @@ halves_by_room-requires-clause-edges t c =
     let fewer = fewer_are c.centre-centre.result limit c.args.near.now c.in_ok-near_centre.near_centre.items c.deref.result.now c.some_or_all-near.result.now c.deref.ensures.value c.in_ok-near_centre.ensures c.some_or_all-near.ensures in
     small_kept c.centre-centre.result limit c.args.near.now c.some_or_all-near.result.now fewer c.requires.near
 
-pub measure-corner-requires-clause-edges : goal.measure-corner-requires-clause-edges
-measure-corner-requires-clause-edges t c =
-    let limit = c.args.here.room + 1 + 2 * c.half_diagonal-far.result in
-    let fewer = fewer_are c.centre-centre.result limit c.args.near.now c.in_ok-near_centre.near_centre.items c.deref.result.now c.some_or_all-near.result.now c.deref.ensures.value c.in_ok-near_centre.ensures c.some_or_all-near.ensures in
-    small_kept c.centre-centre.result limit c.args.near.now c.some_or_all-near.result.now fewer c.requires.near
-
 pub most_room-requires : goal.most_room-requires
 most_room-requires t c =
     let limit = c.args.here.room + 1 + 2 * c.half_diagonal-far.result in
     let fewer = fewer_are c.centre-centre.result limit c.args.near.now c.in_ok-near_centre.near_centre.items c.deref.result.now c.some_or_all-near.result.now c.deref.ensures.value c.in_ok-near_centre.ensures c.some_or_all-near.ensures in
-    let one : size c.measure-corner.result.block ≡ 0 = ap size c.measure-corner.ensures.block ∙ c.least.ensures.one in
-    let falls : size c.measure-corner.result.block < t = omega (arith, one, c.decreases, c.size-size.ensures, c.if-size-eq0.false) in
-    (falls, (c.requires.own, (small_kept c.centre-centre.result limit c.args.near.now c.some_or_all-near.result.now fewer c.requires.near, (c.measure-corner.ensures.measured, c.requires.best))))
+    let less = c.halves_by_room.ensures.halves.first_less in
+    let falls : size c.halves_by_room.result.0.block < t = omega (arith, c.decreases, less) in
+    (falls, (c.requires.own, (small_kept c.centre-centre.result limit c.args.near.now c.some_or_all-near.result.now fewer c.requires.near, (c.halves_by_room.ensures.first, c.requires.best))))
+
+pub most_room-requires-2 : goal.most_room-requires-2
+most_room-requires-2 t c =
+    let limit = c.args.here.room + 1 + 2 * c.half_diagonal-far.result in
+    let fewer = fewer_are c.centre-centre.result limit c.args.near.now c.in_ok-near_centre.near_centre.items c.deref.result.now c.some_or_all-near.result.now c.deref.ensures.value c.in_ok-near_centre.ensures c.some_or_all-near.ensures in
+    let less = c.halves_by_room.ensures.halves.second_less in
+    let falls : size c.halves_by_room.result.1.block < t = omega (arith, c.decreases, less) in
+    (falls, (c.requires.own, (small_kept c.centre-centre.result limit c.args.near.now c.some_or_all-near.result.now fewer c.requires.near, (c.halves_by_room.ensures.second, c.in_ok-best.ensures.small))))
 
 pub returns-then-far-finest-clause-best : goal.returns-then-far-finest-clause-best
 returns-then-far-finest-clause-best t c = λ edges r are stand know.
@@ -92,31 +93,14 @@ returns-then-far-finest-clause-best t c = λ edges r are stand know.
     ] in
     let all_in = in_region edges r c.args.own.now c.args.near.now s are stand c.centre-centre.result at far room c.requires.here.block c.half_diagonal-far.ensures.reaches is
     c.is_inside-inside.result c.does_decide-decides.result know c.is_inside-inside.ensures.inside (λ d. (c.does_decide-decides.ensures.0 d).0) c.if-block.known is_known in
-    let corner = c.measure-corner.result.block in
-    let is_corner = c.measure-corner.ensures.block in
-    let within : (q : Coord) → IsWithinBlock corner q → IsWithinBlock s q = λ q in_q. c.least.ensures.within q (subst (λ b. IsWithinBlock b q) is_corner in_q) in
+    let halves = c.halves_by_room.ensures.halves in
+    let first = c.halves_by_room.result.0.block in
     let stand1 = handed edges r c.args.own.now c.args.near.now s are stand c.centre-centre.result at far room c.requires.here.block c.half_diagonal-far.ensures.reaches is
-    corner within limit refl c.some_or_all-near.result.now fewer in
-    let know1 : IsKnown edges r corner = λ h p in_p. all_in (sym (ap (λ b. b.inside) is_corner ∙ c.least.ensures.inside) ∙ h) p (within p in_p) in
+    first halves.first limit refl c.some_or_all-near.result.now fewer in
+    let know1 : IsKnown edges r first = λ h p in_p. all_in (sym halves.first_inside ∙ h) p (halves.first p in_p) in
+    let first_best = c.in_ok-best.ensures.best edges r are stand1 know1 in
     let none = asked_none c.args.finest c.args.enough far c.if-far-finest.true in
-    if_ok (IsBest edges r (asked_for c.args.finest c.args.enough) corner c.args.best) (IsBest edges r (asked_for c.args.finest c.args.enough) s c.args.best) c.most_room.result (c.most_room.ensures.best edges r are stand1 know1)
-    (λ found last. subst (λ n. IsBest edges r n s c.args.best found) (sym none) (some_room edges r (asked_for c.args.finest c.args.enough) s corner c.args.best found last))
-
-pub most_room-requires-2 : goal.most_room-requires-2
-most_room-requires-2 t c =
-    let limit = c.args.here.room + 1 + 2 * c.half_diagonal-far.result in
-    let fewer = fewer_are c.centre-centre.result limit c.args.near.now c.in_ok-near_centre.near_centre.items c.deref.result.now c.some_or_all-near.result.now c.deref.ensures.value c.in_ok-near_centre.ensures c.some_or_all-near.ensures in
-    let less = c.halves_by_room.ensures.halves.first_less in
-    let falls : size c.halves_by_room.result.0.block < t = omega (arith, c.decreases, less) in
-    (falls, (c.requires.own, (small_kept c.centre-centre.result limit c.args.near.now c.some_or_all-near.result.now fewer c.requires.near, (c.halves_by_room.ensures.first, c.requires.best))))
-
-pub most_room-requires-3 : goal.most_room-requires-3
-most_room-requires-3 t c =
-    let limit = c.args.here.room + 1 + 2 * c.half_diagonal-far.result in
-    let fewer = fewer_are c.centre-centre.result limit c.args.near.now c.in_ok-near_centre.near_centre.items c.deref.result.now c.some_or_all-near.result.now c.deref.ensures.value c.in_ok-near_centre.ensures c.some_or_all-near.ensures in
-    let less = c.halves_by_room.ensures.halves.second_less in
-    let falls : size c.halves_by_room.result.1.block < t = omega (arith, c.decreases, less) in
-    (falls, (c.requires.own, (small_kept c.centre-centre.result limit c.args.near.now c.some_or_all-near.result.now fewer c.requires.near, (c.halves_by_room.ensures.second, c.in_ok-best.ensures.small))))
+    subst (λ n. IsBest edges r n s c.args.best c.in_ok-best.best) (sym none) (some_room edges r (asked_for c.args.finest c.args.enough) s first c.args.best c.in_ok-best.best first_best)
 
 pub returns-clause-best : goal.returns-clause-best
 returns-clause-best t c = λ edges r are stand know.
@@ -144,5 +128,5 @@ returns-clause-best t c = λ edges r are stand know.
     let know1 : IsKnown edges r first = λ h p in_p. all_in (sym halves.first_inside ∙ h) p (halves.first p in_p) in
     let know2 : IsKnown edges r second = λ h p in_p. all_in (sym halves.second_inside ∙ h) p (halves.second p in_p) in
     let first_best = c.in_ok-best.ensures.best edges r are stand1 know1 in
-    if_ok (IsBest edges r (asked_for c.args.finest c.args.enough) second c.in_ok-best.best) (IsBest edges r (asked_for c.args.finest c.args.enough) s c.args.best) c.most_room-3.result (c.most_room-3.ensures.best edges r are stand2 know2)
+    if_ok (IsBest edges r (asked_for c.args.finest c.args.enough) second c.in_ok-best.best) (IsBest edges r (asked_for c.args.finest c.args.enough) s c.args.best) c.most_room-2.result (c.most_room-2.ensures.best edges r are stand2 know2)
     (λ found last. two_is edges r (asked_for c.args.finest c.args.enough) s first second halves.cover c.args.best c.in_ok-best.best found first_best last)

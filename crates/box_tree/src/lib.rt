@@ -36,6 +36,3 @@ pub use probe::Probe;
 pub use rect::Rect;
 pub use search::Search;
 pub use tree::BoxTree;
-
-#[cfg(test)]
-mod tests;

@@ -17,8 +17,6 @@
 mod admission;
 mod error;
 mod laws;
-#[cfg(test)]
-mod tests;
 mod valid_coverage;
 
 pub use admission::admit;

@@ -21,7 +21,5 @@ mod build;
 mod part;
 mod polygon;
 mod ring;
-#[cfg(test)]
-mod tests;
 
 pub use build::polygons;

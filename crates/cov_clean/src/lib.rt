@@ -42,7 +42,5 @@ mod gap_facts;
 mod gaps;
 mod owners;
 mod runs;
-#[cfg(test)]
-mod tests;
 
 pub use cleaner::{clean, clean_with_gaps};

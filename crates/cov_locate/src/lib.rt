@@ -38,8 +38,6 @@ mod points;
 mod ring_index;
 mod run;
 mod tally;
-#[cfg(test)]
-mod tests;
 
 pub use locator::Locator;
 pub use place::Where;

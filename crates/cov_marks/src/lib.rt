@@ -11,8 +11,6 @@
 mod edges;
 mod laws;
 mod marking;
-#[cfg(test)]
-mod tests;
 
 pub use laws::marks_law;
 pub use marking::marks;

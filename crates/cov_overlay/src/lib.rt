@@ -18,8 +18,6 @@ mod joint;
 mod overlay_of;
 mod pair_list;
 mod region_pair;
-#[cfg(test)]
-mod tests;
 
 pub use error::OverlayError;
 pub use overlaid_laws::Pair;

@@ -34,6 +34,3 @@ pub use laws::place_law;
 pub use part::Part;
 pub use priority::Priority;
 pub use rule::LiveRule;
-
-#[cfg(test)]
-mod tests;

@@ -15,8 +15,6 @@ mod edges;
 mod inner;
 mod side_holder;
 mod simplifying;
-#[cfg(test)]
-mod tests;
 mod without;
 
 pub use coverage_lines::{Line, lines};

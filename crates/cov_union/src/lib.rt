@@ -16,8 +16,6 @@
 
 mod owners;
 mod rim;
-#[cfg(test)]
-mod tests;
 mod union;
 
 pub use union::union_of;

@@ -20,8 +20,6 @@ mod ring_tree;
 mod run;
 mod run_index;
 mod table;
-#[cfg(test)]
-mod tests;
 mod users;
 mod validator;
 

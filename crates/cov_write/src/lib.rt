@@ -17,6 +17,3 @@ pub use number::{append_coordinate, append_number};
 pub use place_row::{append_edge_row, append_member_row, append_none_row};
 pub use region_row::{append_inner_row, append_outer_row};
 pub use segment::lines_of;
-
-#[cfg(test)]
-mod tests;

@@ -36,6 +36,3 @@ pub use operation::Operation;
 pub use rule_choice::{RuleChoice, rule_chosen};
 pub use rule_name::{RuleName, rule_named};
 pub use words::operation_named;
-
-#[cfg(test)]
-mod tests;

@@ -9,8 +9,6 @@ mod feature;
 mod geometry;
 mod map;
 mod properties;
-#[cfg(test)]
-mod tests;
 mod written;
 
 pub use feature::MapFeature;

@@ -9,8 +9,6 @@ mod bare;
 mod error;
 mod laws;
 mod reader;
-#[cfg(test)]
-mod tests;
 mod writer;
 
 pub use bare::bare_features;

@@ -30,7 +30,5 @@ mod gaps;
 mod near;
 mod own;
 mod search;
-#[cfg(test)]
-mod tests;
 
 pub use gaps::{GapSearch, clearance, narrow};

@@ -14,8 +14,6 @@ mod first_faults;
 mod geometry;
 mod object;
 mod reader;
-#[cfg(test)]
-mod tests;
 
 pub use error::{JsonError, JsonFault};
 pub use features::Features;

@@ -17,8 +17,6 @@ mod number;
 mod parser;
 mod place;
 mod reader;
-#[cfg(test)]
-mod tests;
 
 pub use error::{TextError, TextFault};
 pub use reader::{LONGEST_INPUT, one_answer, read_text};

@@ -41,6 +41,3 @@ pub use plane::{Badness, Contact};
 pub use ray::{SLOPE, over, over_half, over_mid, over_upper, rise};
 pub use room::{at_least, reach};
 pub use under::{is_nearer, is_under};
-
-#[cfg(test)]
-mod tests;

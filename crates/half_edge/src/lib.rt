@@ -12,8 +12,6 @@ mod direction;
 mod next;
 mod noded;
 mod side;
-#[cfg(test)]
-mod tests;
 
 pub use arena::Arena;
 pub use arranged::are_arranged;

@@ -16,6 +16,3 @@ pub use columns::Columns;
 pub use hot_set::HotSet;
 pub use passing::{before, meets};
 pub use pixel::pixel_of;
-
-#[cfg(test)]
-mod tests;

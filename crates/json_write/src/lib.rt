@@ -8,8 +8,6 @@
 
 mod document;
 mod geometry;
-#[cfg(test)]
-mod tests;
 mod value;
 mod written;
 

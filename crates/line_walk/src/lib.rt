@@ -10,8 +10,6 @@ mod edge_end;
 mod line;
 mod lines;
 mod partners;
-#[cfg(test)]
-mod tests;
 mod walk;
 
 pub use lines::lines_of;

@@ -6,7 +6,5 @@
 #![tactic(auto)]
 
 mod narrow;
-#[cfg(test)]
-mod tests;
 
 pub use narrow::narrow_gaps;

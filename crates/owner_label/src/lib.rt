@@ -16,8 +16,6 @@ mod measure;
 mod owned_side;
 mod sided;
 mod spread;
-#[cfg(test)]
-mod tests;
 mod toggle;
 
 pub use labels::Labels;

@@ -6,9 +6,6 @@
 
 ghost use Rattle.round_trip_laws.specs.Laws.{IsReadBack};
 
-#[cfg(test)]
-mod tests;
-
 /// The law of writing and reading a coverage, whatever the length of its text, without a scale and at each one. A call
 /// does nothing.
 pub fn reading_back()

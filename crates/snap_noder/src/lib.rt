@@ -17,6 +17,3 @@ pub use live_edges::LiveEdges;
 pub use liveness::{live, uses_of_odd};
 pub use noded::Noded;
 pub use noding::{node, plain};
-
-#[cfg(test)]
-mod tests;

@@ -29,6 +29,3 @@ mod task;
 mod waiting;
 
 pub use run::removed_points;
-
-#[cfg(test)]
-mod tests;

@@ -1,7 +1,7 @@
 use Rattle.std.proofs.Common.{sym, subst, ◌*◌, ◌<◌, length, arith}
 use Rattle.plane.specs.Region.{IsOuterRegion}
 use Rattle.arrangement.specs.Overlay.{IsRegion}
-use Rattle.gap_width.proofs.Most.{region_from, one_outer, outer_at}
+use Rattle.grid_cases.proofs.InnerRegions.{region_from, one_outer, outer_at}
 use Rattle.grid_cases.proofs.clearances.inner_region.Goals as goal
 
 pub returns-clause-region : goal.returns-clause-region

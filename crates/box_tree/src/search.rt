@@ -40,15 +40,14 @@ pub(crate) fn search_under<S: Search>(
     ensures kept { (j : ℕ) → S.is_settled search.old j → S.is_settled search.new j }
     ensures settled { (k : ℕ) → k < length (level_at levels.now 0) → number_above level k ≡ place → S.is_settled search.new k }
 {
-    if !search.may_matter(levels[level][place]) {
-        return;
-    }
     if level == 0 {
         search.visit(place);
         return;
     }
-    let children = levels[level - 1].len();
-    for child in 8 * place..children.min(8 * place + 8) {
-        search_under(levels, level - 1, child, search);
+    let below = levels[level - 1].as_slice();
+    for child in 8 * place..below.len().min(8 * place + 8) {
+        if search.may_matter(below[child]) {
+            search_under(levels, level - 1, child, search);
+        }
     }
 }

@@ -1,9 +1,10 @@
 -- The points that are left in slots: by their places, and after one slot was emptied.
 use mathlib.Core.List.{[], ◌∷◌}
-use Rattle.std.proofs.Common.{◌≡◌, refl, sym, ◌∙◌, ap, subst, ℕ, zero, suc, ◌+◌, List, ◌++◌, length, map, All, Option, Some, None, inl, inr, Bool, true, false, not, cond, true≢false, length-append, arith}
-use Rattle.std.specs.Prelude.{Contains, slice_get, slice_set, option_to_list}
+use Rattle.std.proofs.Common.{◌≡◌, refl, sym, ◌∙◌, ap, subst, ℕ, zero, suc, ◌<◌, List, ◌++◌, length, map, All, Option, Some, None, inl, inr, Bool, true, false, not, cond, true≢false, length-set, arith}
+use Rattle.std.specs.Prelude.{Contains, get_or, slice_get, slice_set, option_to_list}
 use Rattle.std.specs.List.{list_any}
-use Rattle.std.proofs.lemmas.Option.{none-some, same_Some, slice_get-map, slice_get_within, slice_get-get_or}
+use Rattle.std.specs.Option.{option_eq}
+use Rattle.std.proofs.lemmas.Option.{none-some, same_Some, slice_get-map, slice_get_within, slice_get-get_or, get_or_from_slice_get}
 use Rattle.std.proofs.lemmas.List.Concat.{flat_map-cons}
 use Rattle.std.proofs.lemmas.List.Elements.{filter-append, Contains-append_cases, Contains-append_left, Contains-append_right, All-contains}
 use Rattle.cov_types.specs.declared.coord.Coord.{Coord}
@@ -13,7 +14,7 @@ use Rattle.cov_types.proofs.Equal.{Decides-same_coords}
 use Rattle.box_tree.specs.Rect.{box_of_point}
 use Rattle.box_tree.specs.declared.rect.Rect.{Rect}
 use Rattle.greedy_run.specs.Run.{is_removed, current}
-use Rattle.cov_cells.specs.Slots.{living, StandsIn, AreCells}
+use Rattle.cov_cells.specs.Slots.{living, StandsIn, AreCells, IsRemoval}
 
 -- ---- places
 
@@ -93,18 +94,25 @@ module _ (p : Coord) where
       ∙ ap (λ ps. current (p ∷ []) (option_to_list s) ++ ps) (emptied slots k at)
       ∙ sym (ap (current (p ∷ [])) (living-cons s slots) ∙ filter-append keep (option_to_list s) (living slots))
 
-  pub one_fewer : (slots : List (Option Coord)) (k : ℕ) → StandsIn slots k p → length (living (slice_set slots k None)) + 1 ≡ length (living slots)
-  one_fewer [] k at = absurd (none-some (Some p) at)
-  one_fewer (s ∷ slots) zero at =
-      let is : s ≡ Some p = same_Some s (Some p) at in
-      let before = ap length (living-cons s slots ∙ ap (λ (o : Option Coord). option_to_list o ++ living slots) is) in
-      let after = ap length (living-cons None slots) in
-      omega (arith, before, after)
-  one_fewer (s ∷ slots) (suc k) at =
-      let rest = one_fewer slots k at in
-      let before = ap length (living-cons s slots) ∙ length-append (option_to_list s) (living slots) in
-      let after = ap length (living-cons s (slice_set slots k None)) ∙ length-append (option_to_list s) (living (slice_set slots k None)) in
-      omega (arith, rest, before, after)
+-- a slot that passes the test has p
+pub slot_has : (slots : List (Option Coord)) (k : ℕ) (s : Option Coord) (p : Coord) → k < length slots → s ≡ get_or slots k s → option_eq is_same_coord s (Some p) ≡ true → StandsIn slots k p
+slot_has slots k s p within is h = slice_get-get_or slots k s within ∙ ap Some (sym is ∙ test s h)
+  where
+    test : (s : Option Coord) → option_eq is_same_coord s (Some p) ≡ true → s ≡ Some p
+    test None e = absurd (true≢false (sym e))
+    test (Some q) e = ap Some ((Decides-same_coords q p).0 e)
+
+-- and one that fails it has not
+pub slot_lacks : (slots : List (Option Coord)) (k : ℕ) (s : Option Coord) (p : Coord) → s ≡ get_or slots k s → option_eq is_same_coord s (Some p) ≡ false → ¬ StandsIn slots k p
+slot_lacks slots k s p is h at = test s h (is ∙ get_or_from_slice_get slots k (Some p) s at)
+  where
+    test : (s : Option Coord) → option_eq is_same_coord s (Some p) ≡ false → s ≡ Some p → ⊥
+    test None e same = none-some p same
+    test (Some q) e same = true≢false (sym ((Decides-same_coords q p).1 (same_Some q p same)) ∙ e)
+
+-- where p stands in no slot, it is gone
+pub no_slot : (slots : List (Option Coord)) (p : Coord) → ((k : ℕ) → ¬ StandsIn slots k p) → current (p ∷ []) (living slots) ≡ living slots
+no_slot slots p lacks = none_gone p (living slots) (λ q has same. (let place = has_living slots q has in lacks place.0 (subst (StandsIn slots place.0) same place.1)))
 
 -- what stands in a slot stood there before one was emptied
 pub stood : (slots : List (Option Coord)) (k j : ℕ) (q : Coord) → StandsIn (slice_set slots k None) j q → StandsIn slots j q
@@ -119,6 +127,13 @@ slots_kept slots k boxes same h = record {
   count = h.count ∙ sym same;
   in_range = λ j q at. h.in_range j q (stood slots k j q at);
   at = λ j q at. h.at j q (stood slots k j q at);
+}
+
+-- a removal goes on with the slot emptied
+pub goes_on : (first slots : List (Option Coord)) (p : Coord) (k : ℕ) (boxes : List Rect) → StandsIn slots k p → IsRemoval first p slots boxes → IsRemoval first p (slice_set slots k None) boxes
+goes_on first slots p k boxes stands h = record {
+  cells = slots_kept slots k boxes (length-set slots k None) h.cells;
+  same = emptied p slots k stands ∙ h.same;
 }
 
 -- ---- from points

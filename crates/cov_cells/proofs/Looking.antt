@@ -11,14 +11,14 @@ use Rattle.cov_types.proofs.Order.{cases_coords, is_before-trans}
 use Rattle.box_tree.specs.Rect.{IsInside, box_of_point, is_touching}
 use Rattle.box_tree.specs.declared.rect.Rect.{Rect}
 use Rattle.box_tree.proofs.Touching.{is_touching-is, touch_upward}
-use Rattle.greedy_run.specs.Run.{Triangle, IsInTriangle, current}
+use Rattle.greedy_run.specs.Run.{Triangle, IsInTriangle}
 use Rattle.cov_cells.specs.Way.{IsInWay, IsFirstInWay}
 use Rattle.cov_cells.specs.Slots.{StandsIn, AreCells, IsWanted, IsRound, IsHeld, IsReached, IsSlotSettled, IsEarlier, IsFirstWanted, living}
 use Rattle.cov_cells.specs.declared.wanted.Wanted.{Wanted}
 use Rattle.cov_cells.specs.declared.wanted.Wanted.TheVariants.{At, InWay}
 use Rattle.cov_cells.specs.declared.found.Found.{Found}
 use Rattle.cov_cells.proofs.Triangles.{box_has}
-use Rattle.cov_cells.proofs.Living.{living_has, has_living, none_gone}
+use Rattle.cov_cells.proofs.Living.{living_has, has_living}
 
 -- ---- boxes
 
@@ -126,15 +126,3 @@ none_found slots points a b c r are is h q has way =
     let first = subst (IsFirstWanted slots (InWay a b c)) is h in
     let place = has_living slots q (subst (λ ps. Contains ps q) (sym are) has) in
     first.least place.0 q place.1 way
-
--- where p is found, its slot has it
-pub found_at : (slots : List (Option Coord)) (p : Coord) (r : Option Found) (f : Found) → r ≡ Some f → IsFirstWanted slots (At p) r → StandsIn slots f.place p
-found_at slots p r f is h =
-    let first = subst (IsFirstWanted slots (At p)) is h in
-    subst (StandsIn slots f.place) first.held.1 first.held.0
-
--- where it is not, it is gone
-pub not_found : (slots : List (Option Coord)) (p : Coord) (r : Option Found) → r ≡ None → IsFirstWanted slots (At p) r → current (p ∷ []) (living slots) ≡ living slots
-not_found slots p r is h =
-    let first = subst (IsFirstWanted slots (At p)) is h in
-    none_gone p (living slots) (λ q has same. (let place = has_living slots q has in first.least place.0 q place.1 same))

@@ -1,10 +1,11 @@
 -- The slots of cells: a point, or nothing where it has gone; and what a search among them knows.
-use Rattle.std.specs.Prelude.{◌≡◌, ◌⊎◌, ℕ, false, List, length, flat_map, option_to_list, Option, Some, None, slice_get}
+use Rattle.std.specs.Prelude.{◌≡◌, ◌⊎◌, ◌∷◌, [], ℕ, false, List, length, flat_map, option_to_list, Option, Some, None, slice_get}
 use Rattle.cov_types.specs.declared.coord.Coord.{Coord}
 use Rattle.cov_types.specs.Coord.{is_before}
 use Rattle.cov_types.specs.Range.{IsInRange}
 use Rattle.box_tree.specs.Rect.{IsInside, box_of_point}
 use Rattle.box_tree.specs.declared.rect.Rect.{Rect}
+use Rattle.greedy_run.specs.Run.{current}
 use Rattle.cov_cells.specs.Way.{IsInWay}
 use Rattle.cov_cells.specs.declared.wanted.Wanted.{Wanted}
 use Rattle.cov_cells.specs.declared.wanted.Wanted.TheVariants.{At, InWay}
@@ -63,3 +64,8 @@ pub record IsEarlier (first : Option Found) (found result : Found) : Type 0 wher
   pub one : (first ≡ Some result) ⊎ (found ≡ result)
   pub not_found : is_before found.point result.point ≡ false
   pub not_first : (other : Found) → first ≡ Some other → is_before other.point result.point ≡ false
+
+-- the slots are still those of the boxes, and without the point have what the first ones have without it
+pub record IsRemoval (first : List (Option Coord)) (p : Coord) (slots : List (Option Coord)) (boxes : List Rect) : Type 0 where
+  pub cells : AreCells slots boxes
+  pub same : current (p ∷ []) (living slots) ≡ current (p ∷ []) (living first)

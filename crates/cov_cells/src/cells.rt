@@ -4,12 +4,14 @@ ghost use Rattle.greedy_run.specs.Run.{current};
 ghost use Rattle.box_tree.specs.Rect.{box_of_point};
 ghost use Rattle.cov_cells.specs.Way.{IsFirstInWay};
 
+use crate::removal::without;
 use crate::search::first_wanted;
 use crate::wanted::Wanted;
 use box_tree::{BoxTree, Rect, curve};
 use cov_types::{Coord, NoMemory};
 use std::alloc::Global;
 use std::marker::{Brand, Model};
+use std::mem::replace;
 
 /// Points that may go one after the other. A contract sees them as the list of those that are left, in an order of the cells' own.
 #[derive(Drop)]
@@ -48,13 +50,9 @@ impl Cells {
     pub fn remove(&mut self, p: Coord)
         ensures { self.new ≡ current (p ∷ []) self.old }
     {
-        while let Some(found) = first_wanted::<Brand>(
-            self.slots.as_slice(),
-            &self.tree,
-            Wanted::At(p),
-        ) {
-            self.slots[found.place] = None;
-        }
+        let alloc = *self.slots.allocator();
+        let slots = replace(&mut self.slots, Vec::new(alloc));
+        self.slots = without::<Brand>(slots, &self.tree, p);
     }
 
     /// The least of the points that are in the closed triangle abc and none of its corners; None where there is none. A flat

@@ -1,0 +1,4 @@
+pub mod Polygon
+pub mod FaultMap
+pub mod Beyond
+pub mod Laws

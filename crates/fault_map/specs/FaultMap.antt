@@ -57,6 +57,12 @@ IsGapFeature o r (Gap area2 clearance region members polygon) =
 
 -- ---- the map
 
+-- after the features from before stands one for each of these
+pub record AreAppended {X : Type 0} (IsShown : X → MapFeature → Type 0) (shown : List X) (before after : List MapFeature) : Type 0 where
+  pub more : List MapFeature
+  pub each : AllZip IsShown shown more
+  pub all : after ≡ before ++ more
+
 -- exactly the regions that are to be listed, ascending
 pub record AreListed (IsListed : ℕ → Type 0) (regions : List ℕ) : Type 0 where
   pub ascending : AllPairs (λ m n. m < n) regions
@@ -67,6 +73,12 @@ pub record AreFeaturesOf (IsListed : ℕ → Type 0) (IsShown : ℕ → MapFeatu
   pub regions : List ℕ
   pub listed : AreListed IsListed regions
   pub each : AllZip IsShown regions features
+
+-- after the features from before stand such ones
+pub record AreFeaturesAppended (IsListed : ℕ → Type 0) (IsShown : ℕ → MapFeature → Type 0) (before after : List MapFeature) : Type 0 where
+  pub more : List MapFeature
+  pub shown : AreFeaturesOf IsListed IsShown more
+  pub all : after ≡ before ++ more
 
 -- the features are the map of the faults of the coverage at the gap width w, with so many marks: first these, by ascending place, then the
 -- overlaps of the snapped members, and then their gaps

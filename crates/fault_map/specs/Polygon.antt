@@ -1,5 +1,5 @@
 -- The polygon of one region, and the polygons of several.
-use Rattle.std.specs.Prelude.{◌≡◌, ℕ, ◌==◌, List, Option, Some, slice_get}
+use Rattle.std.specs.Prelude.{◌≡◌, ℕ, ◌==◌, List, length, Option, Some, slice_get}
 use Rattle.std.specs.List.{AllZip}
 use Rattle.cov_types.specs.declared.coord.Coord.{Coord}
 use Rattle.cov_types.specs.declared.seg.Seg.{Seg}
@@ -19,8 +19,9 @@ pub record IsInner (edges : List Seg) (r : ℕ) : Type 0 where
   pub not_outer : ¬ IsOuterRegion edges r
 
 -- the polygons are those of the regions between the edges, one each, in their order
-abbrev pub ArePolygonsOfEach : List Seg → List ℕ → List (List (List Coord)) → Type 0
-ArePolygonsOfEach edges regions polygons = (o : Overlay) → o.edges ≡ edges → AreRegions o.edges o.numbers → AllZip (IsRegionPolygon o) regions polygons
+pub record ArePolygonsOfEach (edges : List Seg) (regions : List ℕ) (polygons : List (List (List Coord))) : Type 0 where
+  pub count : length polygons ≡ length regions
+  pub each : (o : Overlay) → o.edges ≡ edges → AreRegions o.edges o.numbers → AllZip (IsRegionPolygon o) regions polygons
 
 -- the owner of a region is its place among these regions, and no other region has one
 pub record AreOwnersByPlace (regions : List ℕ) (owners : ℕ → Option ℕ) : Type 0 where

@@ -1,12 +1,9 @@
-ghost use Rattle.std.specs.Prelude.{◌≡◌, ℕ, ◌<◌, ◌++◌, List, All, IfOk, OnOk, length};
-ghost use Rattle.std.specs.List.{AllZip};
-ghost use Rattle.plane.specs.Region.{AreRegions};
+ghost use Rattle.std.specs.Prelude.{◌≡◌, ◌<◌, All, IfOk, OnOk, length};
 ghost use Rattle.arrangement.specs.Overlay.{Overlay, IsRegion};
 ghost use Rattle.owner_label.specs.Labelled.{IsOverlay};
 ghost use Rattle.region_owners.specs.Gap.{IsGap};
-ghost use Rattle.fault_text.specs.declared.feature.MapFeature.{MapFeature};
 ghost use Rattle.fault_map.specs.Beyond.{AreSidesByRegion};
-ghost use Rattle.fault_map.specs.FaultMap.{AreBordering, IsMarkFeature, IsShared, IsOverlapFeature, IsGapFeature, AreFeaturesOf};
+ghost use Rattle.fault_map.specs.FaultMap.{AreBordering, IsMarkFeature, IsShared, IsOverlapFeature, IsGapFeature, AreAppended, AreFeaturesAppended};
 ghost use Rattle.fault_map.specs.Polygon.{ArePolygonsOfEach, IsInner, IsRegionPolygon};
 
 use crate::bordering::bordering_members;
@@ -29,7 +26,7 @@ pub(crate) fn append_marks(
     marks: &[Mark],
 ) -> Result<(), NoMemory>
     requires places { All (λ m. m.place < length uses.now) marks.now }
-    ensures { OnOk result ((more : List MapFeature) × (AllZip (IsMarkFeature uses.now) marks.now more × (features.new.items ≡ features.old.items ++ more))) }
+    ensures { OnOk result (AreAppended (IsMarkFeature uses.now) marks.now features.old.items features.new.items) }
 {
     for mark in marks {
         features.push(mark_feature(uses, *mark))?;
@@ -60,8 +57,7 @@ pub(crate) fn append_overlaps(
 ) -> Result<(), NoMemory>
     requires regions { r.now ≡ a.now }
     requires labels { labels.now.edges ≡ a.now }
-    ensures { OnOk result ((o : Overlay) → IsOverlay labels.now o
-        → (more : List MapFeature) × (AreFeaturesOf (IsShared o) (IsOverlapFeature o) more × (features.new.items ≡ features.old.items ++ more))) }
+    ensures { OnOk result ((o : Overlay) → IsOverlay labels.now o → AreFeaturesAppended (IsShared o) (IsOverlapFeature o) features.old.items features.new.items) }
 {
     let listed = shared_regions(alloc, r, labels)?;
     let polygons = region_polygons(alloc, a, r, &listed)?;
@@ -77,10 +73,8 @@ fn append_each_overlap(
     polygons: Vec<Poly>,
 ) -> Result<(), NoMemory>
     requires inner { All (IsInner labels.now.edges) listed.now }
-    requires count { length polygons.items ≡ length listed.now }
     requires polygons { ArePolygonsOfEach labels.now.edges listed.now polygons.items }
-    ensures { OnOk result ((o : Overlay) → IsOverlay labels.now o
-        → (more : List MapFeature) × (AllZip (IsOverlapFeature o) listed.now more × (features.new.items ≡ features.old.items ++ more))) }
+    ensures { OnOk result ((o : Overlay) → IsOverlay labels.now o → AreAppended (IsOverlapFeature o) listed.now features.old.items features.new.items) }
 {
     let mut place = 0;
     for polygon in polygons {
@@ -118,8 +112,7 @@ pub(crate) fn append_gaps(
 ) -> Result<(), NoMemory>
     requires regions { r.now ≡ a.now }
     requires labels { labels.now.edges ≡ a.now }
-    ensures { OnOk result ((o : Overlay) → IsOverlay labels.now o
-        → (more : List MapFeature) × (AreFeaturesOf (IsGap o) (IsGapFeature o) more × (features.new.items ≡ features.old.items ++ more))) }
+    ensures { OnOk result ((o : Overlay) → IsOverlay labels.now o → AreFeaturesAppended (IsGap o) (IsGapFeature o) features.old.items features.new.items) }
 {
     let listed = gaps(alloc, r, labels)?;
     let polygons = region_polygons(alloc, a, r, &listed)?;
@@ -139,10 +132,8 @@ fn append_each_gap(
     requires regions { r.now ≡ a.now }
     requires labels { labels.now.edges ≡ a.now }
     requires inner { All (IsInner a.now) listed.now }
-    requires count { length polygons.items ≡ length listed.now }
     requires polygons { ArePolygonsOfEach a.now listed.now polygons.items }
-    ensures { OnOk result ((o : Overlay) → IsOverlay labels.now o
-        → (more : List MapFeature) × (AllZip (IsGapFeature o) listed.now more × (features.new.items ≡ features.old.items ++ more))) }
+    ensures { OnOk result ((o : Overlay) → IsOverlay labels.now o → AreAppended (IsGapFeature o) listed.now features.old.items features.new.items) }
 {
     let search = GapSearch::build(alloc, a, r)?;
     let sides = sides_by_region(alloc, r)?;

@@ -1,4 +1,4 @@
-ghost use Rattle.std.specs.Prelude.{◌≡◌, ℕ, ◌*◌, ◌<◌, ◌≤◌, ◌++◌, ◌^◌, List, All, AllPairs, IfOk, IfSome, OnOk, drop, length, take};
+ghost use Rattle.std.specs.Prelude.{◌≡◌, ℕ, ◌+◌, ◌<◌, ◌≤◌, ◌++◌, ◌^◌, List, All, AllPairs, IfOk, IfSome, OnOk, drop, length, take};
 ghost use Rattle.cov_types.specs.declared.coord.Coord.{Coord};
 ghost use Rattle.cov_build.specs.Owners.{owner_in};
 ghost use Rattle.fault_map.specs.Polygon.{ArePolygonsOfEach, AreOwnersByPlace, IsInner};
@@ -37,6 +37,7 @@ pub(crate) fn region_polygons(
 fn piece_from(listed: &[usize], from: usize) -> &[usize]
     requires from { from ≤ length listed.now }
     ensures some { from < length listed.now → 0 < length result.now }
+    ensures within { from + length result.now ≤ length listed.now }
     ensures few { length result.now < 2 ^ 32 }
     ensures piece { result.now ≡ take (length result.now) (drop from listed.now) }
 {

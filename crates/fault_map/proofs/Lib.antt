@@ -1,7 +1,10 @@
 mod Listing
 mod Single
+mod ByPlace
+mod Grouping
 mod Pieces
-mod Bordering
+mod Yielded
+mod Borders
 mod Appended
 pub mod Overlays
 mod OneFeature

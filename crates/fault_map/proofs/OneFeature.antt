@@ -40,10 +40,10 @@ module _ (scale : Option ℕ) where
       λ i. map_feature_text scale (Marked ((h.0 ∙ sym w.0) i) ((h.1 ∙ sym w.1) i) ((h.2 ∙ sym w.2) i) (segments i))
 
   -- the texts by what they tell
-  overlap_text_of : List ℕ → ℤ → ℕ → List (List Coord) → List ℕ
+  abbrev overlap_text_of : List ℕ → ℤ → ℕ → List (List Coord) → List ℕ
   overlap_text_of members area2 region polygon = codes "{\"geometry\":" ++ polygon_geometry scale polygon ++ codes ",\"properties\":" ++ overlap_properties members area2 region ++ codes ",\"type\":\"Feature\"}"
 
-  gap_text_of : ℤ → ℕ → ℕ → List ℕ → List (List Coord) → List ℕ
+  abbrev gap_text_of : ℤ → ℕ → ℕ → List ℕ → List (List Coord) → List ℕ
   gap_text_of area2 clearance region members polygon = codes "{\"geometry\":" ++ polygon_geometry scale polygon ++ codes ",\"properties\":" ++ gap_properties area2 clearance region members ++ codes ",\"type\":\"Feature\"}"
 
   module _ (o : Overlay) (planar : IsPlanar o.edges) where

@@ -5,6 +5,7 @@ use Rattle.std.proofs.lemmas.List.{map-append}
 use Rattle.cov_types.specs.Coverage.{Members, AllInRange}
 use Rattle.cov_types.specs.Uses.{uses_of}
 use Rattle.cov_types.proofs.AllUses.{uses-in_range}
+use Rattle.sector_laws.specs.Sector.{IsPlanar}
 use Rattle.arrangement.specs.Overlay.{Overlay}
 use Rattle.arrangement.proofs.OneOverlay.{one_snapped_overlay}
 use Rattle.arrangement.proofs.SnappedPlanar.{snapped_planar}
@@ -28,31 +29,32 @@ module _ (members : Members) (in_range : AllInRange members) (w marked other : �
   same_overlay = one_snapped_overlay (uses_of members) (uses-in_range members in_range) (length members) h.overlay k.overlay h.is_overlay k.is_overlay
 
   module _ (scale : Option ℕ) where
-    text : MapFeature → List ℕ
-    text = map_feature_text scale
+    abbrev texts : List MapFeature → List (List ℕ)
+    texts features = map (map_feature_text scale) features
 
+    planar : IsPlanar k.overlay.edges
     planar = snapped_planar (uses_of members) (uses-in_range members in_range) (length members) k.overlay k.is_overlay
 
-    marks_same : map text h.of_marks ≡ map text k.of_marks
+    marks_same : texts h.of_marks ≡ texts k.of_marks
     marks_same =
         same_texts scale (IsMarkFeature (uses_of members)) (mark_text scale (uses_of members)) k.marks h.of_marks k.of_marks
         (subst (λ (ms : List Mark). AllZip (IsMarkFeature (uses_of members)) ms h.of_marks) same_marks h.marks_shown) k.marks_shown
 
-    overlaps_same : map text h.of_overlaps ≡ map text k.of_overlaps
+    overlaps_same : texts h.of_overlaps ≡ texts k.of_overlaps
     overlaps_same =
         listed_texts scale (IsShared k.overlay) (IsOverlapFeature k.overlay) (overlap_text scale k.overlay planar) h.of_overlaps k.of_overlaps
         (subst (λ (o : Overlay). AreFeaturesOf (IsShared o) (IsOverlapFeature o) h.of_overlaps) same_overlay h.overlaps_shown) k.overlaps_shown
 
-    gaps_same : map text h.of_gaps ≡ map text k.of_gaps
+    gaps_same : texts h.of_gaps ≡ texts k.of_gaps
     gaps_same =
         listed_texts scale (IsGap k.overlay) (IsGapFeature k.overlay) (gap_text scale k.overlay planar) h.of_gaps k.of_gaps
         (subst (λ (o : Overlay). AreFeaturesOf (IsGap o) (IsGapFeature o) h.of_gaps) same_overlay h.gaps_shown) k.gaps_shown
 
     same_bytes : map_bytes scale features ≡ map_bytes scale others
     same_bytes = ap collection_text (
-        ap (map text) h.all ∙ in_three text h.of_marks h.of_overlaps h.of_gaps
+        ap texts h.all ∙ in_three (map_feature_text scale) h.of_marks h.of_overlaps h.of_gaps
         ∙ (λ i. marks_same i ++ (overlaps_same i ++ gaps_same i))
-        ∙ sym (ap (map text) k.all ∙ in_three text k.of_marks k.of_overlaps k.of_gaps))
+        ∙ sym (ap texts k.all ∙ in_three (map_feature_text scale) k.of_marks k.of_overlaps k.of_gaps))
 
   pub one_map : (marked ≡ other) × ((scale : Option ℕ) → map_bytes scale features ≡ map_bytes scale others)
   one_map = (h.count ∙ ap length same_marks ∙ sym k.count, same_bytes)

@@ -17,7 +17,7 @@ use Rattle.fault_map.proofs.Single.{single}
 -- ---- the polygons of members, one after the other
 
 -- each of the members has one polygon, and that is of the region at its place
-AreSingle : (ℕ → List (List Coord) → Type 0) → List ℕ → List (List (List (List Coord))) → Type 0
+abbrev AreSingle : (ℕ → List (List Coord) → Type 0) → List ℕ → List (List (List (List Coord))) → Type 0
 AreSingle R regions built = (i r : ℕ) (polys : List (List (List Coord))) → slice_get regions i ≡ Some r → slice_get built i ≡ Some polys → (rings : List (List Coord)) × ((polys ≡ rings ∷ []) × R r rings)
 
 in_a_row : (R : ℕ → List (List Coord) → Type 0) (regions : List ℕ) (built : List (List (List (List Coord)))) → length built ≡ length regions → AreSingle R regions built → AllZip R regions (flat_map (λ polys. polys) built)

@@ -1,4 +1,4 @@
-ghost use Rattle.std.specs.Prelude.{◌≡◌, ◌*◌, ◌<◌, All, IfOk, Some, length, slice_get};
+ghost use Rattle.std.specs.Prelude.{◌≡◌, ℕ, ◌*◌, ◌<◌, All, IfOk, Some, length, slice_get};
 ghost use Rattle.arrangement.specs.Overlay.{Overlay, IsRegion, label_of, region_at};
 ghost use Rattle.half_edge.specs.Side.{across};
 ghost use Rattle.owner_label.specs.Labelled.{IsOverlay};

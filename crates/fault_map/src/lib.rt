@@ -6,7 +6,7 @@
 //! alone and canonical (`IsRegionPolygon`). Two maps of a coverage have one written form ([`one_map_law`]).
 //!
 //! The files of `proofs/`: `Listing`, a list of regions while it grows; `Single`, the one polygon of an owner of one region; `Pieces`,
-//! polygons of the regions piece by piece; `Bordering`, the members beyond the sides of a region; `Appended`, features at the end of
+//! polygons of the regions piece by piece; `Borders`, the members beyond the sides of a region; `Appended`, features at the end of
 //! others; `Overlays`, the overlay that labels are those of; `OneFeature` and `OneMap`, that there is one map.
 #![tactic(auto)]
 

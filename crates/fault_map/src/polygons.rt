@@ -26,7 +26,7 @@ pub(crate) fn region_polygons(
     ensures { IfOk result (λ v. ArePolygonsOfEach a.now listed.now v.items) }
 {
     let mut found = Vec::new(alloc);
-    while found.len() < listed.len() {
+    'piece: while found.len() < listed.len() {
         let piece = piece_from(listed, found.len());
         append_polygons(alloc, &mut found, a, r, piece)?;
     }

@@ -1,13 +1,38 @@
 -- The members beyond the sides of a region are those that border on it.
 use mathlib.Core.List.{[], ◌∷◌}
-use Rattle.std.proofs.Common.{◌≡◌, ◌⊎◌, refl, sym, ◌∙◌, ap, subst, ℕ, ◌+◌, ◌-◌, ◌*◌, ◌/◌, ◌%◌, ◌<◌, ◌==◌, ◌↔◌, Bool, true, false, cond, List, ◌++◌, length, get_or, inl, inr, arith}
-use Rattle.std.specs.Prelude.{AllPairs, Contains}
-use Rattle.std.proofs.lemmas.Bool.{eqb-true, eq-eqb, ne_eqb, cases_Bool, cases_eq}
+use Rattle.std.proofs.Common.{◌≡◌, ◌⊎◌, refl, sym, ◌∙◌, ap, subst, ℕ, ◌+◌, ◌-◌, ◌*◌, ◌/◌, ◌%◌, ◌<◌, ◌==◌, ◌↔◌, Bool, true, false, cond, nat_eq, nat_lt, List, ◌++◌, length, get_or, inl, inr, Less, Equal, Greater, is_lt, IsPermutation, IsSorted, arith}
+use Rattle.std.specs.Prelude.{AllPairs, Contains, IsTrue}
+use Rattle.std.specs.List.{dedup}
+use Rattle.std.specs.Ordering.{nat_cmp}
+use Rattle.std.proofs.lemmas.Bool.{eqb-true, eq-eqb, ne_eqb, ltb-true, ltb-false, cases_eq}
+use Rattle.std.proofs.lemmas.Bool.Decides.{Decides-eqb}
+use Rattle.std.proofs.lemmas.Cmp.{nat_cmp_total}
 use Rattle.std.proofs.lemmas.List.Elements.{Contains-append_cases, Contains-append_left, Contains-append_right, Contains-push, Contains-push_cases}
+use Rattle.hot_pixel.proofs.Ascending.{set_ascending, set_contains}
 use Rattle.arrangement.specs.Overlay.{Overlay, region_at, label_of, AreBeside}
 use Rattle.half_edge.specs.Side.{across}
 use Rattle.fault_map.specs.Beyond.{AreSidesOf, IsHeldBeyond, AreHeldBeyond}
 use Rattle.fault_map.specs.FaultMap.{IsBordering, AreBordering}
+
+-- ---- sorted, and each once
+
+numbers_ordered : (a b : ℕ) → nat_lt a b ≡ false → nat_lt b a ≡ false → a ≡ b
+numbers_ordered a b h k = let low = ltb-false a b h in let high = ltb-false b a k in omega (arith, low, high)
+
+lt_is : (a b : ℕ) → is_lt (nat_cmp a b) ≡ nat_lt a b
+lt_is a b = by (nat_lt a b) (a == b)
+  where
+    by : (less same : Bool) → is_lt (cond less Less (cond same Equal Greater)) ≡ less
+    by true same = refl
+    by false true = refl
+    by false false = refl
+
+module _ (xs moved ys : List ℕ) (permuted : IsPermutation xs moved) (sorted : IsSorted nat_cmp moved) (kept : ys ≡ dedup nat_eq moved) where
+  pub kept_ascends : AllPairs (λ m n. m < n) ys
+  kept_ascends j k d before within = ltb-true _ _ (set_ascending nat_eq Decides-eqb nat_cmp nat_cmp_total nat_lt lt_is numbers_ordered xs moved ys permuted sorted kept j k d before within)
+
+  pub kept_contains : (m : ℕ) → Contains ys m ↔ Contains xs m
+  kept_contains = set_contains nat_eq Decides-eqb nat_cmp nat_cmp_total nat_lt lt_is numbers_ordered xs moved ys permuted sorted kept
 
 -- ---- the two sides of an edge
 
@@ -40,8 +65,8 @@ module _ (o : Overlay) where
 
       by : ((region_at o (2 * k) ≡ r) × (region_at o (2 * k + 1) ≡ s)) ⊎ ((region_at o (2 * k) ≡ s) × (region_at o (2 * k + 1) ≡ r))
           → (n : ℕ) × ((n < 2 * length o.edges) × ((region_at o n ≡ r) × (region_at o (across n) ≡ s)))
-      by (inl (up, down)) = (2 * k, (let listed = beside.listed in omega (arith, listed)), up, ap (region_at o) (across_upper k) ∙ down)
-      by (inr (up, down)) = (2 * k + 1, (let listed = beside.listed in omega (arith, listed)), down, ap (region_at o) (across_lower k) ∙ up)
+      by (inl (up, down)) = (2 * k, ((let listed = beside.listed in omega (arith, listed)), (up, ap (region_at o) (across_upper k) ∙ down)))
+      by (inr (up, down)) = (2 * k + 1, ((let listed = beside.listed in omega (arith, listed)), (down, ap (region_at o) (across_lower k) ∙ up)))
 
   -- who holds what is beyond the sides of a region borders on it
   pub beyond_borders : (r : ℕ) (sides : List ℕ) → AreSidesOf o r sides → (member : ℕ) → IsHeldBeyond o sides member ↔ IsBordering o r member

@@ -1,6 +1,7 @@
 mod AcceptedWords
 mod Faultless
 mod Limits
+mod Mappings
 mod Places
 mod Readings
 mod SoundRows

@@ -1,5 +1,5 @@
 -- The first place in a list of texts, by their borrowed forms.
-use Rattle.std.proofs.Common.{◌≡◌, ◌+◌, ℕ, Bool, cond, not, refl, ap, sym, List, [], ◌∷◌, length, map, Option, Some, None, nat_lt}
+use Rattle.std.proofs.Common.{◌≡◌, ◌+◌, Bool, cond, not, refl, ap, List, [], ◌∷◌, map}
 use Rattle.std.proofs.lemmas.List.{length-map}
 use Rattle.std.specs.List.{position_or_len}
 use Rattle.std.specs.Prelude.{position}

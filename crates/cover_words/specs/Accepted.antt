@@ -7,7 +7,7 @@ use Rattle.clap.specs.Simple.{App, matches_of}
 use Rattle.clap.specs.Takes.{takes}
 use Rattle.cover_words.specs.Commands.{validate_command, clean_command, simplify_command, union_command, node_command, regions_command, locate_command, sample_command, overlay_command}
 use Rattle.cover_words.specs.Values.{scale_at, text_at}
-use Rattle.cover_words.specs.Words.{operation_of, rule_chosen, suits}
+use Rattle.cover_words.specs.Words.{operation_of, rule_chosen, suits, validation_of, mapping_of}
 
 -- the rule of a cleaning is one of the four, or is handed in under one of these names
 abbrev pub has_a_rule : List Text → List Text → Bool
@@ -47,3 +47,11 @@ is_accepted names (word ∷ rest) = is_accepted_by names word (word ∷ rest)
 -- the words name an operation exactly where they are accepted
 abbrev pub AcceptedLaw : Type 0
 AcceptedLaw = (names words : List Text) → is_some (operation_of names words) ≡ is_accepted names words
+
+-- the words of the program `cover_faults` are accepted where those of a validation in their place are
+abbrev pub is_mapping_accepted : List Text → Bool
+is_mapping_accepted words = is_accepted [] (validation_of words)
+
+-- the words name a mapping exactly where they are accepted
+abbrev pub MappingLaw : Type 0
+MappingLaw = (words : List Text) → is_some (mapping_of words) ≡ is_mapping_accepted words

@@ -5,11 +5,12 @@ use Rattle.cover_words.specs.declared.inputs.Inputs.{Inputs}
 use Rattle.cover_words.specs.declared.inputs.Inputs.TheVariants.{Nothing, One, Two}
 use Rattle.cover_words.specs.declared.operation.Operation as code
 use Rattle.cover_words.specs.declared.operation.Operation.TheVariants as operations
-use Rattle.cover_words.specs.Words.{Operation, Validate, Clean, Simplify, Union, Node, Regions, Locate, Sample, Overlay}
+use Rattle.cover_words.specs.Words.{Operation, Validate, MapFaults, Clean, Simplify, Union, Node, Regions, Locate, Sample, Overlay}
 
 -- the operation with the names that its texts hold
 abbrev pub named : code.Operation → Operation
 named (operations.Validate gap scale from to) = Validate gap scale from.now to.now
+named (operations.MapFaults gap scale from to) = MapFaults gap scale from.now to.now
 named (operations.Clean rule gap too scale from to) = Clean rule gap too scale from.now to.now
 named (operations.Simplify tolerance inner scale from to) = Simplify tolerance inner scale from.now to.now
 named (operations.Union scale from to) = Union scale from.now to.now

@@ -19,6 +19,8 @@ use Rattle.cover_words.specs.declared.rule_choice.RuleChoice.TheVariants.{Own, H
 pub data OperationBy (R : Type 0) : Type 0 where
   -- the gap width; the scale; the input, the output
   Validate : ℕ → Option ℕ → Text → Text → OperationBy R
+  -- of the program `cover_faults`: the gap width; the scale; the input, the output
+  MapFaults : ℕ → Option ℕ → Text → Text → OperationBy R
   -- the rule, the gap width, whether the rule is asked for narrow gaps too; the scale; the input, the output
   Clean : R → ℕ → Bool → Option ℕ → Text → Text → OperationBy R
   -- the tolerance, whether only inner lines are simplified; the scale; the input, the output
@@ -43,6 +45,7 @@ Operation = OperationBy RuleChoice
 -- the names of the files that the operation reads, in the order in which it reads them
 abbrev pub inputs_of : {R : Type 0} → OperationBy R → List Text
 inputs_of (Validate gap scale from to) = from ∷ []
+inputs_of (MapFaults gap scale from to) = from ∷ []
 inputs_of (Clean rule gap too scale from to) = from ∷ []
 inputs_of (Simplify tolerance inner scale from to) = from ∷ []
 inputs_of (Union scale from to) = from ∷ []
@@ -55,6 +58,7 @@ inputs_of (Overlay first second to) = first ∷ second ∷ []
 -- the name of the file that the operation writes
 abbrev pub output_of : {R : Type 0} → OperationBy R → Text
 output_of (Validate gap scale from to) = to
+output_of (MapFaults gap scale from to) = to
 output_of (Clean rule gap too scale from to) = to
 output_of (Simplify tolerance inner scale from to) = to
 output_of (Union scale from to) = to
@@ -67,6 +71,7 @@ output_of (Overlay first second to) = to
 -- the scale of the texts that the operation reads and writes, if they have one
 abbrev pub scale_of : {R : Type 0} → OperationBy R → Option ℕ
 scale_of (Validate gap scale from to) = scale
+scale_of (MapFaults gap scale from to) = scale
 scale_of (Clean rule gap too scale from to) = scale
 scale_of (Simplify tolerance inner scale from to) = scale
 scale_of (Union scale from to) = scale
@@ -79,6 +84,7 @@ scale_of (Overlay first second to) = None
 -- the gap width or the tolerance of the operation is at most 2^30 grid units, and a sample has at most 400 cells on a side
 abbrev pub IsLengthWithin : {R : Type 0} → OperationBy R → Type 0
 IsLengthWithin (Validate gap scale from to) = gap ≤ 1073741824
+IsLengthWithin (MapFaults gap scale from to) = gap ≤ 1073741824
 IsLengthWithin (Clean rule gap too scale from to) = gap ≤ 1073741824
 IsLengthWithin (Simplify tolerance inner scale from to) = tolerance ≤ 1073741824
 IsLengthWithin (Sample side seed to) = side ≤ 400
@@ -227,3 +233,18 @@ operation_by names word words =
 abbrev pub operation_of : List Text → List Text → Option Operation
 operation_of names [] = None
 operation_of names (word ∷ rest) = operation_by names word (word ∷ rest)
+
+-- ---- the words of the program `cover_faults`
+
+-- the mapping of the faults that a validation tells, with the same values and files
+abbrev pub map_of : Operation → Option Operation
+map_of (Validate gap scale from to) = Some (MapFaults gap scale from to)
+map_of _ = None
+
+-- the words of a validation in the place of these
+abbrev pub validation_of : List Text → List Text
+validation_of words = codes "validate" ∷ words
+
+-- the mapping that the words name, where those of a validation in their place are accepted
+abbrev pub mapping_of : List Text → Option Operation
+mapping_of words = option_and_then map_of (operation_of [] (validation_of words))

@@ -1,7 +1,8 @@
-ghost use Rattle.cover_words.specs.Accepted.{AcceptedLaw};
+ghost use Rattle.cover_words.specs.Accepted.{AcceptedLaw, MappingLaw};
 
-/// The words name an operation exactly where they are accepted: the values that an operation needs are there in all
-/// words that its command takes. Does nothing.
+/// The words of `cover` name an operation exactly where they are accepted, and those of `cover_faults` a mapping: the values that an
+/// operation needs are there in all words that its command takes. Does nothing.
 pub fn accepted_law()
-    ensures { AcceptedLaw }
+    ensures operations { AcceptedLaw }
+    ensures mappings { MappingLaw }
 {}

@@ -15,6 +15,7 @@ mod commands;
 mod inputs;
 mod laws;
 mod locate;
+mod mapping;
 mod matched;
 mod node;
 mod operation;
@@ -32,6 +33,7 @@ mod words;
 
 pub use inputs::Inputs;
 pub use laws::accepted_law;
+pub use mapping::{mapping_named, validation_words};
 pub use operation::Operation;
 pub use rule_choice::{RuleChoice, rule_chosen};
 pub use rule_name::{RuleName, rule_named};

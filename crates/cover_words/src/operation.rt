@@ -16,6 +16,13 @@ pub enum Operation<'a> {
         from: &'a str,
         to: &'a str,
     },
+    /// Of the program `cover_faults`; `gap` in grid units, 0 to 1,073,741,824.
+    MapFaults {
+        gap: u32,
+        scale: Option<u8>,
+        from: &'a str,
+        to: &'a str,
+    },
     /// `gap` in grid units, 0 to 1,073,741,824. `gaps_too`: the rule is asked for narrow gaps too.
     Clean {
         rule: RuleChoice,
@@ -75,6 +82,7 @@ impl<'a> Operation<'a> {
     {
         match self {
             Operation::Validate { from, .. } => Inputs::One(from),
+            Operation::MapFaults { from, .. } => Inputs::One(from),
             Operation::Clean { from, .. } => Inputs::One(from),
             Operation::Simplify { from, .. } => Inputs::One(from),
             Operation::Union { from, .. } => Inputs::One(from),
@@ -92,6 +100,7 @@ impl<'a> Operation<'a> {
     {
         match self {
             Operation::Validate { to, .. } => to,
+            Operation::MapFaults { to, .. } => to,
             Operation::Clean { to, .. } => to,
             Operation::Simplify { to, .. } => to,
             Operation::Union { to, .. } => to,

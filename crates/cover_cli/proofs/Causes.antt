@@ -35,7 +35,7 @@ use Rattle.cover_cli.specs.Refusal.{outcome_of_file, outcome_of_refusal, outcome
 use Rattle.cover_cli.specs.Text.{IsReadAnd, RefusesInput}
 use Rattle.cover_cli.specs.Validate.{marking}
 use Rattle.cover_cli.specs.Task.{Task}
-use Rattle.cover_words.specs.Words.{Validate, Clean, Simplify, Union, Node, Regions, Locate, Sample, Overlay}
+use Rattle.cover_words.specs.Words.{Validate, MapFaults, Clean, Simplify, Union, Node, Regions, Locate, Sample, Overlay}
 use Rattle.cover_cli.specs.declared.outcome.Outcome.{Outcome}
 use Rattle.cover_cli.specs.declared.outcome.Outcome.TheVariants.{Done, Marked, Usage, ReadFault, WriteFault, TooLong, BadText, BadJson, BadPoints, NotValid, TooMany, NoMemory, Sampled}
 
@@ -344,6 +344,7 @@ of_both_two (input ∷ file ∷ more ∷ rest) P Q C follows first second = absu
 
 pub one_refusal : (operation : Task) (inputs : List (List ℕ)) (o p : Outcome) → Refuses operation inputs o → Refuses operation inputs p → o ≡ p
 one_refusal (Validate gap scale from to) inputs o p = of_both inputs _ _ (o ≡ p) (λ input. one_input_refusal from scale input o p)
+one_refusal (MapFaults gap scale from to) inputs o p = of_both inputs _ _ (o ≡ p) (λ input. one_input_refusal from scale input o p)
 one_refusal (Clean rule gap too scale from to) inputs o p = of_both inputs _ _ (o ≡ p) (λ input. one_input_refusal from scale input o p)
 one_refusal (Simplify tolerance inner scale from to) inputs o p = of_both inputs _ _ (o ≡ p) (λ input. one_invalid_refusal from scale input o p)
 one_refusal (Union scale from to) inputs o p = of_both inputs _ _ (o ≡ p) (λ input. one_invalid_refusal from scale input o p)
@@ -355,6 +356,7 @@ one_refusal (Overlay first second to) inputs o p = of_both_two inputs _ _ (o ≡
 
 pub refuses_refusal : (operation : Task) (inputs : List (List ℕ)) (o : Outcome) → Refuses operation inputs o → IsTrue (is_refusal o)
 refuses_refusal (Validate gap scale from to) inputs o = of_one inputs _ (IsTrue (is_refusal o)) (λ input. input_refusal from scale input o)
+refuses_refusal (MapFaults gap scale from to) inputs o = of_one inputs _ (IsTrue (is_refusal o)) (λ input. input_refusal from scale input o)
 refuses_refusal (Clean rule gap too scale from to) inputs o = of_one inputs _ (IsTrue (is_refusal o)) (λ input. input_refusal from scale input o)
 refuses_refusal (Simplify tolerance inner scale from to) inputs o = of_one inputs _ (IsTrue (is_refusal o)) (λ input. invalid_refusal from scale input o)
 refuses_refusal (Union scale from to) inputs o = of_one inputs _ (IsTrue (is_refusal o)) (λ input. invalid_refusal from scale input o)
@@ -367,6 +369,7 @@ refuses_refusal (Overlay first second to) inputs o = of_two inputs _ (IsTrue (is
 -- of inputs that are refused no text is made
 pub not_both : (operation : Task) (inputs : List (List ℕ)) (o p : Outcome) (text : List ℕ) → Makes operation inputs o text → Refuses operation inputs p → ⊥
 not_both (Validate gap scale from to) inputs o p text = of_both inputs _ _ ⊥ (λ input. not_read_and_refused from scale input _ p)
+not_both (MapFaults gap scale from to) inputs o p text = of_both inputs _ _ ⊥ (λ input. not_read_and_refused from scale input _ p)
 not_both (Clean rule gap too scale from to) inputs o p text = of_both inputs _ _ ⊥ (λ input. not_read_and_refused from scale input _ p)
 not_both (Simplify tolerance inner scale from to) inputs o p text = of_both inputs _ _ ⊥ (λ input. not_admitted_and_refused from scale input _ p (λ r simplifying. simplifying.admitted))
 not_both (Union scale from to) inputs o p text = of_both inputs _ _ ⊥ (λ input. not_admitted_and_refused from scale input _ p (λ r uniting. uniting.admitted))
@@ -385,6 +388,7 @@ marking_success (suc edges) = refl
 -- what an operation answers with a text is a success
 pub makes_success : (operation : Task) (inputs : List (List ℕ)) (o : Outcome) (text : List ℕ) → Makes operation inputs o text → IsTrue (is_success o)
 makes_success (Validate gap scale from to) inputs o text = of_one inputs _ (IsTrue (is_success o)) (λ input makes. ap is_success makes.holds.counted ∙ marking_success _)
+makes_success (MapFaults gap scale from to) inputs o text = of_one inputs _ (IsTrue (is_success o)) (λ input makes. ap is_success makes.holds.counted ∙ marking_success _)
 makes_success (Clean rule gap too scale from to) inputs o text = of_one inputs _ (IsTrue (is_success o)) (λ input makes. ap is_success makes.holds.done)
 makes_success (Simplify tolerance inner scale from to) inputs o text = of_one inputs _ (IsTrue (is_success o)) (λ input makes. ap is_success makes.holds.done)
 makes_success (Union scale from to) inputs o text = of_one inputs _ (IsTrue (is_success o)) (λ input makes. ap is_success makes.holds.done)
@@ -397,6 +401,7 @@ makes_success (Overlay first second to) inputs o text = of_two inputs _ (IsTrue 
 -- only validate answers marks
 pub makes_marked : (operation : Task) (inputs : List (List ℕ)) (o : Outcome) (text : List ℕ) → Makes operation inputs o text → IsTrue (is_marked o) → IsTrue (is_validate operation)
 makes_marked (Validate gap scale from to) inputs o text makes marks = refl
+makes_marked (MapFaults gap scale from to) inputs o text makes marks = refl
 makes_marked (Clean rule gap too scale from to) inputs o text makes marks = of_one inputs _ (IsTrue false) (λ input cleaning. sym (ap is_marked cleaning.holds.done) ∙ marks) makes
 makes_marked (Simplify tolerance inner scale from to) inputs o text makes marks = of_one inputs _ (IsTrue false) (λ input simplifying. sym (ap is_marked simplifying.holds.done) ∙ marks) makes
 makes_marked (Union scale from to) inputs o text makes marks = of_one inputs _ (IsTrue false) (λ input uniting. sym (ap is_marked uniting.holds.done) ∙ marks) makes
@@ -413,6 +418,7 @@ marking_some (suc edges) h = cc
 -- and none answers that no segments are marked
 pub makes_some : (operation : Task) (inputs : List (List ℕ)) (o : Outcome) (text : List ℕ) → Makes operation inputs o text → o ≢ Marked 0
 makes_some (Validate gap scale from to) inputs o text makes h = of_one inputs _ ⊥ (λ input valid. marking_some _ (sym valid.holds.counted ∙ h)) makes
+makes_some (MapFaults gap scale from to) inputs o text makes h = of_one inputs _ ⊥ (λ input valid. marking_some _ (sym valid.holds.counted ∙ h)) makes
 makes_some (Clean rule gap too scale from to) inputs o text makes h = of_one inputs _ ⊥ (λ input cleaning. (let e : Done ≡ Marked 0 = sym cleaning.holds.done ∙ h in cc)) makes
 makes_some (Simplify tolerance inner scale from to) inputs o text makes h = of_one inputs _ ⊥ (λ input simplifying. (let e : Done ≡ Marked 0 = sym simplifying.holds.done ∙ h in cc)) makes
 makes_some (Union scale from to) inputs o text makes h = of_one inputs _ ⊥ (λ input uniting. (let e : Done ≡ Marked 0 = sym uniting.holds.done ∙ h in cc)) makes
@@ -429,6 +435,7 @@ marking_none_sampled (suc edges) = refl
 -- sample answers counts, and no other operation does
 pub makes_sampled : (operation : Task) (inputs : List (List ℕ)) (o : Outcome) (text : List ℕ) → Makes operation inputs o text → is_sampled o ≡ is_sample operation
 makes_sampled (Validate gap scale from to) inputs o text = of_one inputs _ (is_sampled o ≡ false) (λ input makes. ap is_sampled makes.holds.counted ∙ marking_none_sampled _)
+makes_sampled (MapFaults gap scale from to) inputs o text = of_one inputs _ (is_sampled o ≡ false) (λ input makes. ap is_sampled makes.holds.counted ∙ marking_none_sampled _)
 makes_sampled (Clean rule gap too scale from to) inputs o text = of_one inputs _ (is_sampled o ≡ false) (λ input makes. ap is_sampled makes.holds.done)
 makes_sampled (Simplify tolerance inner scale from to) inputs o text = of_one inputs _ (is_sampled o ≡ false) (λ input makes. ap is_sampled makes.holds.done)
 makes_sampled (Union scale from to) inputs o text = of_one inputs _ (is_sampled o ≡ false) (λ input makes. ap is_sampled makes.holds.done)

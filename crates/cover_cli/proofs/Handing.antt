@@ -22,7 +22,7 @@ use Rattle.cover_cli.specs.Task.{Task, TaskRule, task_of, told_rule}
 use Rattle.cover_cli.specs.Text.{IsReadAnd}
 use Rattle.cover_cli.specs.declared.outcome.Outcome.{Outcome}
 use Rattle.cover_cli.specs.declared.outcome.Outcome.TheVariants.{Done, Marked, Usage, ReadFault, WriteFault, TooLong, BadText, BadJson, BadPoints, NotValid, TooMany, NoMemory, Sampled}
-use Rattle.cover_words.specs.Words.{Operation, Validate, Clean, Simplify, Union, Node, Regions, Locate, Sample, Overlay as OverlayOf, inputs_of, output_of}
+use Rattle.cover_words.specs.Words.{Operation, Validate, MapFaults, Clean, Simplify, Union, Node, Regions, Locate, Sample, Overlay as OverlayOf, inputs_of, output_of}
 use Rattle.cover_words.specs.declared.rule_choice.RuleChoice.{RuleChoice}
 
 -- ---- an operation and its task
@@ -30,6 +30,7 @@ use Rattle.cover_words.specs.declared.rule_choice.RuleChoice.{RuleChoice}
 -- they read and write the same files
 pub same_inputs_of : (rules : List RuleState) (operation : Operation) → inputs_of (task_of rules operation) ≡ inputs_of operation
 same_inputs_of rules (Validate gap scale from to) = refl
+same_inputs_of rules (MapFaults gap scale from to) = refl
 same_inputs_of rules (Clean rule gap too scale from to) = refl
 same_inputs_of rules (Simplify tolerance inner scale from to) = refl
 same_inputs_of rules (Union scale from to) = refl
@@ -41,6 +42,7 @@ same_inputs_of rules (OverlayOf first second to) = refl
 
 pub same_output_of : (rules : List RuleState) (operation : Operation) → output_of (task_of rules operation) ≡ output_of operation
 same_output_of rules (Validate gap scale from to) = refl
+same_output_of rules (MapFaults gap scale from to) = refl
 same_output_of rules (Clean rule gap too scale from to) = refl
 same_output_of rules (Simplify tolerance inner scale from to) = refl
 same_output_of rules (Union scale from to) = refl
@@ -108,6 +110,7 @@ pub rules_left : (operation : Operation) (s : State) (o : Outcome) (before after
     → ((rule : RuleChoice) (gap : ℕ) (too : Bool) (scale : Option ℕ) (from to : List ℕ) → operation ≡ Clean rule gap too scale from to → AreHandedBack (IsRuleAfter s from scale gap too o) (used_place operation) before after)
     → (used_place operation ≡ None → after ≡ before) → AreRulesLeft operation s o before after
 rules_left (Validate gap scale from to) s o before after clean other = other refl
+rules_left (MapFaults gap scale from to) s o before after clean other = other refl
 rules_left (Clean rule gap too scale from to) s o before after clean other = clean rule gap too scale from to refl
 rules_left (Simplify tolerance inner scale from to) s o before after clean other = other refl
 rules_left (Union scale from to) s o before after clean other = other refl
@@ -169,6 +172,7 @@ clean_done rule gap too scale from to inputs o text = of_one inputs _ (o ≡ Don
 pub left_made : (operation : Operation) (s : State) (p o : Outcome) (text : List ℕ) (inputs : List (List ℕ)) (before after : List RuleState)
     → (IsTrue s.tells_files → AreInputs s (inputs_of operation) inputs) → AreHandedBack (IsRuleMade operation inputs) (used_place operation) before after
     → Makes (task_of before operation) inputs p text → (o ≡ p) ⊎ (o ≡ WriteFault) → AreRulesLeft operation s o before after
+left_made (MapFaults gap scale from to) s p o text inputs before after read left makes written = left
 left_made (Clean rule gap too scale from to) s p o text inputs before after read left makes written =
     let ended : (o ≡ Done) ⊎ (o ≡ WriteFault) = by written in
     left_as (IsRuleMade (Clean rule gap too scale from to) inputs) (IsRuleAfter s from scale gap too o) (λ numbers now holds.
@@ -199,6 +203,7 @@ unmade_apart task inputs o (inr refuses) =
 pub left_unmade : (operation : Operation) (s : State) (o : Outcome) (inputs : List (List ℕ)) (before after : List RuleState)
     → (IsTrue s.tells_files → AreInputs s (inputs_of operation) inputs) → AreHandedBack (IsRuleUnmade operation inputs o) (used_place operation) before after
     → IsRefusedFor (Refuses (task_of before operation) inputs) o → AreRulesLeft operation s o before after
+left_unmade (MapFaults gap scale from to) s o inputs before after read left refused = left
 left_unmade (Clean rule gap too scale from to) s o inputs before after read left refused =
     let apart = unmade_apart (task_of before (Clean rule gap too scale from to)) inputs o refused in
     left_as (IsRuleUnmade (Clean rule gap too scale from to) inputs o) (IsRuleAfter s from scale gap too o) (λ numbers now holds.

@@ -14,5 +14,4 @@ pub mod Overlaid
 pub mod OneAnswer
 pub mod RegionRows
 pub mod PlaceRows
-pub mod Overlays
 pub mod Sampling

@@ -48,6 +48,8 @@ use Rattle.geo_text.specs.declared.reader.TheConstants.{LONGEST_INPUT}
 use Rattle.cover_cli.specs.Lines.{member_lists, marked_uses}
 use Rattle.cover_cli.specs.Locate.{place_row, ArePlaceRows, IsLocating}
 use Rattle.cover_cli.specs.Made.{IsOneAnd, Makes, Refuses}
+use Rattle.fault_map.proofs.OneMap.{one_map}
+use Rattle.cover_cli.specs.Mapping.{IsMapping}
 use Rattle.cover_cli.specs.Node.{IsNoding}
 use Rattle.cover_cli.specs.Overlay.{pair_properties, with_pairs, IsOverlaying}
 use Rattle.cover_cli.specs.Sample.{sampled, IsSampling}
@@ -60,7 +62,7 @@ use Rattle.cov_union.proofs.OneUnited.{one_united}
 use Rattle.cover_cli.specs.Union.{IsUniting}
 use Rattle.cover_cli.specs.Validate.{marking, IsValidation}
 use Rattle.cover_cli.specs.Task.{Task, TaskRule}
-use Rattle.cover_words.specs.Words.{Validate, Clean, Simplify, Union, Node, Regions, Locate, inputs_of, Sample, Overlay as OverlayOf}
+use Rattle.cover_words.specs.Words.{Validate, MapFaults, Clean, Simplify, Union, Node, Regions, Locate, inputs_of, Sample, Overlay as OverlayOf}
 use Rattle.cover_cli.specs.declared.outcome.Outcome.{Outcome}
 use Rattle.cover_words.specs.declared.rule_name.RuleName.TheVariants.{LongestBorder}
 use Rattle.merge_rule.specs.RuleState.{RuleState, no_state}
@@ -72,6 +74,11 @@ one_validation gap scale members o p text other v w =
     let same : v.marks ≡ w.marks = one_marks (uses_of members) (length members) gap v.marks w.marks v.marked w.marked in
     let listing : List Mark → List ℕ = λ marks. lines_text scale (member_lists (marked_uses (uses_of members) marks) members) in
     (v.counted ∙ ap (λ (marks : List Mark). marking (length marks)) same ∙ sym w.counted, v.lines ∙ ap listing same ∙ sym w.lines)
+
+one_mapping : (gap : ℕ) (scale : Option ℕ) (members : List (List (List (List Coord)))) (o p : Outcome) (text other : List ℕ) → AllInRange members → IsMapping gap scale members o text → IsMapping gap scale members p other → (o ≡ p) × (text ≡ other)
+one_mapping gap scale members o p text other in_range v w =
+    let same = one_map members in_range gap v.marked w.marked v.features w.features v.is_map w.is_map in
+    (v.counted ∙ ap marking same.0 ∙ sym w.counted, v.written ∙ same.1 scale ∙ sym w.written)
 
 one_node : (scale : Option ℕ) (members : List (List (List (List Coord)))) (o p : Outcome) (text other : List ℕ) → AllInRange members → IsNoding scale members o text → IsNoding scale members p other → (o ≡ p) × (text ≡ other)
 one_node scale members o p text other in_range v w =
@@ -240,6 +247,9 @@ one_made : (operation : Task) (s : State) (inputs : List (List ℕ)) (o p : Outc
 one_made (Validate gap scale from to) s inputs o p text other =
     of_inputs s from scale inputs (λ r. IsValidation gap scale r.members o text) (λ r. IsValidation gap scale r.members p other) (IsOne (Validate gap scale from to) s o p text other)
     (λ input r holds in_range reads v w. (let one = one_validation gap scale r.members o p text other v w in (one.0, λ determined. one.1)))
+one_made (MapFaults gap scale from to) s inputs o p text other =
+    of_inputs s from scale inputs (λ r. IsMapping gap scale r.members o text) (λ r. IsMapping gap scale r.members p other) (IsOne (MapFaults gap scale from to) s o p text other)
+    (λ input r holds in_range reads v w. (let one = one_mapping gap scale r.members o p text other in_range v w in (one.0, λ determined. one.1)))
 one_made (Clean rule gap too scale from to) s inputs o p text other =
     of_inputs s from scale inputs (λ r. IsCleaning rule gap too scale to r o text) (λ r. IsCleaning rule gap too scale to r p other) (IsOne (Clean rule gap too scale from to) s o p text other)
     (λ input r holds in_range reads v w. (let one = one_cleaning rule gap too scale to r o p text other in_range v w in (one.0, λ determined. one.1 (exact_as s scale from to input r holds reads determined))))

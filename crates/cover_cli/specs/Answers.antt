@@ -9,7 +9,7 @@ use Rattle.cover_cli.specs.declared.outcome.Outcome.TheVariants.{Done, Marked, U
 use Rattle.cover_cli.specs.Input.{HoldsTooMuch, AreInputs}
 use Rattle.cover_cli.specs.Made.{Makes, Refuses}
 use Rattle.cover_cli.specs.Task.{Task}
-use Rattle.cover_words.specs.Words.{Validate, Clean, Simplify, Sample, inputs_of, output_of, scale_of}
+use Rattle.cover_words.specs.Words.{Validate, MapFaults, Clean, Simplify, Sample, inputs_of, output_of, scale_of}
 use Rattle.feature_files.specs.Form.{HasNoFloat}
 use Rattle.file_form.specs.Name.{is_json}
 use Rattle.feature_files.specs.Reading.{IsRead}
@@ -18,6 +18,7 @@ use Rattle.geo_json.specs.Reading.{Reading}
 -- whether the operation looks for segments at fault
 abbrev pub is_validate : Task → Bool
 is_validate (Validate gap scale from to) = true
+is_validate (MapFaults gap scale from to) = true
 is_validate _ = false
 
 -- whether the operation makes a coverage of its own
@@ -133,7 +134,7 @@ pub record IsAnswer (operation : Task) (old new : State) (answer : Outcome) : Ty
   pub usage : answer ≢ Usage
   -- a success: the whole text is in the output, and nothing else could be
   pub written : IsTrue old.tells_files → IsTrue (is_success answer) → HoldsText operation old new answer
-  -- marked segments are answered by validate alone, and where there are some
+  -- marked segments are answered by validate and by the map of faults alone, and where there are some
   pub marked : IsTrue (is_marked answer) → IsTrue (is_validate operation)
   pub some : answer ≢ Marked 0
   -- of the successes sample answers its counts, and every other operation none

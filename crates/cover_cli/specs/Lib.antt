@@ -4,6 +4,7 @@ pub mod Closing
 pub mod Input
 pub mod Text
 pub mod Validate
+pub mod Mapping
 pub mod Task
 pub mod Clean
 pub mod Invalid

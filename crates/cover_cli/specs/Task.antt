@@ -1,7 +1,7 @@
 -- What an operation has to do: the operation with its rule, as that came.
 use Rattle.std.specs.Prelude.{List, get_or}
 use Rattle.merge_rule.specs.RuleState.{RuleState, no_state}
-use Rattle.cover_words.specs.Words.{OperationBy, Operation, Validate, Clean, Simplify, Union, Node, Regions, Locate, Sample, Overlay}
+use Rattle.cover_words.specs.Words.{OperationBy, Operation, Validate, MapFaults, Clean, Simplify, Union, Node, Regions, Locate, Sample, Overlay}
 use Rattle.cover_words.specs.declared.rule_choice.RuleChoice.{RuleChoice}
 use Rattle.cover_words.specs.declared.rule_choice.RuleChoice.TheVariants.{Own, Handed}
 use Rattle.cover_words.specs.declared.rule_name.RuleName.{RuleName}
@@ -23,6 +23,7 @@ told_rule rules (Handed place) = HandedIn (get_or rules place no_state)
 -- the operation with its rule, where the handed-in rules have these numbers
 abbrev pub task_of : List RuleState → Operation → Task
 task_of rules (Validate gap scale from to) = Validate gap scale from to
+task_of rules (MapFaults gap scale from to) = MapFaults gap scale from to
 task_of rules (Clean rule gap too scale from to) = Clean (told_rule rules rule) gap too scale from to
 task_of rules (Simplify tolerance inner scale from to) = Simplify tolerance inner scale from to
 task_of rules (Union scale from to) = Union scale from to

@@ -4,7 +4,7 @@ ghost use Rattle.cover_cli.specs.Answers.{IsAnswer};
 ghost use Rattle.cover_cli.specs.Handed.{used_by, used_place, AreRulesLeft};
 ghost use Rattle.cover_cli.specs.Task.{task_of};
 ghost use Rattle.cover_words.specs.Named.{named, IsNamed};
-ghost use Rattle.cover_words.specs.Words.{IsWithinLimit, operation_of};
+ghost use Rattle.cover_words.specs.Words.{IsWithinLimit, mapping_of, operation_of};
 
 use crate::input::read_inputs;
 use crate::making::make;
@@ -14,7 +14,9 @@ use crate::report::Report;
 use cov_io::Files;
 use cov_rules::{Hired, NamedRule};
 use cov_types::NoMemory;
-use cover_words::{Operation, RuleChoice, operation_named};
+use cover_words::{
+    Operation, RuleChoice, mapping_named, operation_named, validation_words,
+};
 use merge_rule::MergeRule;
 use std::alloc::Global;
 
@@ -151,4 +153,29 @@ pub fn cover<F: Files>(alloc: Global, words: &[String], files: &mut F) -> Outcom
 {
     let report = cover_with(alloc, words, files, Vec::new(alloc));
     report.outcome
+}
+
+/// Does all that the program `cover_faults` does. `words` are the words after the program's name: those of `cover validate` without the
+/// first. The output is the map of the faults, as GeoJSON whatever its name; the input is read, and refused, as by `cover validate`.
+///
+/// What is said of contents holds over a files object that tells them. Memory may run out as in [`cover`].
+///
+/// Takes the time and memory of `fault_map::fault_map`, and time and memory in proportion to the input and the output.
+pub fn map_faults<F: Files>(alloc: Global, words: &[String], files: &mut F) -> Outcome
+    ensures usage { result ≡ Outcome.Usage → mapping_of (map string_bytes words.now) ≡ None }
+    ensures unaccepted { mapping_of (map string_bytes words.now) ≡ None
+        → ((result ≡ Outcome.Usage) ⊎ (result ≡ Outcome.NoMemory)) × (F.state files.new ≡ F.state files.old) }
+    // Each other answer comes for its cause; `IsAnswer` says it answer by answer.
+    ensures answered { IfSome (mapping_of (map string_bytes words.now)) (λ operation.
+        IsAnswer (task_of [] operation) (F.state files.old) (F.state files.new) result) }
+{
+    let words = match validation_words(alloc, words) {
+        Ok(words) => words,
+        Err(NoMemory) => return Outcome::NoMemory,
+    };
+    match mapping_named(alloc, &words) {
+        Ok(Some(operation)) => run(alloc, &operation, files, &mut []),
+        Ok(None) => Outcome::Usage,
+        Err(NoMemory) => Outcome::NoMemory,
+    }
 }

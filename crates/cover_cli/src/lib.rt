@@ -1,4 +1,4 @@
-//! The program `cover` as one call: words and files in, an outcome out.
+//! The programs `cover` and `cover_faults`, each as one call: words and files in, an outcome out.
 //!
 //! Its promise: every answer of `cover` comes only for its cause. Over a files object that tells its contents, a
 //! success means that the output holds what the definitions say of the inputs. By `written_law` that is one text, unless clean
@@ -18,6 +18,7 @@ mod laws;
 mod lines;
 mod locate;
 mod making;
+mod mapping;
 mod node;
 mod outcome;
 mod output;
@@ -34,7 +35,7 @@ mod valid;
 mod valid_features;
 mod validate;
 
-pub use command::{cover, cover_with};
+pub use command::{cover, cover_with, map_faults};
 pub use laws::{
     answer_law, caller_rules_law, headline_law, locate_law, overlay_law, sample_law, written_law,
 };

@@ -10,7 +10,7 @@ ghost use Rattle.cover_words.specs.Words.{IsWithinLimit, inputs_of};
 
 use crate::clean::CleanWay;
 use crate::outcome::Outcome;
-use crate::{clean, locate, node, overlay, regions, sample, simplify, union, validate};
+use crate::{clean, locate, mapping, node, overlay, regions, sample, simplify, union, validate};
 use cov_rules::{Hired, NamedRule};
 use cover_words::Operation;
 use merge_rule::MergeRule;
@@ -51,6 +51,12 @@ pub fn make(
             from,
             ..
         } => validate::make(alloc, *gap, *scale, from, inputs.remove(0)),
+        Operation::MapFaults {
+            gap,
+            scale,
+            from,
+            ..
+        } => mapping::make(alloc, *gap, *scale, from, inputs.remove(0)),
         Operation::Clean {
             rule,
             gap,

@@ -15,8 +15,8 @@ use cov_types::{Coverage, NoMemory, uses};
 use cov_write::lines_of;
 use std::alloc::Global;
 
-// The outcome where so many segments are marked.
-fn outcome_of(edges: u64) -> Outcome
+/// The outcome where so many segments are marked.
+pub(crate) fn outcome_of(edges: u64) -> Outcome
     ensures { result ≡ marking edges }
 {
     if edges == 0 {

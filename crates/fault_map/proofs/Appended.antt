@@ -1,7 +1,6 @@
 -- Features at the end of others, one more at a time.
 use mathlib.Core.List.{[], ◌∷◌}
-use Rattle.std.proofs.Common.{◌≡◌, refl, sym, ◌∙◌, ap, subst, ℕ, ◌+◌, ◌<◌, ◌≤◌, List, ◌++◌, get_or, length, take, append-nil, append_assoc, arith}
-use Rattle.std.specs.List.{AllZip}
+use Rattle.std.proofs.Common.{◌≡◌, sym, ◌∙◌, ap, subst, ℕ, ◌+◌, ◌<◌, ◌≤◌, List, ◌++◌, get_or, length, take, append-nil, append_assoc}
 use Rattle.std.proofs.lemmas.List.{take_all, get_or_default}
 use Rattle.snap_noder.proofs.Zip.{zip_more}
 use Rattle.fault_text.specs.declared.feature.MapFeature.{MapFeature}

@@ -1,10 +1,10 @@
 -- The members beyond the sides of a region are those that border on it.
 use mathlib.Core.List.{[], ◌∷◌}
-use Rattle.std.proofs.Common.{◌≡◌, ◌⊎◌, refl, sym, ◌∙◌, ap, subst, ℕ, ◌+◌, ◌-◌, ◌*◌, ◌/◌, ◌%◌, ◌<◌, ◌==◌, ◌↔◌, Bool, true, false, cond, nat_eq, nat_lt, List, ◌++◌, length, get_or, inl, inr, Less, Equal, Greater, is_lt, IsPermutation, IsSorted, arith}
-use Rattle.std.specs.Prelude.{AllPairs, Contains, IsTrue}
+use Rattle.std.proofs.Common.{◌≡◌, ◌⊎◌, refl, sym, ◌∙◌, ap, subst, ℕ, ◌+◌, ◌-◌, ◌*◌, ◌/◌, ◌%◌, ◌<◌, ◌==◌, ◌↔◌, Bool, true, false, cond, nat_eq, nat_lt, List, ◌++◌, length, inl, inr, Less, Equal, Greater, is_lt, IsPermutation, IsSorted, arith}
+use Rattle.std.specs.Prelude.{AllPairs, Contains}
 use Rattle.std.specs.List.{dedup}
 use Rattle.std.specs.Ordering.{nat_cmp}
-use Rattle.std.proofs.lemmas.Bool.{eqb-true, eq-eqb, ne_eqb, ltb-true, ltb-false, cases_eq}
+use Rattle.std.proofs.lemmas.Bool.{eq-eqb, ne_eqb, ltb-true, ltb-false, cases_eq}
 use Rattle.std.proofs.lemmas.Bool.Decides.{Decides-eqb}
 use Rattle.std.proofs.lemmas.Cmp.{nat_cmp_total}
 use Rattle.std.proofs.lemmas.List.Elements.{Contains-append_cases, Contains-append_left, Contains-append_right, Contains-push, Contains-push_cases}
@@ -72,9 +72,9 @@ module _ (o : Overlay) where
   pub beyond_borders : (r : ℕ) (sides : List ℕ) → AreSidesOf o r sides → (member : ℕ) → IsHeldBeyond o sides member ↔ IsBordering o r member
   beyond_borders r sides are member = (
     (λ h. (let its = (are h.side).0 h.listed in
-    record { region = region_at o (across h.side); beside = subst (λ s. AreBeside o s (region_at o (across h.side))) its.1 (beside_side h.side its.0); holds = h.holds })),
+        record { region = region_at o (across h.side); beside = subst (λ s. AreBeside o s (region_at o (across h.side))) its.1 (beside_side h.side its.0); holds = h.holds })),
     (λ h. (let found = side_beside r h.region h.beside in
-    record { side = found.0; listed = (are found.0).1 (found.1.0, found.1.1.0); holds = subst (λ s. Contains (label_of o s) member) (sym found.1.1.1) h.holds })),
+        record { side = found.0; listed = (are found.0).1 (found.1.0, found.1.1.0); holds = subst (λ s. Contains (label_of o s) member) (sym found.1.1.1) h.holds })),
   )
 
   -- so they are those that border on it, each once and ascending

@@ -1,6 +1,6 @@
 -- The owners of regions by their places, one region more at a time.
 use mathlib.Core.List.{[], ◌∷◌}
-use Rattle.std.proofs.Common.{◌≡◌, ◌⊎◌, refl, sym, ◌∙◌, ap, subst, ℕ, zero, suc, ◌+◌, ◌<◌, List, ◌++◌, get_or, set, take, length, replicate, Option, Some, None, inl, inr, All, arith}
+use Rattle.std.proofs.Common.{◌≡◌, ◌⊎◌, refl, sym, ◌∙◌, ap, subst, ℕ, zero, suc, ◌<◌, List, ◌++◌, get_or, set, take, length, replicate, Option, Some, None, inl, inr, All, arith}
 use Rattle.std.specs.Prelude.{AllPairs, IfSome, slice_get}
 use Rattle.std.proofs.lemmas.Bool.{cases_eq}
 use Rattle.std.proofs.lemmas.List.{get_or-set_same, get_or-set_other, get_or-take, length-set, length-take-le}

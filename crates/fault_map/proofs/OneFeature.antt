@@ -1,11 +1,10 @@
 -- Two features that show one mark, or one region, have one text.
-use Rattle.std.proofs.Common.{◌≡◌, refl, sym, ◌∙◌, ap, subst, ℕ, ℤ, List, [], ◌∷◌, ◌++◌, map, Option, Some}
-use Rattle.std.specs.Prelude.{codes, slice_get}
+use Rattle.std.proofs.Common.{◌≡◌, refl, sym, ◌∙◌, ap, subst, ℕ, ℤ, List, [], ◌∷◌, ◌++◌, map, Option}
+use Rattle.std.specs.Prelude.{codes}
 use Rattle.std.specs.List.{AllZip}
 use Rattle.std.proofs.lemmas.Option.{same_Some}
 use Rattle.cov_types.specs.declared.coord.Coord.{Coord}
 use Rattle.cov_types.specs.declared.edge_use.EdgeUse.{EdgeUse}
-use Rattle.cov_types.specs.declared.seg.Seg.{Seg}
 use Rattle.sector_laws.specs.Sector.{IsPlanar}
 use Rattle.arrangement.specs.Overlay.{Overlay}
 use Rattle.region_owners.proofs.Clearances.{clearance_unique}

@@ -1,5 +1,5 @@
 -- The polygons of owners of one region each, one after the other, and the regions piece by piece.
-use Rattle.std.proofs.Common.{◌≡◌, refl, sym, ◌∙◌, ap, subst, ℕ, zero, suc, ◌+◌, ◌<◌, ◌≤◌, List, [], ◌∷◌, ◌++◌, length, length-append, take, drop, get_or, Option, Some, All, arith}
+use Rattle.std.proofs.Common.{◌≡◌, refl, sym, ◌∙◌, ap, subst, ℕ, suc, ◌+◌, ◌<◌, ◌≤◌, List, [], ◌∷◌, ◌++◌, length, length-append, take, drop, get_or, Option, Some, All, arith}
 use Rattle.std.specs.Prelude.{AllPairs, slice_get, flat_map}
 use Rattle.std.specs.List.{AllZip}
 use Rattle.std.proofs.lemmas.List.{take-take, take_all, take-append-drop, drop-take, get_or-take, get_or-drop, length-take-le}
@@ -103,6 +103,6 @@ module _ (regions piece : List ℕ) (from : ℕ) (within : from + length piece �
         done = record {
           count = long ∙ sym (ap length (sym joined) ∙ length-append (take (length found) regions) piece ∙ (λ i. length-take-le (length found) regions are.few i + length piece) ∙ (λ i. start i + length piece));
           each = λ o same numbered. subst (λ rs. AllZip (IsRegionPolygon o) rs after) joined
-          (subst (λ ps. AllZip (IsRegionPolygon o) (take (length found) regions ++ piece) ps) (sym appended) (zip_join (IsRegionPolygon o) (take (length found) regions) piece found more (are.done.each o same numbered) (its.each o same numbered)));
+              (subst (λ ps. AllZip (IsRegionPolygon o) (take (length found) regions ++ piece) ps) (sym appended) (zip_join (IsRegionPolygon o) (take (length found) regions) piece found more (are.done.each o same numbered) (its.each o same numbered)));
         };
       }

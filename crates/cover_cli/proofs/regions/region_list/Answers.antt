@@ -10,7 +10,7 @@ use Rattle.arrangement.specs.Noding.{IsNoded}
 use Rattle.arrangement.specs.declared.odd_use.OddUse.{OddUse}
 use Rattle.cov_clean.specs.SnappedEdges.{overlay_of}
 use Rattle.cov_clean.proofs.Overlays.{odd_members, snapped_overlay}
-use Rattle.cover_cli.proofs.Overlays.{is_overlay_of}
+use Rattle.fault_map.proofs.Overlays.{is_overlay_of}
 use Rattle.cover_cli.proofs.regions.region_list.Goals as goal
 
 pub returns : goal.returns

@@ -24,9 +24,9 @@ returns-clause-inner c = λ _.
     record {
       region = own;
       not_outer = λ outer. (
-        let same = outer_is c.args.r.now c.outer.result c.args.side c.outer.ensures.region c.outer.ensures.none.0 own outer in
-        let eq = rw same at c.eq.ensures in
-        true≢false (sym (eq-eqb c.args.side c.args.side refl) ∙ sym eq ∙ c.if-eq.false));
+          let same = outer_is c.args.r.now c.outer.result c.args.side c.outer.ensures.region c.outer.ensures.none.0 own outer in
+          let eq = rw same at c.eq.ensures in
+          true≢false (sym (eq-eqb c.args.side c.args.side refl) ∙ sym eq ∙ c.if-eq.false));
     })
 
 pub returns-clause-exact : goal.returns-clause-exact

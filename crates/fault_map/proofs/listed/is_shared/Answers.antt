@@ -8,9 +8,10 @@ use Rattle.narrow_gaps.proofs.Gaps.{own_region}
 use Rattle.fault_map.proofs.listed.is_shared.Goals as goal
 
 pub returns-then-region_of-side-clause-exact : goal.returns-then-region_of-side-clause-exact
-returns-then-region_of-side-clause-exact c = λ o is.
-    ((λ t. absurd (false≢true t)),
-    (λ shared. absurd (c.if-region_of-side.true (own_region c.args.r.now c.region_of.result c.args.side c.region_of.ensures.region (subst (λ (es : List Seg). IsRegion es c.args.side) (is.edges ∙ c.requires.labels) shared.region)))))
+returns-then-region_of-side-clause-exact c = λ o is. (
+  (λ t. absurd (false≢true t)),
+  (λ shared. absurd (c.if-region_of-side.true (own_region c.args.r.now c.region_of.result c.args.side c.region_of.ensures.region (subst (λ (es : List Seg). IsRegion es c.args.side) (is.edges ∙ c.requires.labels) shared.region)))),
+)
 
 pub label-requires : goal.label-requires
 label-requires c =
@@ -24,9 +25,9 @@ pub returns-clause-inner : goal.returns-clause-inner
 returns-clause-inner c = λ several. record {
   region = own c;
   not_outer = λ outer.
-    (let none = ap length (c.label.ensures.outer (subst (λ (es : List Seg). IsOuterRegion es c.args.side) (sym c.requires.labels) outer)) in
-    let two = leb-true 2 (length c.label.result.now) several in
-    omega (arith, none, two));
+      (let none = ap length (c.label.ensures.outer (subst (λ (es : List Seg). IsOuterRegion es c.args.side) (sym c.requires.labels) outer)) in
+      let two = leb-true 2 (length c.label.result.now) several in
+      omega (arith, none, two));
 }
 
 pub returns-clause-exact : goal.returns-clause-exact

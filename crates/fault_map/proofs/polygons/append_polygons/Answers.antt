@@ -39,9 +39,11 @@ pub returns : goal.returns
 returns c =
     let its = c.loop-member in
     let built = c.in_ok-built.built in
-    let all = all_yielded its.yielded its.member-iterator.rest.items c.into_iter-member-iterator.result.rest.items its.invariant.left (omega (arith, c.in-None.ensures.steps.0, its.member-iterator.rest.ok.0)) ∙ c.into_iter-member-iterator.ensures.into_iter_gives.0 ∙ c.built.view_is in
-    (flat_map (λ polys. polys) built, (
-      each_built c.args.a.now c.args.piece.now (owner_in c.in_ok-owners.owners.items) built c.len.ensures.planar c.len.ensures.distinct c.requires.inner c.in_ok-owners.ensures.owners
-          (λ o same numbered. subst (λ (os : List (Option ℕ)). IsBuilt o (owner_in os) (length c.args.piece.now) built) c.deref.ensures.value (c.in_ok-built.ensures.polygons o same numbered)),
-      its.invariant.all ∙ ap (λ (ms : List (List (List (List Coord)))). c.args.found.now.items ++ flat_map (λ polys. polys) ms) all,
-    ))
+    let all = all_yielded its.yielded its.member-iterator.rest.items c.into_iter-member-iterator.result.rest.items its.invariant.left (omega (arith, c.in-None.ensures.steps.0, its.member-iterator.rest.ok.0)) ∙ c.into_iter-member-iterator.ensures.into_iter_gives.0 ∙ c.built.view_is in (
+      flat_map (λ polys. polys) built,
+      (
+        each_built c.args.a.now c.args.piece.now (owner_in c.in_ok-owners.owners.items) built c.len.ensures.planar c.len.ensures.distinct c.requires.inner c.in_ok-owners.ensures.owners
+            (λ o same numbered. subst (λ (os : List (Option ℕ)). IsBuilt o (owner_in os) (length c.args.piece.now) built) c.deref.ensures.value (c.in_ok-built.ensures.polygons o same numbered)),
+        its.invariant.all ∙ ap (λ (ms : List (List (List (List Coord)))). c.args.found.now.items ++ flat_map (λ polys. polys) ms) all,
+      ),
+    )

@@ -1,6 +1,6 @@
 -- What a run answers and how it leaves the handed-in rules, from how its inputs were read, what it made of them and how that was written.
-use Rattle.std.proofs.Common.{◌≡◌, ◌≢◌, ◌∙◌, ◌⊎◌, ℕ, List, IsTrue, sym, subst, inl, inr}
-use Rattle.std.specs.Prelude.{All}
+use Rattle.std.proofs.Common.{◌≡◌, ◌≢◌, ◌∙◌, ◌⊎◌, ℕ, List, Option, Some, None, IsTrue, refl, sym, subst, inl, inr}
+use Rattle.std.specs.Prelude.{All, IfSome}
 use Rattle.cov_io.specs.Calls.{IsPromised}
 use Rattle.cov_io.specs.Frame.{KeepsOutput}
 use Rattle.cov_io.specs.State.{State, IsTelling}
@@ -16,8 +16,19 @@ use Rattle.cover_cli.specs.Task.{task_of}
 use Rattle.cover_cli.specs.Written.{IsTextWritten, IsWrittenWhole, IsWrittenInPart}
 use Rattle.cover_cli.specs.declared.making.Made.{Made}
 use Rattle.cover_cli.specs.declared.outcome.Outcome.{Outcome}
-use Rattle.cover_cli.specs.declared.outcome.Outcome.TheVariants.{ReadFault, WriteFault}
+use Rattle.cover_cli.specs.declared.outcome.Outcome.TheVariants.{ReadFault, WriteFault, NoMemory}
 use Rattle.cover_words.specs.Words.{Operation, inputs_of, output_of}
+
+-- where memory runs out before the words name an operation, nothing changes, and that is an answer of the one that they name
+pub unnamed : (named : Option Operation) (rules : List RuleState) (s : State) → IfSome named (λ operation. IsAnswer (task_of rules operation) s s NoMemory)
+unnamed None rules s = tt
+unnamed (Some operation) rules s = unread (task_of rules operation) s s NoMemory refl (record {
+  tells = record { output = refl; left = refl; files = refl; room = refl; bytes = λ told. refl };
+  faults = refl;
+  present = refl;
+  output = λ told. refl;
+  files = λ told name. refl;
+}) (λ all h. cc)
 
 module _ (rules : List RuleState) (operation : Operation) (old : State) (names : List (List ℕ)) (are : names ≡ inputs_of operation) where
   -- the names are those of the task too

@@ -14,9 +14,7 @@ use crate::report::Report;
 use cov_io::Files;
 use cov_rules::{Hired, NamedRule};
 use cov_types::NoMemory;
-use cover_words::{
-    Operation, RuleChoice, mapping_named, operation_named, validation_words,
-};
+use cover_words::{Operation, RuleChoice, mapping_named, operation_named, validation_words};
 use merge_rule::MergeRule;
 use std::alloc::Global;
 

@@ -21,6 +21,8 @@ mod hostile;
 #[cfg(test)]
 mod locating;
 #[cfg(test)]
+mod mapping;
+#[cfg(test)]
 mod overlaying;
 #[cfg(test)]
 mod rows;

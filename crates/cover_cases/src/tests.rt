@@ -8,7 +8,7 @@ use std::process::Abort;
 use std::test;
 
 // The room of a file, and the most bytes that one call reads or writes.
-const ROOM: usize = LONGEST_INPUT;
+pub(crate) const ROOM: usize = LONGEST_INPUT;
 
 // A square, and a triangle whose tip touches the middle of the square's side.
 const TOUCH: &str =
@@ -21,14 +21,20 @@ const TOUCH_MARKS: &str =
 pub(crate) type Case<'a> = (&'a str, &'a str, Outcome, &'a str);
 
 // The bytes of the output before the program ran are no text of polygons.
-const NO_TEXT: Outcome = Outcome::BadText(TextFault::Syntax { at: 0 });
+pub(crate) const NO_TEXT: Outcome = Outcome::BadText(TextFault::Syntax { at: 0 });
 
-// Runs the program on the words of a line.
-pub(crate) fn answer(alloc: Global, line: &str, files: &mut Shelf) -> Result<Outcome, AllocError> {
+// The words of a line.
+pub(crate) fn words_of(alloc: Global, line: &str) -> Result<Vec<String>, AllocError> {
     let mut words = Vec::new(alloc);
     for word in line.split_whitespace() {
         words.push(String::from_str(alloc, word)?)?;
     }
+    Ok(words)
+}
+
+// Runs the program on the words of a line.
+pub(crate) fn answer(alloc: Global, line: &str, files: &mut Shelf) -> Result<Outcome, AllocError> {
+    let words = words_of(alloc, line)?;
     Ok(cover(alloc, &words, files))
 }
 
@@ -40,7 +46,7 @@ pub(crate) fn holds(files: &Shelf, name: &str, text: &str) -> bool {
 }
 
 // The two files hold these texts.
-fn expect_files(rt: &impl Abort, files: &Shelf, input: &str, output: &str, case: &str) {
+pub(crate) fn expect_files(rt: &impl Abort, files: &Shelf, input: &str, output: &str, case: &str) {
     assert!(rt; holds(files, "in", input), "in: {case}");
     assert!(rt; holds(files, "out", output), "out: {case}");
 }
